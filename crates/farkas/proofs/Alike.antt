@@ -1,0 +1,105 @@
+-- Rows that differ only in zeros at the end are alike: each coefficient and the bound are the same.
+-- The sums, the test and the truth of a row ask for coefficients one by one, so alike rows can take each other's place. The code
+-- holds every row with 17 coefficients, the definitions with as many as the sheet gives. Assumes nothing.
+use mathlib.Core.Path.{_≡_, refl, sym, ap, ap₂, _∙_}
+use mathlib.Core.Bool.{Bool, true, false, cond}
+use mathlib.Core.List.{List, [], _∷_, _++_}
+use Prim.Native.Nat.{ℕ, zero, suc}
+use lib.Dec.{T}
+use lib.IntN.{ℤ, pos, _+ℤ_, _*ℤ_}
+use lib.ListN.{getD, replicate}
+use lib.Signed.{leZ}
+use Rattle.farkas.specs.declared.Row.{Row}
+use Rattle.farkas.specs.Rows.{item, dot, rowHolds, zeroRow, noSums}
+use Rattle.farkas.specs.Farkas.{Entry, plus, addRow, addEntry, addEntries, coefficientsAgree, boundPasses, sumsTest}
+use Rattle.farkas.proofs.Order.{zero-plus-nothing}
+use Rattle.farkas.proofs.Test.{item-plus, agree-means}
+
+pub record Alike (r s : Row) : Type 0 where
+  pub coefficient : (i : ℕ) → item (r .coefficients) i ≡ item (s .coefficients) i
+  pub bound : r .bound ≡ s .bound
+
+pub alike-refl : (r : Row) → Alike r r
+alike-refl r = record { coefficient = λ i. refl; bound = refl }
+
+pub alike-sym : {r s : Row} → Alike r s → Alike s r
+alike-sym h = record { coefficient = λ i. sym (h .coefficient i); bound = sym (h .bound) }
+
+pub alike-trans : {r s t : Row} → Alike r s → Alike s t → Alike r t
+alike-trans h k = record { coefficient = λ i. h .coefficient i ∙ k .coefficient i; bound = h .bound ∙ k .bound }
+
+-- zeros at the end
+pub item-padded : (n : ℕ) (xs : List ℤ) (i : ℕ) → item (xs ++ replicate n (pos 0)) i ≡ item xs i
+unfolding item
+item-padded zero [] i = refl
+item-padded (suc n) [] zero = refl
+item-padded (suc n) [] (suc i) = item-padded n [] i
+item-padded n (a ∷ xs) zero = refl
+item-padded n (a ∷ xs) (suc i) = item-padded n xs i
+
+pub alike-padded :
+    (n : ℕ) (xs : List ℤ) (b : ℤ)
+    → Alike (record { coefficients = xs ++ replicate n (pos 0); bound = b }) (record { coefficients = xs; bound = b })
+alike-padded n xs b = record { coefficient = item-padded n xs; bound = refl }
+
+pub alike-no-sums : Alike noSums zeroRow
+unfolding noSums zeroRow
+alike-no-sums = alike-padded 17 [] (pos 0)
+
+-- the sums
+pub alike-add : {r s : Row} (m : ℕ) {x y : Row} → Alike r s → Alike x y → Alike (addRow r m x) (addRow s m y)
+unfolding addRow
+alike-add {r} {s} m {x} {y} h k = record { coefficient = coefficient; bound = ap₂ (λ a b. a +ℤ pos m *ℤ b) (h .bound) (k .bound) }
+  where
+    coefficient : (i : ℕ) → item (plus m (r .coefficients) (x .coefficients)) i ≡ item (plus m (s .coefficients) (y .coefficients)) i
+    coefficient i =
+        item-plus m (r .coefficients) (x .coefficients) i
+        ∙ ap₂ (λ a b. a +ℤ pos m *ℤ b) (h .coefficient i) (k .coefficient i)
+        ∙ sym (item-plus m (s .coefficients) (y .coefficients) i)
+
+module _ (hs ks : List Row) (alike : (i : ℕ) → Alike (getD hs i zeroRow) (getD ks i zeroRow)) where
+  pub alike-entries : (es : List Entry) {r s : Row} → Alike r s → Alike (addEntries hs r es) (addEntries ks s es)
+  unfolding addEntries addEntry
+  alike-entries [] h = h
+  alike-entries (e ∷ es) h = alike-entries es (alike-add (e .multiplier) h (alike (e .hypothesis)))
+
+-- the test
+carry-agree :
+    (k : ℕ) {r s x y : Row} → Alike r s → Alike x y
+    → T (coefficientsAgree k (r .coefficients) (x .coefficients)) → T (coefficientsAgree k (s .coefficients) (y .coefficients))
+carry-agree k {r} {s} {x} {y} h g t =
+    agree-means k (s .coefficients) (y .coefficients) .1
+    (λ i. sym (h .coefficient i) ∙ agree-means k (r .coefficients) (x .coefficients) .0 t i ∙ ap (λ a. pos k *ℤ a) (g .coefficient i))
+
+same-tests : (a b : Bool) → (T a → T b) → (T b → T a) → a ≡ b
+same-tests true true f g = refl
+same-tests true false f g = absurd (f tt)
+same-tests false true f g = absurd (g tt)
+same-tests false false f g = refl
+
+pub alike-test : (k : ℕ) {r s x y : Row} → Alike r s → Alike x y → sumsTest k r x ≡ sumsTest k s y
+unfolding sumsTest
+alike-test k {r} {s} {x} {y} h g =
+    ap₂ (λ a b. cond a (cond b 0 11) 10)
+    (same-tests (coefficientsAgree k (r .coefficients) (x .coefficients)) (coefficientsAgree k (s .coefficients) (y .coefficients))
+    (carry-agree k h g)
+    (carry-agree k (alike-sym h) (alike-sym g)))
+    (ap₂ (boundPasses k) (h .bound) (g .bound))
+
+-- the truth of a row
+pub dot-items : (xs ys ps : List ℤ) → ((i : ℕ) → item xs i ≡ item ys i) → dot xs ps ≡ dot ys ps
+unfolding dot item
+dot-items [] [] ps h = refl
+dot-items [] (b ∷ ys) [] h = refl
+dot-items [] (b ∷ ys) (p ∷ ps) h =
+    zero-plus-nothing p ∙ ap₂ (λ c d. c *ℤ p +ℤ d) (h zero) (dot-items [] ys ps (λ i. h (suc i)))
+dot-items (a ∷ xs) [] [] h = refl
+dot-items (a ∷ xs) [] (p ∷ ps) h =
+    ap₂ (λ c d. c *ℤ p +ℤ d) (h zero) (dot-items xs [] ps (λ i. h (suc i))) ∙ sym (zero-plus-nothing p)
+dot-items (a ∷ xs) (b ∷ ys) [] h = refl
+dot-items (a ∷ xs) (b ∷ ys) (p ∷ ps) h = ap₂ (λ c d. c *ℤ p +ℤ d) (h zero) (dot-items xs ys ps (λ i. h (suc i)))
+
+pub alike-holds : (q : ℕ) (ps : List ℤ) {r s : Row} → Alike r s → rowHolds q ps r ≡ rowHolds q ps s
+unfolding rowHolds
+alike-holds q ps {r} {s} h =
+    ap₂ (λ a b. leZ a (b *ℤ pos q)) (dot-items (r .coefficients) (s .coefficients) ps (h .coefficient)) (h .bound)

@@ -1,0 +1,10 @@
+pub mod Integers
+pub mod Bits
+pub mod Fill
+pub mod Items
+pub mod Sizes
+pub mod Order
+pub mod All
+pub mod Test
+pub mod Alike
+pub mod Soundness

@@ -1,0 +1,34 @@
+-- More laws on the whole numbers: order and equality, what a factor of at least 1 does, and sums with nothing added.
+-- Each is a fact on naturals once the unknowns are split (Integers.antt). Assumes nothing.
+use mathlib.Core.Path.{_≡_}
+use Prim.Native.Nat.{ℕ, _≤_}
+use native.Mathlib.Nat.{le-of-mul-le-mul-left, mul-lt-mul-of-pos-left}
+use native.Mathlib.Omega.{arith}
+use lib.IntN.{ℤ, pos, _+ℤ_, _*ℤ_, *ℤ-comm}
+use lib.Signed.{_≤ℤ_, _<ℤ_}
+use Rattle.farkas.proofs.Integers.{split, by-parts, ≤-*}
+
+pub ≤-antisym : (a b : ℤ) → a ≤ℤ b → b ≤ℤ a → a ≡ b
+≤-antisym a b = rw (split a, split b) (simp by-parts (omega arith))
+
+pub ≤-of-≡ : (a b : ℤ) → a ≡ b → a ≤ℤ b
+≤-of-≡ a b = rw (split a, split b) (simp by-parts (omega arith))
+
+-- the two sides of an order, q times
+pub ≤-times : (q : ℕ) (a b : ℤ) → a ≤ℤ b → (a *ℤ pos q) ≤ℤ (b *ℤ pos q)
+≤-times q a b h = rw (*ℤ-comm a (pos q), *ℤ-comm b (pos q)) (≤-* q a b h)
+
+-- a factor of at least 1 cancels
+pub ≤-cancel : (k : ℕ) (a b : ℤ) → 1 ≤ k → (pos k *ℤ a) ≤ℤ (pos k *ℤ b) → a ≤ℤ b
+≤-cancel k a b = rw (split a, split b) (simp by-parts (λ pk h. le-of-mul-le-mul-left {k = k} (omega arith) pk))
+
+-- a number below 0 stays below 0 at a factor of at least 1
+pub <-times : (q : ℕ) (a : ℤ) → 1 ≤ q → a <ℤ pos 0 → (a *ℤ pos q) <ℤ pos 0
+<-times q a = rw (split a) (simp by-parts (λ pq h. omega (arith, mul-lt-mul-of-pos-left {k = q} h pq)))
+
+-- a row of zeros adds nothing, however often
+pub plus-nothing : (s : ℤ) (m : ℕ) → s ≡ s +ℤ pos m *ℤ pos 0
+plus-nothing s m = rw (split s) (simp by-parts (omega arith))
+
+pub zero-plus-nothing : (p : ℤ) → pos 0 ≡ pos 0 *ℤ p +ℤ pos 0
+zero-plus-nothing p = rw (split p) (simp by-parts (omega arith))

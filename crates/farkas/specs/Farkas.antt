@@ -1,0 +1,86 @@
+-- Proofs by Farkas' lemma (01, Certificate): what a proof is, what it sums to, when it is good, and the test for that.
+-- Assumes nothing.
+use mathlib.Core.Path.{_≡_}
+use mathlib.Core.Bool.{Bool, true, false, cond, _&&_}
+use mathlib.Core.List.{List, [], _∷_}
+use Prim.Native.Nat.{ℕ, zero, suc, _≤_}
+use lib.IntN.{ℤ, pos, _+ℤ_, _*ℤ_}
+use lib.ListN.{getD}
+use lib.Signed.{leZ, ltZ, _≤ℤ_, _<ℤ_}
+use Rattle.farkas.specs.declared.Row.{Row}
+use Rattle.farkas.specs.declared.Verdict.{Verdict}
+use Rattle.farkas.specs.declared.Verdict.the-variants.{Holds, CoefficientsDiffer, BoundFails}
+use Rattle.farkas.specs.Lists.{every}
+use Rattle.farkas.specs.Rows.{item, zeroRow}
+
+-- "per entry a u8 hypothesis .. and a u32 multiplier": hypotheses are numbered from 0
+pub record Entry : Type 0 where
+  pub hypothesis : ℕ
+  pub multiplier : ℕ
+
+-- "A proof is u32 k .. ; u8 entries"
+pub record Proof : Type 0 where
+  pub k : ℕ
+  pub entries : List Entry
+
+-- a row's coefficients, m times, added to the sums at all unknowns
+unfoldable pub plus : ℕ → List ℤ → List ℤ → List ℤ
+plus m sums [] = sums
+plus m [] (a ∷ xs) = (pos m *ℤ a) ∷ plus m [] xs
+plus m (s ∷ sums) (a ∷ xs) = (s +ℤ pos m *ℤ a) ∷ plus m sums xs
+
+unfoldable pub addRow : Row → ℕ → Row → Row
+addRow sums m r = record { coefficients = plus m (sums .coefficients) (r .coefficients); bound = sums .bound +ℤ pos m *ℤ r .bound }
+
+-- "The multiplied hypotheses" summed, entry by entry, onto the sums so far
+unfoldable pub addEntry : List Row → Row → Entry → Row
+addEntry hypotheses sums e = addRow sums (e .multiplier) (getD hypotheses (e .hypothesis) zeroRow)
+
+unfoldable pub addEntries : List Row → Row → List Entry → Row
+addEntries hypotheses sums [] = sums
+addEntries hypotheses sums (e ∷ es) = addEntries hypotheses (addEntry hypotheses sums e) es
+
+unfoldable pub summed : List Row → List Entry → Row
+summed hypotheses es = addEntries hypotheses zeroRow es
+
+-- Farkas' condition on sums, as a proposition. "The multiplied hypotheses must sum to k times the goal's coefficients, at every
+-- unknown. The summed bound must be at most k times the goal's bound, or, at k = 0, below 0."
+pub record SumsMeet (k : ℕ) (sums goal : Row) : Type 0 where
+  pub coefficients : (i : ℕ) → item (sums .coefficients) i ≡ pos k *ℤ item (goal .coefficients) i
+  pub bound : 1 ≤ k → sums .bound ≤ℤ (pos k *ℤ goal .bound)
+  pub below : k ≡ 0 → sums .bound <ℤ pos 0
+
+-- the same of a proof from hypotheses
+unfoldable pub Meets : List Row → Row → Proof → Type 0
+Meets hypotheses goal p = SumsMeet (p .k) (summed hypotheses (p .entries)) goal
+
+-- The test. Two whole numbers are the same
+unfoldable pub sameZ : ℤ → ℤ → Bool
+sameZ a b = leZ a b && leZ b a
+
+-- "sum to k times the goal's coefficients, at every unknown"
+unfoldable pub coefficientsAgree : ℕ → List ℤ → List ℤ → Bool
+coefficientsAgree k [] goal = every (λ g. sameZ (pos 0) (pos k *ℤ g)) goal
+coefficientsAgree k (s ∷ sums) [] = every (λ t. sameZ t (pos 0)) (s ∷ sums)
+coefficientsAgree k (s ∷ sums) (g ∷ goal) = sameZ s (pos k *ℤ g) && coefficientsAgree k sums goal
+
+-- "at most k times the goal's bound, or, at k = 0, below 0"
+unfoldable pub boundPasses : ℕ → ℤ → ℤ → Bool
+boundPasses zero sum goal = ltZ sum (pos 0)
+boundPasses (suc k) sum goal = leZ sum (pos (suc k) *ℤ goal)
+
+-- 0 where the condition holds; 10, "coefficients unequal"; 11, "bound fails" (01, What is handed back)
+unfoldable pub sumsTest : ℕ → Row → Row → ℕ
+sumsTest k sums goal =
+    cond (coefficientsAgree k (sums .coefficients) (goal .coefficients))
+    (cond (boundPasses k (sums .bound) (goal .bound)) 0 11)
+    10
+
+unfoldable pub farkasTest : List Row → Row → Proof → ℕ
+farkasTest hypotheses goal p = sumsTest (p .k) (summed hypotheses (p .entries)) goal
+
+-- the number of each verdict
+unfoldable pub numberOf : Verdict → ℕ
+numberOf Holds = 0
+numberOf CoefficientsDiffer = 10
+numberOf BoundFails = 11

@@ -1,0 +1,32 @@
+-- Rows, and where they hold (01, Sheet and Runs).
+-- A row is the declared struct `Row`: coefficients a and a bound b, whole numbers of either sign; it means a·x ≤ b. The unknowns
+-- are counted from 0, and a coefficient or a value that a list does not reach counts as 0. Assumes nothing.
+use mathlib.Core.Bool.{Bool}
+use mathlib.Core.List.{List, [], _∷_}
+use Prim.Native.Nat.{ℕ}
+use lib.IntN.{ℤ, pos, _+ℤ_, _*ℤ_}
+use lib.ListN.{getD, replicate}
+use lib.Signed.{leZ}
+use Rattle.farkas.specs.declared.Row.{Row}
+
+-- the i-th coefficient of a row, or the i-th value of a point
+unfoldable pub item : List ℤ → ℕ → ℤ
+item xs i = getD xs i (pos 0)
+
+-- a·p
+unfoldable pub dot : List ℤ → List ℤ → ℤ
+dot [] ps = pos 0
+dot (a ∷ xs) [] = pos 0
+dot (a ∷ xs) (p ∷ ps) = a *ℤ p +ℤ dot xs ps
+
+-- "A row on values holds as a·p ≤ b·q" (01, Runs): the values are p over q
+unfoldable pub rowHolds : ℕ → List ℤ → Row → Bool
+rowHolds q p r = leZ (dot (r .coefficients) p) (r .bound *ℤ pos q)
+
+-- the row 0 ≤ 0, which holds everywhere
+unfoldable pub zeroRow : Row
+zeroRow = record { coefficients = []; bound = pos 0 }
+
+-- the sums of no entries, as the code holds them: 0 at each of the 17 unknowns
+unfoldable pub noSums : Row
+noSums = record { coefficients = replicate 17 (pos 0); bound = pos 0 }
