@@ -1,0 +1,10 @@
+pub mod Points
+pub mod Shown
+pub mod Hypotheses
+pub mod Safety
+pub mod MarkedRanges
+pub mod CertificateExactly
+pub mod RunExactly
+pub mod Demand
+pub mod Rejected
+pub mod Twelve

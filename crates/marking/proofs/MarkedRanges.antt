@@ -1,0 +1,448 @@
+-- Every answer's fields stay in their ranges: number, sheet, place within the sheet that it names, done and score. And the row that
+-- show row finds stands within the sheet that it names. Assumes nothing.
+use mathlib.Core.Path.{_≡_, refl, subst}
+use mathlib.Core.Logic.{⊎-elim}
+use mathlib.Core.Bool.{Bool, true, false, cond, _&&_}
+use mathlib.Core.List.{List, [], _∷_, map}
+use Prim.Native.Nat.{ℕ, zero, suc, _+_, _-_, _^_, _≤_, _<_}
+use native.Mathlib.Nat.{div-le-of-le-mul, min-le-left}
+use native.Mathlib.Omega.{arith}
+use lib.Dec.{leb, ltb, eqb}
+use lib.ListN.{length, getD}
+use borrow.Author.Tests.{leb-true, leb-false}
+use Rattle.farkas.specs.declared.Row.{Row}
+use Rattle.farkas.specs.Lists.{every}
+use Rattle.farkas.specs.Rows.{zeroRow}
+use Rattle.farkas.specs.Farkas.{Proof, farkasTest}
+use Rattle.farkas.proofs.All.{All, none, more, all-append, all-map, all-at}
+use Rattle.farkas.proofs.Test.{proof-only-three}
+use Rattle.sheets.specs.Reading.{Got, got, refused, _>>=_, _>>_, u8, u16, u32, within, below, andThen, give, here, header, finished}
+use Rattle.sheets.specs.Rows.{Condition}
+use Rattle.sheets.specs.Model.{Mode, Component, Unsafe, Model}
+use Rattle.sheets.specs.Locations.{locationCount, modesAt, modeOf}
+use Rattle.sheets.specs.Joint.{stays, switchOf, JointSwitch, joints, joinAll}
+use Rattle.sheets.specs.ModelSheet.{Limits, readModel}
+use Rattle.sheets.specs.Certificate.{readRegions}
+use Rattle.sheets.specs.RunSheet.{Step, Opening, readValues, readOpening}
+use Rattle.sheets.proofs.Gives.{Gives, passes, gives-bind, gives-then, gives-give, gives-any, gives-within}
+use Rattle.sheets.proofs.Placed.{Fine, placed-then, placed-within, placed-u16, placed-u32, placed-header, placed-finished, placed-regions, placed-proof, placed-opening, placed-step, model-fine}
+use Rattle.sheets.proofs.Members.{all-members}
+use Rattle.sheets.proofs.RowPlaces.{RowsWithin, ModeWithin, ComponentWithin, ModelWithin, rows-within, regions-within}
+use Rattle.marking.specs.declared.Answer.{Answer}
+use Rattle.marking.specs.Runs.{State, present, modesIn, startAllowed, movers, stayingVariables, stepAllowed, after, modesFit, isUnsafe}
+use Rattle.marking.specs.Obligations.{Hypothesis, nowhere, standing, onX, onNext, onRates, timeRow, stayingRows, modeRows, startHypotheses, flowHypotheses, unsafeHypotheses, jumpHypotheses, Kind, atStart, afterFlow, afterJump, Obligation, zeroOnly, perRow, startObligations, flowObligations, unsafeObligations, locationObligations, jumpObligations, jumpsObligations, obligationsOver, regionOf, obligations}
+use Rattle.marking.specs.Marking.{answer, scoreOf, refusedScore, Marked, passed, stopped, testProof, markProof, markProofs, closeCertificate, markRegions, withModel, markCertificate, testStep, markStep, markSteps, closeRun, firstState, markOpening, markRun}
+use Rattle.marking.specs.Beside.{listAnswer, Found, found, unfound, noObligation, findIn, findAfter, findHypothesis, foundAnswer, showAnswer, sheetOf}
+use Rattle.marking.proofs.Hypotheses.{all-so, join-all}
+
+-- the fields of an answer on these two sheets, all but done, whose bound is each call's own
+pub record InRange (model second : List ℕ) (a : Answer) : Type 0 where
+  pub number : a .number ≤ 15
+  pub sheet : a .sheet ≤ 2
+  pub inModel : a .sheet ≡ 0 → a .place ≤ length model
+  pub inSecond : a .sheet ≡ 1 → a .place ≤ length second
+  pub score : a .score ≤ 100
+  pub refused : 1 ≤ a .number → a .score ≤ 99
+
+-- scores
+score-fits : (done total : ℕ) → done ≤ total → scoreOf done total ≤ 100
+unfolding scoreOf
+score-fits done zero h = omega arith
+score-fits done (suc total) h = div-le-of-le-mul (suc total) (omega arith)
+
+refused-score-fits : (done total : ℕ) → refusedScore done total ≤ 99
+unfolding refusedScore
+refused-score-fits done total = min-le-left 99 _
+
+-- a proof or step once tested: a value ends within the sheet; a refusal has a number, and a place within the sheet
+abbrev Judged : {A : Type 0} → List ℕ → Got A → Type 0
+Judged s (got a next) = next ≤ length s
+Judged s (refused number at) = (1 ≤ number) × (number ≤ 13) × (at ≤ length s)
+
+-- the same of a marking, of so many proofs or steps
+abbrev pub Marks : {A : Type 0} → List ℕ → ℕ → Marked A → Type 0
+Marks s all (passed a place done) = (place ≤ length s) × (done ≡ all)
+Marks s all (stopped number at done) = (1 ≤ number) × (number ≤ 13) × (at ≤ length s) × (done ≤ all)
+
+-- one proof or step, then the others
+marks-next : {A B : Type 0} (s : List ℕ) (all done : ℕ) (g : Got A) (rest : A → ℕ → Marked B) → done ≤ all → Judged s g → ((a : A) (next : ℕ) → next ≤ length s → Marks s all (rest a next)) → Marks {A = B} s all (elim g [ got a next ↦ rest a next | refused number at ↦ stopped number at done ])
+marks-next s all done (got a next) rest h j k = k a next j
+marks-next s all done (refused number at) rest h j k = omega arith
+
+farkas-number : (hypotheses : List Row) (goal : Row) (p : Proof) → farkasTest hypotheses goal p ≤ 11
+farkas-number hypotheses goal p =
+    ⊎-elim (λ e. omega arith) (λ d. ⊎-elim (λ e. omega arith) (λ e. omega arith) d) (proof-only-three hypotheses goal p)
+
+proof-judged : (o : Obligation) (s : List ℕ) (p : ℕ) (g : Got Proof) → p ≤ length s → Fine s p g → Judged s (testProof o p g)
+unfolding testProof
+proof-judged o s p (got x next) h w = go (farkasTest (map (λ h. h .row) (o .hypotheses)) (o .goal) x) (farkas-number _ _ x)
+  where
+    go : (n : ℕ) → n ≤ 11 → Judged {A = Proof} s (elim n [ zero ↦ got x next | suc n ↦ refused (suc n) p ])
+    go zero l = w .1
+    go (suc n) l = omega arith
+proof-judged o s p (refused number at) h w = omega arith
+
+pub proofs-mark : (all : List Obligation) (s : List ℕ) (p done total : ℕ) → p ≤ length s → done + length all ≡ total → Marks s total (markProofs all s p done)
+unfolding markProofs markProof
+proofs-mark [] s p done total h e = omega arith
+proofs-mark (o ∷ rest) s p done total h e =
+    marks-next s total done (markProof o s p) (λ a next. markProofs rest s next (suc done)) (omega arith)
+    (proof-judged o s p _ h (placed-proof {least = 0} (length (o .hypotheses)) (zeroOnly (o .kind)) .fine s p (omega arith) h))
+    (λ a next l. proofs-mark rest s next (suc done) total l (omega arith))
+
+-- in range, with at most so many done
+abbrev Within : List ℕ → List ℕ → ℕ → Answer → Type 0
+Within model second most a = InRange model second a × (a .done ≤ most)
+
+close-certificate : (model second : List ℕ) (total : ℕ) (k : Marked (Unit {0})) → Marks second total k → Within model second total (closeCertificate total second k)
+unfolding closeCertificate answer
+close-certificate model second total (stopped number at done) w =
+    let l = refused-score-fits done total in omega arith
+close-certificate model second total (passed u place done) w =
+    go (finished second place) (placed-finished {least = 0} .fine second place (omega arith) (w .0))
+  where
+    go : (g : Got (Unit {0})) → Fine second place g → Within model second total (elim g [ got v next ↦ answer 0 1 (length second) done (scoreOf done total) | refused number at ↦ answer number 1 at done (refusedScore done total) ])
+    go (got v next) x = let l = score-fits done total (omega arith) in omega arith
+    go (refused number at) x = let l = refused-score-fits done total in omega arith
+
+-- the model goes first: it is refused with nothing done, or what follows has the property
+pub with-model : (P : Answer → Type 0) (model : List ℕ) (g : Got Model) (f : Model → Answer) → Fine model 0 g → ((number at : ℕ) → 1 ≤ number → number ≤ 9 → at ≤ length model → P (answer number 0 at 0 0)) → ((m : Model) (next : ℕ) → g ≡ got m next → P (f m)) → P (withModel g f)
+unfolding withModel
+with-model P model (got m next) f w refusal value = value m next refl
+with-model P model (refused number at) f w refusal value = refusal number at (w .0) (w .1) (w .2)
+
+-- the second sheet up to its regions
+pub regions-fine : (m : Model) (s : List ℕ) → Fine s 0 ((header 2 >> readRegions m) s 0)
+regions-fine m s = placed-then {least = 0} (placed-header 2) (placed-regions m) .fine s 0 (omega arith) (omega arith)
+
+-- proofs done: none, or, once the regions are read, at most one for each obligation
+pub data ProofsDone (limits : Limits) (model second : List ℕ) (done : ℕ) : Type 0 where
+  before-proofs : done ≡ 0 → ProofsDone limits model second done
+  of-obligations : {m : Model} {modelEnd : ℕ} {regions : List Condition} {place : ℕ} → readModel limits model ≡ got m modelEnd → (header 2 >> readRegions m) second 0 ≡ got regions place → done ≤ length (obligations m regions) → ProofsDone limits model second done
+
+abbrev CertificateRange : Limits → List ℕ → List ℕ → Answer → Type 0
+CertificateRange limits model second a = InRange model second a × ProofsDone limits model second (a .done)
+
+regions-marked : (limits : Limits) (model second : List ℕ) (m : Model) (modelEnd : ℕ) (g : Got (List Condition)) → readModel limits model ≡ got m modelEnd → (header 2 >> readRegions m) second 0 ≡ g → Fine second 0 g → CertificateRange limits model second (markRegions m second g)
+unfolding markRegions answer
+regions-marked limits model second m modelEnd (got regions place) e d w =
+    let all : List Obligation = obligations m regions in
+    let h = close-certificate model second (length all) (markProofs all second place 0) (proofs-mark all second place 0 (length all) (w .1) (omega arith)) in
+    (h .0, of-obligations e d (h .1))
+regions-marked limits model second m modelEnd (refused number at) e d w = (omega arith, before-proofs refl)
+
+certificate-ranges : (limits : Limits) (model second : List ℕ) → CertificateRange limits model second (markCertificate limits model second)
+unfolding markCertificate answer
+certificate-ranges limits model second =
+    with-model (CertificateRange limits model second) model (readModel limits model) _ (model-fine limits model)
+    (λ number at i j k. (omega arith, before-proofs refl))
+    (λ m next e. regions-marked limits model second m next _ e refl (regions-fine m second))
+
+pub certificate-in-range : (limits : Limits) (model second : List ℕ) → InRange model second (markCertificate limits model second)
+certificate-in-range limits model second = certificate-ranges limits model second .0
+
+pub certificate-done : (limits : Limits) (model second : List ℕ) → ProofsDone limits model second (markCertificate limits model second .done)
+certificate-done limits model second = certificate-ranges limits model second .1
+
+-- a run sheet up to its opening
+pub opening-fine : (m : Model) (s : List ℕ) → Fine s 0 ((header 3 >> readOpening m) s 0)
+opening-fine m s = placed-then {least = 0} (placed-header 3) (placed-opening m) .fine s 0 (omega arith) (omega arith)
+
+pub opening-gives : (m : Model) → Gives (λ o. (1 ≤ o .q) × (o .steps ≤ 4095)) (readOpening m)
+unfolding readOpening
+opening-gives m =
+    gives-bind (gives-within 1 (2 ^ 24 - 1) u32)
+    (λ q i.
+    gives-bind (gives-within 0 4095 u16)
+    (λ steps j. gives-bind gives-any (λ place u. gives-bind gives-any (λ location u. gives-bind gives-any (λ values u. gives-give _ (i .0, j .1))))))
+
+got-fine : {A : Type 0} (s : List ℕ) (p : ℕ) (g : Got A) (a : A) (next : ℕ) → Fine s p g → g ≡ got a next → next ≤ length s
+got-fine s p g a next w e = subst (λ x. Fine s p x) e w .1
+
+-- the place of its location stands within the sheet
+opening-rest : (m : Model) (q steps place : ℕ) → Gives {A = Opening} (λ o. o .place ≡ place) (below (locationCount (m .components)) u8 >>= λ location. readValues (m .variables) >>= λ values. give (record { q = q; steps = steps; place = place; location = location; values = values }))
+opening-rest m q steps place = gives-bind gives-any (λ location u. gives-bind gives-any (λ values u. gives-give _ refl))
+
+opening-place : (m : Model) (s : List ℕ) (p : ℕ) (o : Opening) (next : ℕ) → p ≤ length s → readOpening m s p ≡ got o next → o .place ≤ length s
+unfolding readOpening _>>=_ andThen here
+opening-place m s p o next h e =
+    let w = passes (within 1 (2 ^ 24 - 1) u32 s p) _ s o next e in
+    let i = got-fine s p _ _ _ (placed-within {least = 0} 1 (2 ^ 24 - 1) placed-u32 .fine s p (omega arith) h) (w .first) in
+    let v = passes (within 0 4095 u16 s (w .place)) _ s o next (w .second) in
+    let j = got-fine s (w .place) _ _ _ (placed-within {least = 0} 0 4095 placed-u16 .fine s (w .place) (omega arith) i) (v .first) in
+    let k = opening-rest m (w .value) (v .value) (v .place) .holds s (v .place) o next (v .second) in
+    omega arith
+
+-- steps
+step-judged : (m : Model) (q : ℕ) (v : State) (s : List ℕ) (p : ℕ) (g : Got Step) → p ≤ length s → Fine s p g → Judged s (testStep m q v p g)
+unfolding testStep
+step-judged m q v s p (got t next) h w = go (stepAllowed m q v t)
+  where
+    go : (b : Bool) → Judged s (cond b (got t next) (refused 13 p))
+    go true = w .1
+    go false = omega arith
+step-judged m q v s p (refused number at) h w = omega arith
+
+pub steps-mark : (m : Model) (q : ℕ) (v : State) (n : ℕ) (s : List ℕ) (p done total : ℕ) → p ≤ length s → done + n ≡ total → Marks s total (markSteps m q v n s p done)
+unfolding markSteps markStep
+steps-mark m q v zero s p done total h e = omega arith
+steps-mark m q v (suc n) s p done total h e =
+    marks-next s total done (markStep m q v s p) (λ t next. markSteps m q (after m v t) n s next (suc done)) (omega arith)
+    (step-judged m q v s p _ h (placed-step {least = 0} m .fine s p (omega arith) h))
+    (λ t next l. steps-mark m q (after m v t) n s next (suc done) total l (omega arith))
+
+close-run : (model second : List ℕ) (m : Model) (q total : ℕ) (k : Marked State) → Marks second total k → Within model second total (closeRun m q second k)
+unfolding closeRun answer
+close-run model second m q total (stopped number at done) w = omega arith
+close-run model second m q total (passed v place done) w =
+    go (finished second place) (placed-finished {least = 0} .fine second place (omega arith) (w .0))
+  where
+    verdict : (b : Bool) → Within model second total (cond b (answer 0 1 (length second) done 100) (answer 14 1 (length second) done 0))
+    verdict true = omega arith
+    verdict false = omega arith
+
+    go : (g : Got (Unit {0})) → Fine second place g → Within model second total (elim g [ got u next ↦ cond (isUnsafe m q v) (answer 0 1 (length second) done 100) (answer 14 1 (length second) done 0) | refused number at ↦ answer number 1 at done 0 ])
+    go (got u next) x = verdict (isUnsafe m q v)
+    go (refused number at) x = omega arith
+
+-- steps done: none, or, once the opening is read, at most as many as it says
+pub data StepsDone (limits : Limits) (model second : List ℕ) (done : ℕ) : Type 0 where
+  before-steps : done ≡ 0 → StepsDone limits model second done
+  of-opening : {m : Model} {modelEnd : ℕ} {o : Opening} {place : ℕ} → readModel limits model ≡ got m modelEnd → (header 3 >> readOpening m) second 0 ≡ got o place → done ≤ o .steps → StepsDone limits model second done
+
+abbrev RunRange : Limits → List ℕ → List ℕ → Answer → Type 0
+RunRange limits model second a = InRange model second a × StepsDone limits model second (a .done)
+
+opening-marked : (limits : Limits) (model second : List ℕ) (m : Model) (modelEnd : ℕ) (g : Got Opening) → readModel limits model ≡ got m modelEnd → (header 3 >> readOpening m) second 0 ≡ g → Fine second 0 g → RunRange limits model second (markOpening m second g)
+unfolding markOpening answer _>>_
+opening-marked limits model second m modelEnd (got o place) e d w = go (startAllowed m (o .q) (firstState o))
+  where
+    go : (b : Bool) → RunRange limits model second (elim b [ true ↦ closeRun m (o .q) second (markSteps m (o .q) (firstState o) (o .steps) second place 0) | false ↦ answer 12 1 (o .place) 0 0 ])
+    go true =
+        let h = close-run model second m (o .q) (o .steps) _ (steps-mark m (o .q) (firstState o) (o .steps) second place 0 (o .steps) (w .1) (omega arith)) in
+        (h .0, of-opening e d (h .1))
+    go false =
+        let v = passes (header 3 second 0) _ second o place d in
+        let i = got-fine second 0 _ _ _ (placed-header {least = 0} 3 .fine second 0 (omega arith) (omega arith)) (v .first) in
+        let j = opening-place m second (v .place) o place i (v .second) in
+        (omega arith, before-steps refl)
+opening-marked limits model second m modelEnd (refused number at) e d w = (omega arith, before-steps refl)
+
+run-ranges : (limits : Limits) (model second : List ℕ) → RunRange limits model second (markRun limits model second)
+unfolding markRun answer
+run-ranges limits model second =
+    with-model (RunRange limits model second) model (readModel limits model) _ (model-fine limits model)
+    (λ number at i j k. (omega arith, before-steps refl))
+    (λ m next e. opening-marked limits model second m next _ e refl (opening-fine m second))
+
+pub run-in-range : (limits : Limits) (model second : List ℕ) → InRange model second (markRun limits model second)
+run-in-range limits model second = run-ranges limits model second .0
+
+pub run-done : (limits : Limits) (model second : List ℕ) → StepsDone limits model second (markRun limits model second .done)
+run-done limits model second = run-ranges limits model second .1
+
+steps-few : (limits : Limits) (model second : List ℕ) (done : ℕ) → StepsDone limits model second done → done ≤ 4095
+steps-few limits model second done (before-steps e) = omega arith
+steps-few limits model second done (of-opening {m = m} {o = o} {place = place} e d h) =
+    let k = gives-then (header 3) (opening-gives m) .holds second 0 o place d in
+    omega arith
+
+pub run-few : (limits : Limits) (model second : List ℕ) → markRun limits model second .done ≤ 4095
+run-few limits model second = steps-few limits model second _ (run-done limits model second)
+
+-- the joint list: a table too short is told, with sheet 2, how many records it needs
+pub record Needs (limits : Limits) (model : List ℕ) (lent : ℕ) (a : Answer) : Type 0 where
+  pub m : Model
+  pub modelEnd : ℕ
+  pub modelReads : readModel limits model ≡ got m modelEnd
+  pub sheet : a .sheet ≡ 2
+  pub place : a .place ≡ length (joints (m .components))
+  pub short : lent < a .place
+
+pub record ListRange (limits : Limits) (model second : List ℕ) (lent : ℕ) (a : Answer) : Type 0 where
+  pub range : InRange model second a
+  pub done : a .done ≤ lent
+  pub needs : a .number ≡ 15 → Needs limits model lent a
+
+pub list-in-range : (limits : Limits) (model second : List ℕ) (lent : ℕ) → ListRange limits model second lent (listAnswer limits model lent)
+unfolding listAnswer answer
+list-in-range limits model second lent =
+    with-model (ListRange limits model second lent) model (readModel limits model) _ (model-fine limits model)
+    (λ number at i j k. record { range = omega arith; done = omega arith; needs = λ e. absurd (omega arith) })
+    (λ m next e. go m next e (leb (length (joints (m .components))) lent) refl)
+  where
+    go : (m : Model) (next : ℕ) → readModel limits model ≡ got m next → (b : Bool) → leb (length (joints (m .components))) lent ≡ b → ListRange limits model second lent (cond b (answer 0 0 (length model) (length (joints (m .components))) 0) (answer 15 2 (length (joints (m .components))) 0 0))
+    go m next e true d = record { range = omega arith; done = leb-true _ lent d; needs = λ h. absurd (omega arith) }
+    go m next e false d =
+        record {
+          range = omega arith;
+          done = omega arith;
+          needs = λ h. record { m = m; modelEnd = next; modelReads = e; sheet = refl; place = refl; short = leb-false _ lent d };
+        }
+
+-- a hypothesis stands within the sheet that it names; one in no sheet has no bytes
+pub record Stands (model second : List ℕ) (h : Hypothesis) : Type 0 where
+  pub sheet : h .sheet ≤ 2
+  pub ends : h .place + h .size ≤ length (sheetOf model second (h .sheet))
+
+all-either : {A : Type 0} {P : A → Type 0} {xs ys : List A} (b : Bool) → All P xs → All P ys → All P (elim b [ true ↦ xs | false ↦ ys ])
+all-either true h k = h
+all-either false h k = k
+
+module _ (model second : List ℕ) where
+  rows-stand : (sheet : ℕ) (put : Row → Row) {rows : Condition} → sheet ≤ 2 → RowsWithin (sheetOf model second sheet) rows → All (Stands model second) (map (standing sheet put) rows)
+  unfolding standing
+  rows-stand sheet put h w = all-map (standing sheet put) (all-so (λ r k. record { sheet = h; ends = k }) w)
+
+  nowhere-stand : (rows : List Row) → All (Stands model second) (map nowhere rows)
+  unfolding nowhere sheetOf
+  nowhere-stand rows = all-map nowhere (all-members rows (λ r d. record { sheet = omega arith; ends = omega arith }))
+
+  modes-stand : (of : Mode → Condition) (put : Row → Row) {modes : List Mode} → All (λ mode. RowsWithin model (of mode)) modes → All (Stands model second) (modeRows of put modes)
+  unfolding modeRows sheetOf
+  modes-stand of put w = join-all _ (all-so (λ mode k. rows-stand 0 put (omega arith) k) w)
+
+  -- the present modes, and the switches that move
+  present-within : {components : List Component} (modes : List ℕ) → All (ComponentWithin model) components → All (ModeWithin model) (present components modes)
+  unfolding present modeOf
+  present-within modes none = none
+  present-within [] (more x w) = none
+  present-within (mode ∷ modes) (more x w) =
+      more (all-at _ (record { initial = none; invariant = none; flow = none }) (x .modes) mode) (present-within modes w)
+
+  movers-within : {components : List Component} (switches : List ℕ) → All (ComponentWithin model) components → All (λ w. RowsWithin model (w .jump)) (movers components switches)
+  unfolding movers switchOf
+  movers-within switches none = none
+  movers-within [] (more x w) = none
+  movers-within (i ∷ switches) (more x w) =
+      let rest = movers-within switches w in
+      all-either (eqb i stays) rest (more (all-at _ none (x .switches) i) rest)
+
+  -- every hypothesis of an obligation
+  abbrev Standing : Obligation → Type 0
+  Standing o = All (Stands model second) (o .hypotheses)
+
+  per-row-standing : (kind : Kind) (subject : ℕ) {hypotheses : List Hypothesis} (put : Row → Row) (line : ℕ) (region : Condition) → All (Stands model second) hypotheses → All Standing (perRow kind subject hypotheses put line region)
+  unfolding perRow
+  per-row-standing kind subject put line [] h = none
+  per-row-standing kind subject put line (r ∷ region) h = more h (per-row-standing kind subject put (suc line) region h)
+
+  module _ (m : Model) (regions : List Condition) (modelRows : ModelWithin model m) (regionRows : All (RowsWithin second) regions) where
+    modes-at-within : (location : ℕ) → All (ModeWithin model) (modesIn m location)
+    unfolding modesIn
+    modes-at-within location = present-within (modesAt (m .components) location) (modelRows .components)
+
+    region-stands : (location : ℕ) → All (Stands model second) (map (standing 1 onX) (regionOf regions location))
+    unfolding regionOf sheetOf
+    region-stands location = rows-stand 1 onX (omega arith) (all-at [] none regionRows location)
+
+    invariants-stand : (put : Row → Row) (location : ℕ) → All (Stands model second) (modeRows (λ mode. mode .invariant) put (modesIn m location))
+    invariants-stand put location = modes-stand _ put (all-so (λ mode w. w .invariant) (modes-at-within location))
+
+    start-standing : (location : ℕ) → All Standing (startObligations m (regionOf regions) location)
+    unfolding startObligations startHypotheses
+    start-standing location =
+        all-either (every (λ mode. eqb (mode .start) 1) (modesIn m location))
+        (per-row-standing atStart location onX 0 (regionOf regions location)
+        (all-append (modes-stand _ onX (all-so (λ mode w. w .initial) (modes-at-within location))) (invariants-stand onX location)))
+        none
+
+    flow-standing : (location : ℕ) → All Standing (flowObligations m (regionOf regions) location)
+    unfolding flowObligations flowHypotheses
+    flow-standing location =
+        per-row-standing afterFlow location (onNext (m .variables)) 0 (regionOf regions location)
+        (all-append (region-stands location)
+        (all-append (invariants-stand onX location)
+        (all-append (invariants-stand (onNext (m .variables)) location)
+        (all-append (modes-stand _ onRates (all-so (λ mode w. w .flow) (modes-at-within location))) (nowhere-stand (timeRow (m .variables) ∷ []))))))
+
+    unsafe-standing : (location line : ℕ) {conditions : List Unsafe} → All (λ u. RowsWithin model (u .rows)) conditions → All Standing (unsafeObligations m (regionOf regions) location line conditions)
+    unfolding unsafeObligations unsafeHypotheses sheetOf
+    unsafe-standing location line none = none
+    unsafe-standing location line (more {a = u} x w) =
+        let rest = unsafe-standing location (suc line) w in
+        all-either (modesFit (u .modes) (modesAt (m .components) location))
+        (more (all-append (region-stands location) (all-append (invariants-stand onX location) (rows-stand 0 onX (omega arith) x))) rest)
+        rest
+
+    location-standing : (location : ℕ) → All Standing (locationObligations m (regionOf regions) location)
+    unfolding locationObligations
+    location-standing location = all-append (start-standing location) (all-append (flow-standing location) (unsafe-standing location 0 (modelRows .unsafe)))
+
+    jump-standing : (number : ℕ) (j : JointSwitch) → All Standing (jumpObligations m (regionOf regions) number j)
+    unfolding jumpObligations jumpHypotheses sheetOf
+    jump-standing number j =
+        per-row-standing afterJump number (onNext (m .variables)) 0 (regionOf regions (j .target))
+        (all-append (region-stands (j .source))
+        (all-append (invariants-stand onX (j .source))
+        (all-append (invariants-stand (onNext (m .variables)) (j .target))
+        (all-append
+        (join-all _ (all-so (λ w k. rows-stand 0 onX (omega arith) k) (movers-within (j .switches) (modelRows .components))))
+        (nowhere-stand (joinAll (stayingRows (m .variables)) (stayingVariables m (j .switches))))))))
+
+    jumps-standing : (number : ℕ) (switches : List JointSwitch) → All Standing (jumpsObligations m (regionOf regions) number switches)
+    unfolding jumpsObligations
+    jumps-standing number [] = none
+    jumps-standing number (j ∷ rest) = all-append (jump-standing number j) (jumps-standing (suc number) rest)
+
+    obligations-standing : All Standing (obligations m regions)
+    unfolding obligations obligationsOver
+    obligations-standing =
+        all-append (join-all _ (all-members _ (λ location d. location-standing location))) (jumps-standing 0 (joints (m .components)))
+
+-- what is found stands within its sheet, and so does the place of a refusal
+abbrev FoundWell : List ℕ → List ℕ → Found → Type 0
+FoundWell model second (found h) = Stands model second h
+FoundWell model second (unfound number sheet place) = (number ≤ 9) × (sheet ≤ 2) × (place ≤ length (sheetOf model second sheet))
+
+in-sheet : (model second : List ℕ) (number sheet place : ℕ) → number ≤ 9 → sheet ≤ 2 → place ≤ length (sheetOf model second sheet) → InRange model second (answer number sheet place 0 0)
+unfolding answer sheetOf
+in-sheet model second number zero place i j k = omega arith
+in-sheet model second number (suc zero) place i j k = omega arith
+in-sheet model second number (suc (suc sheet)) place i j k = omega arith
+
+answer-in-range : (model second : List ℕ) (f : Found) → FoundWell model second f → InRange model second (foundAnswer f)
+unfolding foundAnswer
+answer-in-range model second (found h) w = in-sheet model second 0 (h .sheet) (h .place) (omega arith) (w .sheet) (omega (arith, w .ends))
+answer-in-range model second (unfound number sheet place) w = in-sheet model second number sheet place (w .0) (w .1) (w .2)
+
+nothing-done : (f : Found) → foundAnswer f .done ≡ 0
+unfolding foundAnswer answer
+nothing-done (found h) = refl
+nothing-done (unfound number sheet place) = refl
+
+module _ (limits : Limits) (model second : List ℕ) (o h : ℕ) where
+  in-well : (all : List Obligation) → All (Standing model second) all → FoundWell model second (findIn all o h)
+  unfolding findIn nowhere sheetOf noObligation
+  in-well all w = go (ltb o (length all) && ltb h (length (getD all o noObligation .hypotheses)))
+    where
+      go : (b : Bool) → FoundWell model second (elim b [ true ↦ found (getD (getD all o noObligation .hypotheses) h (nowhere zeroRow)) | false ↦ unfound 5 2 0 ])
+      go true = all-at _ (record { sheet = omega arith; ends = omega arith }) (all-at noObligation none w o) h
+      go false = omega arith
+
+  after-well : (m : Model) (g : Got (List Condition)) → ModelWithin model m → (header 2 >> readRegions m) second 0 ≡ g → Fine second 0 g → FoundWell model second (findAfter m o h g)
+  unfolding findAfter sheetOf _>>_
+  after-well m (got regions next) w e x =
+      let v = passes (header 2 second 0) _ second regions next e in
+      in-well (obligations m regions) (obligations-standing model second m regions w (regions-within m second (v .place) regions next (v .second)))
+  after-well m (refused number at) w e x = omega arith
+
+  found-well : FoundWell model second (findHypothesis limits model second o h)
+  unfolding findHypothesis sheetOf
+  found-well = go (readModel limits model) refl (model-fine limits model)
+    where
+      go : (g : Got Model) → readModel limits model ≡ g → Fine model 0 g → FoundWell model second (elim g [ got m next ↦ findAfter m o h ((header 2 >> readRegions m) second 0) | refused number at ↦ unfound number 0 at ])
+      go (got m next) e x =
+          after-well m _ (rows-within limits model m next e) refl (regions-fine m second)
+      go (refused number at) e x = omega arith
+
+  pub found-within : (x : Hypothesis) → findHypothesis limits model second o h ≡ found x → Stands model second x
+  found-within x e = subst (FoundWell model second) e found-well
+
+  pub show-in-range : InRange model second (showAnswer limits model second o h)
+  unfolding showAnswer
+  show-in-range = answer-in-range model second (findHypothesis limits model second o h) found-well
+
+  pub show-done : showAnswer limits model second o h .done ≡ 0
+  unfolding showAnswer
+  show-done = nothing-done (findHypothesis limits model second o h)

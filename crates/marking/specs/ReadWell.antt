@@ -1,0 +1,76 @@
+-- Sheets that read well, whole (01, "both sheets read well"): what they hold, and what acceptance then asks of it, as propositions.
+-- The marking reads the same fields and tests between them; theorems say that it accepts exactly this. Assumes nothing.
+use mathlib.Core.Path.{_≡_}
+use mathlib.Core.List.{List, [], _∷_, map}
+use Prim.Native.Nat.{ℕ}
+use lib.Dec.{T}
+use lib.ListN.{length}
+use Rattle.farkas.specs.declared.Row.{Row}
+use Rattle.farkas.specs.Farkas.{Proof, Meets}
+use Rattle.sheets.specs.Reading.{Reader, Got, got, _>>=_, _>>_, give, many, each, header, finished}
+use Rattle.sheets.specs.Rows.{Condition}
+use Rattle.sheets.specs.Model.{Model}
+use Rattle.sheets.specs.ModelSheet.{Limits, readModel}
+use Rattle.sheets.specs.Certificate.{readRegions, readProof}
+use Rattle.sheets.specs.RunSheet.{Step, Opening, readOpening, readStep}
+use Rattle.marking.specs.Runs.{State, startAllowed, stepsAllowed, endOf, isUnsafe}
+use Rattle.marking.specs.Obligations.{Hypothesis, Obligation, zeroOnly, obligations}
+use Rattle.marking.specs.Marking.{firstState}
+
+-- a certificate: regions, then a proof per obligation
+pub record Certificate : Type 0 where
+  pub regions : List Condition
+  pub proofs : List Proof
+
+unfoldable pub readProofs : List Obligation → Reader (List Proof)
+readProofs all = each (λ o. readProof (length (o .hypotheses)) (zeroOnly (o .kind))) all
+
+unfoldable pub readCertificate : Model → Reader Certificate
+readCertificate m = do
+  header 2
+  regions ← readRegions m
+  proofs ← readProofs (obligations m regions)
+  finished
+  give (record { regions = regions; proofs = proofs })
+
+unfoldable pub rowsOf : Obligation → List Row
+rowsOf o = map (λ h. h .row) (o .hypotheses)
+
+-- every obligation's multipliers meet Farkas' condition
+pub data AllMeet : List Obligation → List Proof → Type 0 where
+  met-none : AllMeet [] []
+  met-more : {o : Obligation} {p : Proof} {rest : List Obligation} {proofs : List Proof} → Meets (rowsOf o) (o .goal) p → AllMeet rest proofs → AllMeet (o ∷ rest) (p ∷ proofs)
+
+pub record CertificateHolds (limits : Limits) (model second : List ℕ) : Type 0 where
+  pub m : Model
+  pub modelEnd : ℕ
+  pub modelReads : readModel limits model ≡ got m modelEnd
+  pub certificate : Certificate
+  pub secondEnd : ℕ
+  pub secondReads : readCertificate m second 0 ≡ got certificate secondEnd
+  pub meet : AllMeet (obligations m (certificate .regions)) (certificate .proofs)
+
+-- a run sheet: its opening, then its steps
+pub record RunSheet : Type 0 where
+  pub opening : Opening
+  pub steps : List Step
+
+unfoldable pub readRunSheet : Model → Reader RunSheet
+readRunSheet m = do
+  header 3
+  opening ← readOpening m
+  steps ← many (opening .steps) (readStep m)
+  finished
+  give (record { opening = opening; steps = steps })
+
+-- "it is a trajectory of the model that ends unsafe"
+pub record RunHolds (limits : Limits) (model second : List ℕ) : Type 0 where
+  pub m : Model
+  pub modelEnd : ℕ
+  pub modelReads : readModel limits model ≡ got m modelEnd
+  pub sheet : RunSheet
+  pub secondEnd : ℕ
+  pub secondReads : readRunSheet m second 0 ≡ got sheet secondEnd
+  pub starts : T (startAllowed m (sheet .opening .q) (firstState (sheet .opening)))
+  pub allowed : T (stepsAllowed m (sheet .opening .q) (firstState (sheet .opening)) (sheet .steps))
+  pub ends : T (isUnsafe m (sheet .opening .q) (endOf m (firstState (sheet .opening)) (sheet .steps)))

@@ -1,0 +1,9 @@
+pub mod Gives
+pub mod Members
+pub mod WellFormed
+pub mod Locations
+pub mod Joint
+pub mod JointOrder
+pub mod JointList
+pub mod Placed
+pub mod RowPlaces
