@@ -1,4 +1,16 @@
+pub mod FieldLaws
+pub mod AnswerLaws
 pub mod Gives
+pub mod Skipping
+pub mod HeaderLaws
+pub mod ReadLoop
+pub mod IndexLaws
+pub mod ConditionLaws
+pub mod ChainLaws
+pub mod ModelLaws
+pub mod ComponentLaws
+pub mod UnsafeLaws
+pub mod BodyLaws
 pub mod Members
 pub mod WellFormed
 pub mod Locations

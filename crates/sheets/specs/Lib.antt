@@ -1,8 +1,11 @@
 pub mod Reading
 pub mod Rows
+pub mod Places
+pub mod Answers
 pub mod Model
 pub mod Locations
 pub mod Joint
+pub mod Index
 pub mod ModelSheet
 pub mod Certificate
 pub mod RunSheet
