@@ -8,10 +8,11 @@ use Prim.Native.Nat.{ℕ, zero, suc}
 use lib.Count.{ones}
 use lib.Dec.{T, eqb}
 use lib.IntN.{ℤ, pos}
+use lib.Signed.{_<ℤ_, <ℤ-irrefl}
 use Rattle.farkas.specs.declared.Row.{Row}
 use Rattle.farkas.specs.Lists.{every}
 use Rattle.farkas.specs.Rows.{item, zeroRow}
-use Rattle.farkas.specs.Farkas.{sameZ, Meets, farkasTest, sumsTest, summed, addEntries, coefficientsAgree, boundPasses}
+use Rattle.farkas.specs.Farkas.{SumsMeet, sameZ, farkasTest, sumsTest, summed, addEntries, coefficientsAgree, boundPasses}
 use Rattle.farkas.proofs.All.{every-all}
 use Rattle.farkas.proofs.Test.{same-means}
 use Rattle.sheets.specs.Rows.{SheetRow, Condition}
@@ -70,10 +71,13 @@ staying-kept m q s event switches next v t d =
     same-means (item next v) (item (s .values) v) .0
     (all-in (every-all (λ v. sameZ (item next v) (item (s .values) v)) (stayingVariables m switches) (and-right rows kept (and-right joint (rows && kept) t))) d)
 
--- "Taking k = 0 with sum 0"
-pub zero-sum : (goal : Row) → goal .coefficients ≡ [] → farkasTest [] goal (record { k = 0; entries = [] }) ≡ 11
+-- "Taking k = 0 with sum 0": sums with bound 0 never meet the condition at k = 0, and a proof without entries gets 11
+pub zero-sum : (sums goal : Row) → sums .bound ≡ pos 0 → SumsMeet 0 sums goal → ⊥
+zero-sum sums goal e h = <ℤ-irrefl (subst (λ b. b <ℤ pos 0) e (h .below refl))
+
+pub no-entries : (goal : Row) → goal .coefficients ≡ [] → farkasTest [] goal (record { k = 0; entries = [] }) ≡ 11
 unfolding farkasTest sumsTest summed addEntries zeroRow coefficientsAgree boundPasses every
-zero-sum goal e = rw e refl
+no-entries goal e = rw e refl
 
 -- "Testing unsafe rows without the invariants"
 pub with-invariants : (region : Condition) (modes : List Mode) (rows : Condition) (mode : Mode) (r : SheetRow) → List·Memᴰ mode modes → List·Memᴰ r (mode .invariant) → List·Memᴰ (standing 0 onX r) (unsafeHypotheses region modes rows)

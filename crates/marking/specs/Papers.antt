@@ -3,7 +3,7 @@ use mathlib.Core.List.{List, [], _∷_, _++_}
 use Prim.Native.Nat.{ℕ}
 use lib.ListN.{set, take}
 
--- a row of one coefficient and its bound, where both are from 0 to 255, and where both are from −255 to −1 (written as their sizes)
+-- a row of one coefficient and its bound, by their last bytes: where both are from 0 to 255, and where both are from −256 to −1
 unfoldable pub up : ℕ → ℕ → List ℕ
 up a b = 0 ∷ 0 ∷ 0 ∷ a ∷ 0 ∷ 0 ∷ 0 ∷ b ∷ []
 

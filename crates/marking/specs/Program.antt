@@ -15,6 +15,26 @@ pub data Line : Type 0 where
   unsafe : ℕ → Line
   turnedDown : ℕ → ℕ → ℕ → ℕ → ℕ → Line
 
+-- a line as bytes: words, decimal numbers and single spaces, ended by a newline. 48 is the digit 0, 32 a space, 10 a newline
+unfoldable pub digits : ℕ → ℕ → List ℕ → List ℕ
+digits zero n rest = rest
+digits (suc more) n rest =
+    elim (ltb n 10) [ true ↦ (48 + n) ∷ rest | false ↦ digits more (n / 10) ((48 + n % 10) ∷ rest) ]
+
+unfoldable pub decimal : ℕ → List ℕ
+decimal n = digits (suc n) n []
+
+unfoldable pub numbered : List ℕ → List ℕ
+numbered [] = 10 ∷ []
+numbered (n ∷ rest) = (32 ∷ decimal n) ++ numbered rest
+
+-- the words SAFE, UNSAFE and REFUSED
+unfoldable pub textOf : Line → List ℕ
+textOf (safe done) = (83 ∷ 65 ∷ 70 ∷ 69 ∷ []) ++ numbered (done ∷ [])
+textOf (unsafe done) = (85 ∷ 78 ∷ 83 ∷ 65 ∷ 70 ∷ 69 ∷ []) ++ numbered (done ∷ [])
+textOf (turnedDown number sheet place done score) =
+    (82 ∷ 69 ∷ 70 ∷ 85 ∷ 83 ∷ 69 ∷ 68 ∷ []) ++ numbered (number ∷ sheet ∷ place ∷ done ∷ score ∷ [])
+
 -- "The first sheet is L+2 bytes, or all if fewer, the rest is the second"
 unfoldable pub firstLength : List ℕ → ℕ
 firstLength input = elim (ltb (length input) 2) [ true ↦ length input | false ↦ bigEndian (take 2 input) + 2 ]
@@ -46,3 +66,7 @@ markLine input =
           ]
       | false ↦ turnedDown 1 0 0 0 0
     ]
+
+-- what the program prints
+unfoldable pub printed : List ℕ → List ℕ
+printed input = textOf (markLine input)

@@ -1,4 +1,4 @@
--- Sheets that read well, whole (01, "both sheets read well"): what they hold, and what acceptance then asks of it, as propositions.
+-- Sheets that read well, whole, as demand 2 speaks of them: what they hold, and what acceptance then asks of it, as propositions.
 -- The marking reads the same fields and tests between them; theorems say that it accepts exactly this. Assumes nothing.
 use mathlib.Core.Path.{_≡_}
 use mathlib.Core.List.{List, [], _∷_, map}
@@ -63,7 +63,7 @@ readRunSheet m = do
   finished
   give (record { opening = opening; steps = steps })
 
--- "it is a trajectory of the model that ends unsafe"
+-- demand 2 for runs: a trajectory of the model that ends unsafe
 pub record RunHolds (limits : Limits) (model second : List ℕ) : Type 0 where
   pub m : Model
   pub modelEnd : ℕ
