@@ -1,14 +1,14 @@
 -- A sheet's header by the bytes of the sheet: its length, its version and its kind, each right or refused. Assumes nothing.
 use mathlib.Core.Path.{_≡_, refl, sym, ap, _∙_}
-use mathlib.Core.Bool.{Bool, true, false, cond, _&&_}
+use mathlib.Core.Bool.{true, false}
 use mathlib.Core.List.{List}
 use Prim.Native.Nat.{ℕ, _+_, _*_, _≤_, _<_}
 use native.Mathlib.Decide.{decLe}
 use native.Mathlib.Omega.{arith}
-use lib.Dec.{leb, eqb}
+use lib.Dec.{eqb}
 use lib.ListN.{length, getD, take, drop}
 use borrow.Author.Tests.{le-leb, lt-leb, eq-eqb, ne-eqb}
-use Rattle.sheets.specs.Reading.{Got, got, refused, Reader, andThen, _>>=_, _>>_, give, bigEndian, field, u8, u16, passing, must, lengthRight, sized, header, finished}
+use Rattle.sheets.specs.Reading.{got, refused, Reader, andThen, _>>_, give, bigEndian, u8, u16, passing, must, lengthRight, sized, header, finished}
 use Rattle.sheets.proofs.FieldLaws.{field-got, byte-at, two-at}
 use Rattle.sheets.proofs.Gives.{bind-got, then-got}
 use Rattle.sheets.proofs.Skipping.{bind-refused}

@@ -19,3 +19,11 @@ pub mod JointOrder
 pub mod JointList
 pub mod Placed
 pub mod RowPlaces
+pub mod GoodIndexLaws
+pub mod JointCounts
+pub mod JointLoops
+pub mod SheetLaws
+pub mod CertificateLaws
+pub mod EachLoop
+pub mod RunLaws
+pub mod StepLaws

@@ -18,8 +18,8 @@ use Rattle.sheets.specs.Certificate.{readRegions}
 use Rattle.sheets.proofs.Gives.{got-value, got-next, passes, gives-any, gives-many}
 
 -- whatever a reading gives, at any place of this sheet, has the property
-record GivesFrom {A : Type 0} (s : List ℕ) (P : A → Type 0) (r : Reader A) : Type 0 where
-  holds : (p : ℕ) (a : A) (next : ℕ) → r s p ≡ got a next → P a
+pub record GivesFrom {A : Type 0} (s : List ℕ) (P : A → Type 0) (r : Reader A) : Type 0 where
+  pub holds : (p : ℕ) (a : A) (next : ℕ) → r s p ≡ got a next → P a
 
 from-bind : {A B : Type 0} {s : List ℕ} {P : A → Type 0} {Q : B → Type 0} {r : Reader A} {f : A → Reader B} → GivesFrom s P r → ((a : A) → P a → GivesFrom s Q (f a)) → GivesFrom s Q (r >>= f)
 unfolding _>>=_
@@ -152,7 +152,7 @@ unsafe-within : (s : List ℕ) (n : ℕ) (components : List Component) → Gives
 unfolding readUnsafe
 unsafe-within s n components = from-bind from-any (λ modes u. from-bind (condition-within s 8 n) (λ rows w. from-give _ w))
 
-body-within : (s : List ℕ) (version : ℕ) → GivesFrom s (ModelWithin s) (readModelBody version)
+pub body-within : (s : List ℕ) (version : ℕ) → GivesFrom s (ModelWithin s) (readModelBody version)
 unfolding readModelBody
 body-within s version =
     from-bind from-any

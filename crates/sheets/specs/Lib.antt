@@ -9,3 +9,6 @@ pub mod Index
 pub mod ModelSheet
 pub mod Certificate
 pub mod RunSheet
+pub mod Counts
+pub mod CertificateAnswers
+pub mod RunAnswers

@@ -1,15 +1,13 @@
 -- The length, then the version, then the kind. Assumes nothing.
-use mathlib.Core.Path.{_≡_, sym, ap, _∙_}
-use mathlib.Core.Bool.{true, false, not}
-use Prim.Native.Nat.{ℕ, _+_, _*_, _<_, _≤_}
+use mathlib.Core.Path.{_≡_, sym, _∙_}
+use mathlib.Core.Bool.{true}
 use native.Mathlib.Omega.{arith}
 use borrow.Author.Needs.{needs}
 use borrow.Author.Tests.{not-true, not-false}
 use denote.Ref.{now}
-use lib.ListN.{length, getD}
-use Rattle.sheets.specs.Reading.{got, refused, lengthRight}
-use Rattle.sheets.specs.Answers.{gotField, gotAs}
-use Rattle.sheets.proofs.HeaderLaws.{length-short, length-long, length-told, right-least, header-unsized, header-version, header-kind, header-right, finished-right, finished-left}
+use Rattle.sheets.specs.Reading.{lengthRight}
+use Rattle.sheets.specs.Answers.{gotField}
+use Rattle.sheets.proofs.HeaderLaws.{right-least, header-unsized, header-version, header-kind, header-right}
 use Rattle.sheets.proofs.header.header.Statement.{statement}
 use Rattle.sheets.proofs.header.header.Tie as tie
 
@@ -30,15 +28,13 @@ shared-slice-read-version c =
     omega arith
 
 cast-version : tie.Need-cast-version
-cast-version c =
-    omega (arith, c .shared-slice-known2 .given 2)
+cast-version c = omega (arith, c .shared-slice-known2 .given 2)
 
 returns-2 : tie.Need-returns-2
 unfolding gotField
 returns-2 c =
     let s = now (c .before .before .before .before .before .args .s) in
     let right : lengthRight s ≡ true = sym (c .before .before .before .length-right .ensures) ∙ not-false (c .before .before .before .length-right .result) (c .before .before .if1 .left) in
-    let h = right-least s right in
     sym (header-version s (c .before .before .before .before .before .args .kind) right (c .if2 .taken))
 
 shared-slice-read-if3 : tie.Need-shared-slice-read-if3
@@ -49,15 +45,13 @@ shared-slice-read-if3 c =
     omega arith
 
 cast-if3 : tie.Need-cast-if3
-cast-if3 c =
-    omega (arith, c .shared-slice-known3 .given 3)
+cast-if3 c = omega (arith, c .shared-slice-known3 .given 3)
 
 returns-3 : tie.Need-returns-3
 unfolding gotField
 returns-3 c =
     let s = now (c .before .before .before .before .before .before .before .args .s) in
     let right : lengthRight s ≡ true = sym (c .before .before .before .before .before .length-right .ensures) ∙ not-false (c .before .before .before .before .before .length-right .result) (c .before .before .before .before .if1 .left) in
-    let h = right-least s right in
     sym (header-kind s (c .before .before .before .before .before .before .before .args .kind) right (c .before .before .if2 .left) (c .if3 .taken))
 
 returns-4 : tie.Need-returns-4
@@ -65,7 +59,6 @@ unfolding gotField
 returns-4 c =
     let s = now (c .before .before .before .before .before .before .before .args .s) in
     let right : lengthRight s ≡ true = sym (c .before .before .before .before .before .length-right .ensures) ∙ not-false (c .before .before .before .before .before .length-right .result) (c .before .before .before .before .if1 .left) in
-    let h = right-least s right in
     sym (header-right s (c .before .before .before .before .before .before .before .args .kind) right (c .before .before .if2 .left) (c .if3 .left))
 
 pub header-spec : {M : Type 1} → statement M

@@ -1,51 +1,37 @@
 -- The tests of the length one by one. Assumes nothing.
-use mathlib.Core.Path.{_≡_, sym, ap, _∙_}
-use mathlib.Core.Bool.{true, false, not}
-use Prim.Native.Nat.{ℕ, _+_, _*_, _<_, _≤_}
 use native.Mathlib.Omega.{arith}
 use borrow.Author.Needs.{needs}
-use borrow.Author.Tests.{not-true, not-false}
 use denote.Ref.{now}
-use lib.ListN.{length, getD}
-use Rattle.sheets.specs.Reading.{got, refused, lengthRight}
-use Rattle.sheets.specs.Answers.{gotField, gotAs}
-use Rattle.sheets.proofs.HeaderLaws.{length-short, length-long, length-told, right-least, header-unsized, header-version, header-kind, header-right, finished-right, finished-left}
+use Rattle.sheets.proofs.HeaderLaws.{length-short, length-long, length-told}
 use Rattle.sheets.proofs.header.length_right.Statement.{statement}
 use Rattle.sheets.proofs.header.length_right.Tie as tie
 
 returns : tie.Need-returns
-returns c =
-    length-short (now (c .before .args .s)) (c .if1 .taken)
+returns c = length-short (now (c .before .args .s)) (c .if1 .taken)
 
 returns-2 : tie.Need-returns-2
-returns-2 c =
-    length-long (now (c .before .before .args .s)) (c .before .if1 .left) (c .if2 .taken)
+returns-2 c = length-long (now (c .before .before .args .s)) (c .before .if1 .left) (c .if2 .taken)
 
 shared-slice-read-result : tie.Need-shared-slice-read-result
 shared-slice-read-result c = search needs
 
 cast-result : tie.Need-cast-result
-cast-result c =
-    omega (arith, c .shared-slice-known .given 0)
+cast-result c = omega (arith, c .shared-slice-known .given 0)
 
 mul-result : tie.Need-mul-result
-mul-result c =
-    omega (arith, c .shared-slice-known .given 0)
+mul-result c = omega (arith, c .shared-slice-known .given 0)
 
 shared-slice-read-result-2 : tie.Need-shared-slice-read-result-2
 shared-slice-read-result-2 c = search needs
 
 cast-result-2 : tie.Need-cast-result-2
-cast-result-2 c =
-    omega (arith, c .shared-slice-known2 .given 0, c .shared-slice-known2 .given 1)
+cast-result-2 c = omega (arith, c .shared-slice-known2 .given 0, c .shared-slice-known2 .given 1)
 
 add-result : tie.Need-add-result
-add-result c =
-    omega (arith, c .shared-slice-known2 .given 0, c .shared-slice-known2 .given 1)
+add-result c = omega (arith, c .shared-slice-known2 .given 0, c .shared-slice-known2 .given 1)
 
 add-result-2 : tie.Need-add-result-2
-add-result-2 c =
-    omega (arith, c .shared-slice-known2 .given 0, c .shared-slice-known2 .given 1)
+add-result-2 c = omega (arith, c .shared-slice-known2 .given 0, c .shared-slice-known2 .given 1)
 
 returns-3 : tie.Need-returns-3
 returns-3 c =

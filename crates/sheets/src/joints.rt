@@ -1,0 +1,366 @@
+// Locations and joint switches of a model, by its index. Joint switches are counted, and one is found by its number among those of its
+// location and event; they are never listed. The sheet is handed over for the contracts, which speak of the model: no byte of it is read.
+use crate::model::has_event;
+ghost use mathlib.Core.Path.{_≡_};
+ghost use mathlib.Core.Bool.{cond, false};
+ghost use mathlib.Core.List.{[], _++_};
+ghost use Prim.Native.Nat.{_+_, _-_, _<_, _≤_, min};
+ghost use lib.Dec.{eqb};
+ghost use lib.ListN.{length, getD, set, replicate};
+ghost use Rattle.sheets.specs.Model.{hasEvent};
+ghost use Rattle.sheets.specs.Locations.{locationCount, modesAt, locationOf};
+ghost use Rattle.sheets.specs.Joint.{stays, switchOf, leaves, leaving, bit, scopeMask, silent, together, switchesOf, modesAfter, joinAll, countUp, joints};
+ghost use Rattle.sheets.specs.Index.{entry, GoodIndex, componentsFrom};
+ghost use Rattle.sheets.specs.Counts.{componentAt, perComponent, parts, fourSwitches, KnownSwitches};
+
+// How many components there are.
+fn component_count(s: &[u8], index: &[u16; 988]) -> usize
+    requires { ⌜ GoodIndex (now s) (now index) ⌝ }
+    ensures { λ r. ⌜ r ≡ entry (now (index .entry)) 1 ⌝ }
+{
+    index[1] as usize
+}
+
+// How many modes a component has.
+fn mode_count(s: &[u8], index: &[u16; 988], k: usize) -> u32
+    requires { ⌜ GoodIndex (now s) (now index) ⌝ }
+    requires { ⌜ k < entry (now index) 1 ⌝ }
+    ensures { λ r. ⌜ r ≡ length (componentAt (now (s .entry)) (now (index .entry)) k .modes) ⌝ }
+{
+    index[16 + 219 * k + 1] as u32
+}
+
+// How many switches a component has.
+fn switch_count(s: &[u8], index: &[u16; 988], k: usize) -> usize
+    requires { ⌜ GoodIndex (now s) (now index) ⌝ }
+    requires { ⌜ k < entry (now index) 1 ⌝ }
+    ensures { λ r. ⌜ r ≡ length (componentAt (now (s .entry)) (now (index .entry)) k .switches) ⌝ }
+{
+    index[16 + 219 * k + 2] as usize
+}
+
+// How many locations there are: the product of the mode counts.
+pub fn location_count(s: &[u8], index: &[u16; 988]) -> u32
+    requires { ⌜ GoodIndex (now s) (now index) ⌝ }
+    ensures { λ r. ⌜ r ≡ locationCount (componentsFrom (now (s .entry)) (now (index .entry))) ⌝ }
+{
+    let mut count: u32 = 1;
+    let mut k = component_count(s, index);
+    while 0 < k {
+        k -= 1;
+        count = mode_count(s, index, k) * count;
+    }
+    count
+}
+
+// The modes of a location, one per component, and 0 for an absent one. They are the digits of its number, the last component's last.
+pub fn modes_at(s: &[u8], index: &[u16; 988], location: u32) -> [u8; 4]
+    requires { ⌜ GoodIndex (now s) (now index) ⌝ }
+    requires { ⌜ location < locationCount (componentsFrom (now s) (now index)) ⌝ }
+    ensures { λ r. ⌜ r ≡ modesAt (componentsFrom (now (s .entry)) (now (index .entry))) location ++ replicate (4 - entry (now (index .entry)) 1) 0 ⌝ }
+{
+    let mut modes = [0u8; 4];
+    let mut left = location;
+    let mut k = component_count(s, index);
+    while 0 < k {
+        k -= 1;
+        let count = mode_count(s, index, k);
+        modes[k] = (left % count) as u8;
+        left /= count;
+    }
+    modes
+}
+
+// Whether a component's switch has this label and leaves this mode.
+fn leaves_by(s: &[u8], index: &[u16; 988], k: usize, i: usize, mode: u8, e: u32) -> bool
+    requires { ⌜ GoodIndex (now s) (now index) ⌝ }
+    requires { ⌜ k < entry (now index) 1 ⌝ }
+    requires { ⌜ i < length (componentAt (now s) (now index) k .switches) ⌝ }
+    ensures { λ r. ⌜ r ≡ leaves mode e (switchOf (componentAt (now (s .entry)) (now (index .entry)) k) i) ⌝ }
+{
+    let place = 16 + 219 * k + 59 + 5 * i;
+    if index[place + 2] as u32 == e {
+        index[place] as u32 == mode as u32
+    } else {
+        false
+    }
+}
+
+// 1 for yes, 0 for no.
+fn bit_of(yes: bool) -> u32
+    ensures { λ r. ⌜ r ≡ bit yes ⌝ }
+{
+    if yes { 1 } else { 0 }
+}
+
+// How many switches of a component have this label and leave this mode.
+fn leaving_count(s: &[u8], index: &[u16; 988], k: usize, mode: u8, e: u32) -> u32
+    requires { ⌜ GoodIndex (now s) (now index) ⌝ }
+    requires { ⌜ k < entry (now index) 1 ⌝ }
+    ensures { λ r. ⌜ r ≡ length (leaving (componentAt (now (s .entry)) (now (index .entry)) k) mode e) ⌝ }
+{
+    let switches = switch_count(s, index, k);
+    let mut count: u32 = 0;
+    let mut i: usize = 0;
+    while i < switches {
+        count += bit_of(leaves_by(s, index, k, i, mode, e));
+        i += 1;
+    }
+    count
+}
+
+// The number of one of them, by its place among them; 255 where there are not so many.
+fn nth_leaving(s: &[u8], index: &[u16; 988], k: usize, mode: u8, e: u32, d: u32) -> u8
+    requires { ⌜ GoodIndex (now s) (now index) ⌝ }
+    requires { ⌜ k < entry (now index) 1 ⌝ }
+    ensures { λ r. ⌜ r ≡ getD (leaving (componentAt (now (s .entry)) (now (index .entry)) k) mode e) d stays ⌝ }
+{
+    let switches = switch_count(s, index, k);
+    let mut left = d;
+    let mut i: usize = 0;
+    while i < switches {
+        let here = i;
+        i += 1;
+        if leaves_by(s, index, k, here, mode, e) {
+            if left == 0 {
+                return here as u8;
+            }
+            left -= 1;
+        }
+    }
+    255
+}
+
+// A number of an index, as counts have it.
+fn wide(x: u16) -> u32
+    ensures { λ r. ⌜ r ≡ x ⌝ }
+{
+    x as u32
+}
+
+// Whether a component is in the scope of an event.
+fn in_scope(s: &[u8], index: &[u16; 988], k: usize, e: u32) -> bool
+    requires { ⌜ GoodIndex (now s) (now index) ⌝ }
+    requires { ⌜ (k < entry (now index) 1) × (e ≤ 15) ⌝ }
+    ensures { λ r. ⌜ r ≡ hasEvent (componentAt (now (s .entry)) (now (index .entry)) k .alphabet) e ⌝ }
+{
+    has_event(wide(index[16 + 219 * k]), e)
+}
+
+// The scope mask of an event: a one for each component that has it in its alphabet, component 0 lowest.
+fn scope_mask(s: &[u8], index: &[u16; 988], e: u32) -> u32
+    requires { ⌜ GoodIndex (now s) (now index) ⌝ }
+    requires { ⌜ e ≤ 15 ⌝ }
+    ensures { λ r. ⌜ r ≡ scopeMask (componentsFrom (now (s .entry)) (now (index .entry))) e ⌝ }
+{
+    let mut mask: u32 = 0;
+    let mut k = component_count(s, index);
+    while 0 < k {
+        k -= 1;
+        mask = bit_of(in_scope(s, index, k, e)) + 2 * mask;
+    }
+    mask
+}
+
+// In how many ways a component takes part in an event: by its switches if it is in the scope, else in one, by staying.
+fn part_count(s: &[u8], index: &[u16; 988], k: usize, mode: u8, e: u32) -> u32
+    requires { ⌜ GoodIndex (now s) (now index) ⌝ }
+    requires { ⌜ (k < entry (now index) 1) × (e ≤ 15) ⌝ }
+    ensures { λ r. ⌜ r ≡ length (parts (componentAt (now (s .entry)) (now (index .entry)) k) mode e) ⌝ }
+{
+    if in_scope(s, index, k, e) {
+        leaving_count(s, index, k, mode, e)
+    } else {
+        1
+    }
+}
+
+// One of these ways, by its number.
+fn nth_part(s: &[u8], index: &[u16; 988], k: usize, mode: u8, e: u32, d: u32) -> u8
+    requires { ⌜ GoodIndex (now s) (now index) ⌝ }
+    requires { ⌜ (k < entry (now index) 1) × (e ≤ 15) ⌝ }
+    ensures { λ r. ⌜ r ≡ getD (parts (componentAt (now (s .entry)) (now (index .entry)) k) mode e) d stays ⌝ }
+{
+    if in_scope(s, index, k, e) {
+        nth_leaving(s, index, k, mode, e, d)
+    } else {
+        255
+    }
+}
+
+// How many joint switches have event 0: a sum over the components.
+fn silent_count(s: &[u8], index: &[u16; 988], modes: [u8; 4]) -> u32
+    requires { ⌜ GoodIndex (now s) (now index) ⌝ }
+    ensures { λ r. ⌜ r ≡ length (silent (componentsFrom (now (s .entry)) (now (index .entry))) (perComponent (now (index .entry)) modes)) ⌝ }
+{
+    let mut count: u32 = 0;
+    let mut k = component_count(s, index);
+    while 0 < k {
+        k -= 1;
+        count = leaving_count(s, index, k, modes[k], 0) + count;
+    }
+    count
+}
+
+// In how many ways the members of an event's scope move together: a product over the components.
+fn together_count(s: &[u8], index: &[u16; 988], modes: [u8; 4], e: u32) -> u32
+    requires { ⌜ GoodIndex (now s) (now index) ⌝ }
+    requires { ⌜ e ≤ 15 ⌝ }
+    ensures { λ r. ⌜ r ≡ length (together (componentsFrom (now (s .entry)) (now (index .entry))) (perComponent (now (index .entry)) modes) e) ⌝ }
+{
+    let mut count: u32 = 1;
+    let mut k = component_count(s, index);
+    while 0 < k {
+        k -= 1;
+        count = part_count(s, index, k, modes[k], e) * count;
+    }
+    count
+}
+
+// How many joint switches an event has in a location with these modes. As many components move as the scope mask has ones; with none of
+// them there is no step.
+pub fn event_count(s: &[u8], index: &[u16; 988], modes: [u8; 4], e: u32) -> u32
+    requires { ⌜ GoodIndex (now s) (now index) ⌝ }
+    requires { ⌜ e ≤ 15 ⌝ }
+    ensures { λ r. ⌜ r ≡ length (switchesOf (componentsFrom (now (s .entry)) (now (index .entry))) (perComponent (now (index .entry)) modes) e) ⌝ }
+{
+    if e == 0 {
+        return silent_count(s, index, modes);
+    }
+    let mask = scope_mask(s, index, e);
+    if u32::count_ones(mask) == 0 {
+        return 0;
+    }
+    together_count(s, index, modes, e)
+}
+
+// A count of joint switches, with those of one more location: one above the limit as soon as there are more.
+fn with_location(s: &[u8], index: &[u16; 988], modes: [u8; 4], before: u32, limit: u32) -> u32
+    requires { ⌜ GoodIndex (now s) (now index) ⌝ }
+    requires { ⌜ (before ≤ limit) × (limit ≤ 4096) ⌝ }
+    ensures { λ r. ⌜ r ≡ min (before + length (joinAll (switchesOf (componentsFrom (now (s .entry)) (now (index .entry))) (perComponent (now (index .entry)) modes)) (countUp 0 16))) (limit + 1) ⌝ }
+{
+    let mut count = before;
+    let mut e: u32 = 0;
+    while e < 16 {
+        count += event_count(s, index, modes, e);
+        if limit < count {
+            return limit + 1;
+        }
+        e += 1;
+    }
+    count
+}
+
+// How many joint switches there are, or one above the limit where there are more.
+pub fn joint_count(s: &[u8], index: &[u16; 988], locations: u32, limit: u32) -> u32
+    requires { ⌜ GoodIndex (now s) (now index) ⌝ }
+    requires { ⌜ (locations ≡ locationCount (componentsFrom (now s) (now index))) × (limit ≤ 4096) ⌝ }
+    ensures { λ r. ⌜ r ≡ min (length (joints (componentsFrom (now (s .entry)) (now (index .entry))))) (limit + 1) ⌝ }
+{
+    let mut count: u32 = 0;
+    let mut location: u32 = 0;
+    while location < locations {
+        count = with_location(s, index, modes_at(s, index, location), count, limit);
+        if limit < count {
+            return count;
+        }
+        location += 1;
+    }
+    count
+}
+
+// Four switch numbers where one component moves.
+fn alone(k: usize, i: u8) -> [u8; 4]
+    requires { ⌜ k < 4 ⌝ }
+    ensures { λ r. ⌜ r ≡ set (replicate 4 stays) k i ⌝ }
+{
+    let mut switches = [255u8; 4];
+    switches[k] = i;
+    switches
+}
+
+// A joint switch of event 0, by its number: the first component with so many switches moves by one of them.
+fn silent_at(s: &[u8], index: &[u16; 988], modes: [u8; 4], x: u32) -> [u8; 4]
+    requires { ⌜ GoodIndex (now s) (now index) ⌝ }
+    requires { ⌜ x < length (silent (componentsFrom (now s) (now index)) (perComponent (now index) modes)) ⌝ }
+    ensures { λ r. ⌜ r ≡ fourSwitches (getD (silent (componentsFrom (now (s .entry)) (now (index .entry))) (perComponent (now (index .entry)) modes)) x []) ⌝ }
+{
+    let components = component_count(s, index);
+    let mut left = x;
+    let mut k: usize = 0;
+    while k < components {
+        let count = leaving_count(s, index, k, modes[k], 0);
+        if left < count {
+            return alone(k, nth_leaving(s, index, k, modes[k], 0, left));
+        }
+        left -= count;
+        k += 1;
+    }
+    [255; 4]
+}
+
+// A joint switch of an event from 1, by its number: its digits are the numbers of the components' parts, the last component's last.
+fn together_at(s: &[u8], index: &[u16; 988], modes: [u8; 4], e: u32, x: u32) -> [u8; 4]
+    requires { ⌜ GoodIndex (now s) (now index) ⌝ }
+    requires { ⌜ e ≤ 15 ⌝ }
+    requires { ⌜ x < length (together (componentsFrom (now s) (now index)) (perComponent (now index) modes) e) ⌝ }
+    ensures { λ r. ⌜ r ≡ fourSwitches (getD (together (componentsFrom (now (s .entry)) (now (index .entry))) (perComponent (now (index .entry)) modes) e) x []) ⌝ }
+{
+    let mut switches = [255u8; 4];
+    let mut left = x;
+    let mut k = component_count(s, index);
+    while 0 < k {
+        k -= 1;
+        let count = part_count(s, index, k, modes[k], e);
+        switches[k] = nth_part(s, index, k, modes[k], e, left % count);
+        left /= count;
+    }
+    switches
+}
+
+// A joint switch by its number among those of its event in a location with these modes: a switch number per component, 255 for a staying
+// or absent one.
+pub fn joint_at(s: &[u8], index: &[u16; 988], modes: [u8; 4], e: u32, x: u32) -> [u8; 4]
+    requires { ⌜ GoodIndex (now s) (now index) ⌝ }
+    requires { ⌜ e ≤ 15 ⌝ }
+    requires { ⌜ x < length (switchesOf (componentsFrom (now s) (now index)) (perComponent (now index) modes) e) ⌝ }
+    ensures { λ r. ⌜ r ≡ fourSwitches (getD (switchesOf (componentsFrom (now (s .entry)) (now (index .entry))) (perComponent (now (index .entry)) modes) e) x []) ⌝ }
+{
+    if e == 0 {
+        silent_at(s, index, modes, x)
+    } else {
+        together_at(s, index, modes, e, x)
+    }
+}
+
+// A component's mode after a joint switch.
+fn mode_after(s: &[u8], index: &[u16; 988], k: usize, mode: u8, i: u8) -> u8
+    requires { ⌜ GoodIndex (now s) (now index) ⌝ }
+    requires { ⌜ k < entry (now index) 1 ⌝ }
+    requires { ⌜ (eqb i stays ≡ false → i < length (componentAt (now s) (now index) k .switches)) ⌝ }
+    ensures { λ r. ⌜ r ≡ cond (eqb i stays) mode (switchOf (componentAt (now (s .entry)) (now (index .entry)) k) i .target) ⌝ }
+{
+    if i == 255 {
+        mode
+    } else {
+        index[16 + 219 * k + 59 + 5 * (i as usize) + 1] as u8
+    }
+}
+
+// The location that a joint switch leads to.
+pub fn target_of(s: &[u8], index: &[u16; 988], modes: [u8; 4], switches: [u8; 4]) -> u32
+    requires { ⌜ GoodIndex (now s) (now index) ⌝ }
+    requires { ⌜ KnownSwitches (now index) switches ⌝ }
+    ensures { λ r. ⌜ r ≡ locationOf (componentsFrom (now (s .entry)) (now (index .entry))) (modesAfter (componentsFrom (now (s .entry)) (now (index .entry))) (perComponent (now (index .entry)) modes) (perComponent (now (index .entry)) switches)) ⌝ }
+{
+    let mut location: u32 = 0;
+    let mut unit: u32 = 1;
+    let mut k = component_count(s, index);
+    while 0 < k {
+        k -= 1;
+        location = (mode_after(s, index, k, modes[k], switches[k]) as u32) * unit + location;
+        unit = mode_count(s, index, k) * unit;
+    }
+    location
+}
