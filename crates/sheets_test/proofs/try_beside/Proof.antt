@@ -1,0 +1,66 @@
+-- A model that reads well has a good index. Assumes nothing.
+use mathlib.Core.Path.{_≡_}
+use mathlib.Core.List.{List}
+use Prim.Native.Nat.{ℕ}
+use Rattle.sheets.specs.declared.Next.{Next}
+use Rattle.sheets.specs.declared.Next.the-variants as next
+use Rattle.sheets.specs.Index.{modelFrom, GoodIndex}
+use Rattle.sheets.specs.Answers.{gotAs}
+use Rattle.sheets.specs.ModelSheet.{examLimits, readModel}
+use Rattle.sheets.proofs.GoodIndexLaws.{index-good}
+use Rattle.sheets.proofs.ChainLaws.{told-at}
+use borrow.Author.Needs.{needs}
+use Rattle.sheets_test.proofs.try_beside.Statement.{statement}
+use Rattle.sheets_test.proofs.try_beside.Tie as tie
+
+good : {s index : List ℕ} {x : Next} {p : ℕ} → gotAs (modelFrom s index) x ≡ readModel examLimits s → x ≡ next.At p → GoodIndex s index
+good {s} {index} {x} {p} e h = index-good examLimits s index p (told-at (modelFrom s index) (readModel examLimits s) e h)
+
+read-model-requires : tie.Need-read-model-requires
+read-model-requires c κs = search needs
+
+enum-known-number : tie.Need-enum-known-number
+enum-known-number c = search needs
+
+answer-requires : tie.Need-answer-requires
+answer-requires c κs = search needs
+
+enum-told : tie.Need-enum-told
+enum-told c = search needs
+
+try-regions-requires : tie.Need-try-regions-requires
+try-regions-requires c κs = good (c .before .before .before .before .read-model .ensures) (c .before .before .enum-told .given .1)
+
+try-opening-requires : tie.Need-try-opening-requires
+try-opening-requires c κs = good (c .before .before .before .before .before .read-model .ensures) (c .before .before .before .enum-told .given .1)
+
+try-step-requires : tie.Need-try-step-requires
+try-step-requires c κs = good (c .before .before .before .before .before .read-model .ensures) (c .before .before .before .enum-told .given .1)
+
+returns : tie.Need-returns
+returns c = search needs
+
+returns-2 : tie.Need-returns-2
+returns-2 c = search needs
+
+returns-3 : tie.Need-returns-3
+returns-3 c = search needs
+
+returns-4 : tie.Need-returns-4
+returns-4 c = search needs
+
+pub try-beside-spec : {M : Type 1} → statement M
+try-beside-spec =
+    tie.close
+    (tie.spec
+    read-model-requires
+    enum-known-number
+    answer-requires
+    enum-told
+    try-regions-requires
+    try-opening-requires
+    try-step-requires
+    returns
+    returns-2
+    returns-3
+    returns-4)
