@@ -7,4 +7,5 @@ pub mod CertificateExactly
 pub mod RunExactly
 pub mod Demand
 pub mod Rejected
+pub mod Movers
 pub mod Twelve

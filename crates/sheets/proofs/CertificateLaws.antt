@@ -24,6 +24,7 @@ use Rattle.sheets.specs.Certificate.{readRegions, readEntries, readProof
 use Rattle.sheets.specs.CertificateAnswers.{regionsFrom, regionsFor, GoodRegions, Head, readHead}
 use Rattle.sheets.proofs.Gives.{got-value, passes, bind-got}
 use Rattle.sheets.proofs.Skipping.{rows-got, rows-cut}
+use Rattle.sheets.proofs.ChainLaws.{regroup}
 use Rattle.sheets.proofs.FieldLaws.{range-read, byte-read}
 use Rattle.sheets.proofs.ConditionLaws.{length-rows}
 use Rattle.sheets.proofs.IndexLaws.{kept-set, kept-then, agree-low, span-same, span-put}
@@ -145,16 +146,6 @@ good-regions s n locations at regions next e =
       within = λ l h j k. at l h .within (entry regions (2 * l)) (entry regions (2 * l + 1)) refl j k;
     }
 
--- Readings one after the other, in whichever way they are grouped
-then-assoc : {A B C : Type 0} (x : Got A) (f : A → Reader B) (g : B → Reader C) (s : List ℕ) → andThen (andThen x f s) g s ≡ andThen x (λ a. f a >>= g) s
-unfolding andThen _>>=_
-then-assoc (got a next) f g s = refl
-then-assoc (refused number place) f g s = refl
-
-pub bind-assoc : {A B C : Type 0} (r : Reader A) (f : A → Reader B) (g : B → Reader C) → _≡_ {A = Reader C} ((r >>= f) >>= g) (r >>= λ a. f a >>= g)
-unfolding _>>=_
-bind-assoc r f g = λ i s p. then-assoc (r s p) f g s i
-
 -- a proof is how it begins, then its entries
 pub proof-reads : (hypotheses : ℕ) (unsafe : Bool) → _≡_ {A = Reader Proof} (readProof hypotheses unsafe) (readHead unsafe >>= λ h. readEntries hypotheses 0 (h .count) >>= λ entries. give (record { k = h .k; entries = entries }))
 unfolding readProof readHead _>>=_ give andThen
@@ -162,7 +153,7 @@ proof-reads hypotheses unsafe =
     let most = cond unsafe 0 (2 ^ 24 - 1) in
     let rest : Head → Reader Proof = λ h. readEntries hypotheses 0 (h .count) >>= λ entries. give (record { k = h .k; entries = entries }) in
     let start : ℕ → Reader Head = λ k. within 0 128 u8 >>= λ count. give (record { k = k; count = count }) in
-    sym (bind-assoc (within 0 most u32) start rest ∙ λ i. within 0 most u32 >>= λ k. bind-assoc (within 0 128 u8) (λ count. give (record { k = k; count = count })) rest i)
+    sym (regroup (within 0 most u32) start rest ∙ λ i. within 0 most u32 >>= λ k. regroup (within 0 128 u8) (λ count. give (record { k = k; count = count })) rest i)
 
 -- an entry's hypothesis, not below the least
 pub least-in : (least v p next : ℕ) → least ≤ v → passing (λ v. leb least v) 9 p (got v next) ≡ got v next

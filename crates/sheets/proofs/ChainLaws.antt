@@ -34,6 +34,10 @@ pub bind-assoc : {A B C : Type 0} (r : Reader A) (f : A → Reader B) (g : B →
 unfolding _>>=_
 bind-assoc r f g s p = assoc-step (r s p) f g s
 
+-- the same, of the readers themselves
+pub regroup : {A B C : Type 0} (r : Reader A) (f : A → Reader B) (g : B → Reader C) → _≡_ {A = Reader C} ((r >>= f) >>= g) (r >>= λ a. f a >>= g)
+regroup r f g = λ i s p. bind-assoc r f g s p i
+
 -- what follows may be exchanged for the same
 same-step : {A B : Type 0} (x : Got A) (f g : A → Reader B) (s : List ℕ) → ((a : A) (p : ℕ) → f a s p ≡ g a s p) → andThen x f s ≡ andThen x g s
 unfolding andThen

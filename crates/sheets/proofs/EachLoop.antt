@@ -7,17 +7,7 @@ use native.Mathlib.Numerals.{add-one}
 use native.Mathlib.Omega.{arith}
 use Rattle.sheets.specs.Reading.{Got, got, refused, Reader, andThen, _>>=_, give, each}
 use Rattle.sheets.specs.Joint.{countUp}
-use Rattle.sheets.proofs.ReadLoop.{onto, upTo, up-to-same, up-to-snoc}
-
-onto-nil : {A : Type 0} (g : Got (List A)) → onto [] g ≡ g
-unfolding onto
-onto-nil (got ys p) = refl
-onto-nil (refused number place) = refl
-
-onto-cons : {A : Type 0} (xs : List A) (a : A) (g : Got (List A)) (s : List ℕ) → onto xs (andThen g (λ rest. give (a ∷ rest)) s) ≡ onto (xs ++ (a ∷ [])) g
-unfolding onto andThen give
-onto-cons xs a (got ys p) s = ap (λ zs. got zs p) (sym (append-assoc xs (a ∷ []) ys))
-onto-cons xs a (refused number place) s = refl
+use Rattle.sheets.proofs.ReadLoop.{onto, upTo, up-to-same, up-to-snoc, onto-nil, onto-cons}
 
 module _ {A : Type 0} (r : ℕ → Reader A) (count : ℕ) (s : List ℕ) (whole : Got (List A)) where
   -- k values are read, told by f, and the rest is read from p on

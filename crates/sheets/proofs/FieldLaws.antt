@@ -1,14 +1,14 @@
 -- Fields read from bytes: where a field is whole, its number by its bytes; where it is cut, the refusal. Assumes nothing.
 use mathlib.Core.Path.{_≡_, refl, sym, ap, _∙_, subst}
-use mathlib.Core.Bool.{Bool, true, false, cond, _&&_}
+use mathlib.Core.Bool.{Bool, true, false, cond, _&&_, _||_}
 use mathlib.Core.List.{List, [], _∷_}
 use Prim.Native.Nat.{ℕ, zero, suc, _+_, _*_, _^_, _≤_, _<_}
 use native.Mathlib.Omega.{arith}
 use native.Mathlib.Numerals.{add-one}
-use lib.Dec.{leb, ltb, leb→le, ltb→lt}
+use lib.Dec.{leb, ltb, eqb, leb→le, ltb→lt}
 use lib.ListN.{length, getD, take, drop}
 use lib.Seq.{drop-cons, drop-drop}
-use borrow.Author.Tests.{le-leb, lt-leb, lt-ltb, le-ltb, leb-true}
+use borrow.Author.Tests.{le-leb, lt-leb, lt-ltb, le-ltb, eq-eqb, ne-eqb, leb-true}
 use Rattle.sheets.specs.Reading.{Got, got, refused, Reader, bigEndian, field, u8, u16, u32, passing, must, within, below}
 use Rattle.sheets.proofs.Gives.{got-value, got-next, Tested, tested, and-left, and-right}
 
@@ -115,3 +115,20 @@ unfolding below must
 count-read r count s p v next e =
     let w = tested (λ v. ltb v count) 5 p (r s p) v next e in
     record { less = ltb→lt v count (w .passed); read = w .read }
+
+-- A number below a count, or 255
+abbrev pub numbered : ℕ → ℕ → Bool
+numbered count v = ltb v count || eqb v 255
+
+module _ (count v p next : ℕ) where
+  pub numbered-below : v < count → passing (numbered count) 5 p (got v next) ≡ got v next
+  unfolding passing
+  numbered-below h = rw (lt-ltb v count h) refl
+
+  pub numbered-last : count ≤ v → v ≡ 255 → passing (numbered count) 5 p (got v next) ≡ got v next
+  unfolding passing
+  numbered-last h e = rw (le-ltb v count h, eq-eqb v 255 e) refl
+
+  pub numbered-not : count ≤ v → (v ≡ 255 → ⊥) → passing (numbered count) 5 p (got v next) ≡ refused 5 p
+  unfolding passing
+  numbered-not h e = rw (le-ltb v count h, ne-eqb v 255 e) refl

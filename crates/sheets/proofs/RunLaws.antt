@@ -26,7 +26,7 @@ use Rattle.sheets.specs.RunSheet.{readValues}
 use Rattle.sheets.specs.RunAnswers.{readValue, gotSigned, eight, heldSwitches, switchByte, switchBytes}
 use Rattle.sheets.proofs.Gives.{bind-got, tested}
 use Rattle.sheets.proofs.Skipping.{bind-refused}
-use Rattle.sheets.proofs.FieldLaws.{byte-at, byte-read}
+use Rattle.sheets.proofs.FieldLaws.{byte-at, byte-read, numbered}
 use Rattle.sheets.proofs.ReadLoop.{upTo, up-to-snoc, Reading, reading-starts, reading-goes-on, reading-stops, reading-ends}
 use Rattle.sheets.proofs.EachLoop.{ReadingEach, each-starts, each-goes-on, each-stops, each-ends}
 
@@ -176,31 +176,15 @@ pub values-held : (values : List ℤ) (n : ℕ) → Front (pos 0) 8 values n →
 unfolding eight
 values-held values n w h = front-end (pos 0) 8 values n w h
 
--- A switch byte: below a count, or 255
-abbrev pub switchTest : ℕ → ℕ → Bool
-switchTest count v = ltb v count || eqb v 255
-
-pub switch-told : (count : ℕ) (s : List ℕ) (p : ℕ) → switchByte count s p ≡ passing (switchTest count) 5 p (u8 s p)
+-- A switch byte is below a count, or 255
+switch-told : (count : ℕ) (s : List ℕ) (p : ℕ) → switchByte count s p ≡ passing (numbered count) 5 p (u8 s p)
 unfolding switchByte stays must
 switch-told count s p = refl
-
-module _ (count v p after : ℕ) where
-  pub switch-below : v < count → passing (switchTest count) 5 p (got v after) ≡ got v after
-  unfolding passing
-  switch-below h = rw (lt-ltb v count h) refl
-
-  pub switch-stays : count ≤ v → v ≡ 255 → passing (switchTest count) 5 p (got v after) ≡ got v after
-  unfolding passing
-  switch-stays h e = rw (le-ltb v count h, eq-eqb v 255 e) refl
-
-  pub switch-out : count ≤ v → (v ≡ 255 → ⊥) → passing (switchTest count) 5 p (got v after) ≡ refused 5 p
-  unfolding passing
-  switch-out h e = rw (le-ltb v count h, ne-eqb v 255 e) refl
 
 -- a switch byte that was read is that byte of the sheet
 pub switch-is : (count : ℕ) (s : List ℕ) (p v after : ℕ) → switchByte count s p ≡ got v after → v ≡ getD s p 0
 switch-is count s p v after e =
-    let w = tested (switchTest count) 5 p (u8 s p) v after (sym (switch-told count s p) ∙ e) in
+    let w = tested (numbered count) 5 p (u8 s p) v after (sym (switch-told count s p) ∙ e) in
     let b = byte-read s p v after (w .read) in
     b .value ∙ byte-at s p (omega (arith, b .whole))
 

@@ -32,7 +32,7 @@ use Rattle.sheets.specs.RunAnswers.{eight, heldValues, fourSwitches, hel
 use Rattle.sheets.proofs.Gives.{Gives, gives-bind, gives-give, gives-any, gives-many, gives-weaken, bind-got}
 use Rattle.sheets.proofs.Skipping.{bind-refused}
 use Rattle.sheets.proofs.FieldLaws.{field-read, range-read}
-use Rattle.sheets.proofs.CertificateLaws.{bind-assoc}
+use Rattle.sheets.proofs.ChainLaws.{regroup}
 
 -- The eight values are the values that were read, as a point of which what a list does not reach counts as 0
 item-zeros : (k j : ℕ) → getD (replicate k (pos 0)) j (pos 0) ≡ pos 0
@@ -272,12 +272,12 @@ opening-split m =
     let count = locationCount (m .components) in
     let made : ℕ → ℕ → ℕ → ℕ → Reader Opening = λ q steps place location. give (record { q = q; steps = steps; place = place; location = location; values = [] }) in
     sym
-    (bind-assoc (within 1 (2 ^ 24 - 1) u32) (λ q. within 0 4095 u16 >>= λ steps. here >>= λ place. below count u8 >>= made q steps place) rest
+    (regroup (within 1 (2 ^ 24 - 1) u32) (λ q. within 0 4095 u16 >>= λ steps. here >>= λ place. below count u8 >>= made q steps place) rest
     ∙ λ i. within 1 (2 ^ 24 - 1) u32 >>= λ q.
-    (bind-assoc (within 0 4095 u16) (λ steps. here >>= λ place. below count u8 >>= made q steps place) rest
+    (regroup (within 0 4095 u16) (λ steps. here >>= λ place. below count u8 >>= made q steps place) rest
     ∙ λ j. within 0 4095 u16 >>= λ steps.
-    (bind-assoc here (λ place. below count u8 >>= made q steps place) rest
-    ∙ λ k. here >>= λ place. bind-assoc (below count u8) (made q steps place) rest k) j) i)
+    (regroup here (λ place. below count u8 >>= made q steps place) rest
+    ∙ λ k. here >>= λ place. regroup (below count u8) (made q steps place) rest k) j) i)
 
 module _ (s : List ℕ) (at locations : ℕ) where
   pub fields-first : (number place : ℕ) → within 1 (2 ^ 24 - 1) u32 s at ≡ refused number place → readOpeningFields locations s at ≡ refused number place

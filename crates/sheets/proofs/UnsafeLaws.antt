@@ -1,5 +1,5 @@
--- Unsafe conditions read into an index: the law of a loop that reads once for each element of a list, the byte that names a mode or is
--- 255, and components that stay the same while only numbers after their blocks change. Assumes nothing.
+-- Unsafe conditions read into an index: the law of a loop that reads once for each element of a list, the byte that names a mode, and
+-- components that stay the same while only numbers after their blocks change. Assumes nothing.
 use mathlib.Core.Path.{_≡_, refl, sym, ap, _∙_, subst}
 use mathlib.Core.Bool.{Bool, true, false, _||_}
 use mathlib.Core.List.{List, [], _∷_, _++_, map, append-nil, append-assoc}
@@ -8,9 +8,9 @@ use native.Mathlib.Numerals.{add-one}
 use native.Mathlib.Omega.{arith}
 use lib.Dec.{T, ltb, eqb, ltb→lt}
 use lib.ListN.{length, drop, length-map, drop-of-length-le}
-use borrow.Author.Tests.{lt-ltb, le-ltb, eq-eqb, ne-eqb, eqb-true}
+use borrow.Author.Tests.{eqb-true}
 use Rattle.sheets.specs.declared.Next.{Next}
-use Rattle.sheets.specs.Reading.{Got, got, refused, Reader, andThen, _>>=_, give, u8, passing, must, each}
+use Rattle.sheets.specs.Reading.{Got, got, refused, Reader, andThen, _>>=_, give, u8, must, each}
 use Rattle.sheets.specs.Rows.{Condition, readCondition}
 use Rattle.sheets.specs.Model.{Component, readUnsafe}
 use Rattle.sheets.specs.Joint.{countUp}
@@ -19,6 +19,7 @@ use Rattle.sheets.specs.Answers.{gotAs}
 use Rattle.sheets.proofs.Gives.{bind-got, tested}
 use Rattle.sheets.proofs.Skipping.{bind-refused}
 use Rattle.sheets.proofs.ReadLoop.{onto, upTo, up-to-same, up-to-snoc, onto-nil, onto-cons}
+use Rattle.sheets.proofs.FieldLaws.{numbered}
 use Rattle.sheets.proofs.ComponentLaws.{component-same}
 use Rattle.sheets.proofs.IndexLaws.{Agree, span-same, mode-same, switch-same}
 use Rattle.sheets.proofs.ChainLaws.{last-got}
@@ -103,38 +104,22 @@ module _ (s index : List ℕ) where
   unfolding componentFrom upTo
   modes-length n block = length-up-to (λ j. modeFrom s n index (modePlace block j)) (entry index (block + 1))
 
--- the byte that names one of so many modes, or is 255
-abbrev pub named : ℕ → ℕ → Bool
-named modes v = ltb v modes || eqb v 255
-
-pub mode-named : (modes v p next : ℕ) → v < modes → passing (named modes) 5 p (got v next) ≡ got v next
-unfolding passing
-mode-named modes v p next h = rw (lt-ltb v modes h) refl
-
-pub mode-any : (modes v p next : ℕ) → modes ≤ v → v ≡ 255 → passing (named modes) 5 p (got v next) ≡ got v next
-unfolding passing
-mode-any modes v p next h e = rw (le-ltb v modes h, eq-eqb v 255 e) refl
-
-pub mode-wrong : (modes v p next : ℕ) → modes ≤ v → (v ≡ 255 → ⊥) → passing (named modes) 5 p (got v next) ≡ refused 5 p
-unfolding passing
-mode-wrong modes v p next h e = rw (le-ltb v modes h, ne-eqb v 255 e) refl
-
 named-small : (modes v : ℕ) (a b : Bool) → ltb v modes ≡ a → eqb v 255 ≡ b → T (a || b) → modes ≤ 8 → v ≤ 255
 named-small modes v true b p q t h = let l : v < modes = ltb→lt v modes (subst T (sym p) tt) in omega arith
 named-small modes v false true p q t h = omega (arith, eqb-true v 255 q)
 named-small modes v false false p q t h = absurd t
 
-pub mode-small : (modes : ℕ) (s : List ℕ) (p v next : ℕ) → modes ≤ 8 → must (named modes) 5 u8 s p ≡ got v next → v ≤ 255
+pub mode-small : (modes : ℕ) (s : List ℕ) (p v next : ℕ) → modes ≤ 8 → must (numbered modes) 5 u8 s p ≡ got v next → v ≤ 255
 unfolding must
 mode-small modes s p v next h e =
-    named-small modes v (ltb v modes) (eqb v 255) refl refl (tested (named modes) 5 p (u8 s p) v next e .passed) h
+    named-small modes v (ltb v modes) (eqb v 255) refl refl (tested (numbered modes) 5 p (u8 s p) v next e .passed) h
 
 -- the reading of a component's mode, by how many modes the index says that it has
 abbrev pub modeOf : Component → Reader ℕ
-modeOf m = must (named (length (m .modes))) 5 u8
+modeOf m = must (numbered (length (m .modes))) 5 u8
 
-pub mode-of : (s index : List ℕ) (n block modes p : ℕ) {g : Got ℕ} → modes ≡ entry index (block + 1) → must (named modes) 5 u8 s p ≡ g → modeOf (componentFrom s n index block) s p ≡ g
-mode-of s index n block modes p e h = ap (λ (k : ℕ). must (named k) 5 u8 s p) (modes-length s index n block ∙ sym e) ∙ h
+pub mode-of : (s index : List ℕ) (n block modes p : ℕ) {g : Got ℕ} → modes ≡ entry index (block + 1) → must (numbered modes) 5 u8 s p ≡ g → modeOf (componentFrom s n index block) s p ≡ g
+mode-of s index n block modes p e h = ap (λ (k : ℕ). must (numbered k) 5 u8 s p) (modes-length s index n block ∙ sym e) ∙ h
 
 -- the number that says it, while only numbers after the blocks change
 pub modes-kept : {from until : ℕ} {xs ys : List ℕ} → Kept from until xs ys → (k : ℕ) → 892 ≤ from → k < 4 → entry ys (17 + 219 * k) ≡ entry xs (componentPlace k + 1)

@@ -2,11 +2,11 @@
 // outside its range as 5 there.
 use crate::Field;
 ghost use mathlib.Core.Path.{_≡_};
-ghost use mathlib.Core.Bool.{_&&_};
+ghost use mathlib.Core.Bool.{_&&_, _||_};
 ghost use Prim.Native.Nat.{_+_, _≤_};
-ghost use lib.Dec.{leb, ltb};
+ghost use lib.Dec.{leb, ltb, eqb};
 ghost use lib.ListN.{length, take, drop};
-ghost use Rattle.sheets.specs.Reading.{bigEndian, u8, u16, u32, passing, within, below};
+ghost use Rattle.sheets.specs.Reading.{bigEndian, u8, u16, u32, passing, must, within, below};
 ghost use Rattle.sheets.specs.Answers.{gotField};
 
 // One byte.
@@ -120,4 +120,22 @@ pub fn half_within(s: &[u8], at: usize, least: u32, most: u32) -> Field
     ensures { λ r. ⌜ gotField r ≡ within least most u16 (now (s .entry)) at ⌝ }
 {
     in_range(half(s, at), at, least, most)
+}
+
+// A byte below a count, or 255.
+pub fn byte_numbered(s: &[u8], at: usize, count: u32) -> Field
+    ensures { λ r. ⌜ gotField r ≡ must (λ v. ltb v count || eqb v 255) 5 u8 (now (s .entry)) at ⌝ }
+{
+    match byte(s, at) {
+        Field::Refused(number, place) => Field::Refused(number, place),
+        Field::Value(value, next) => {
+            if value < count {
+                return Field::Value(value, next);
+            }
+            if value == 255 {
+                return Field::Value(value, next);
+            }
+            Field::Refused(5, at)
+        }
+    }
 }

@@ -10,8 +10,8 @@ use crate::StepRead;
 use crate::Switches;
 use crate::SwitchesRead;
 use crate::Values;
-use crate::fields::byte;
 use crate::fields::byte_below;
+use crate::fields::byte_numbered;
 use crate::fields::byte_within;
 use crate::fields::half_within;
 use crate::fields::word;
@@ -25,7 +25,7 @@ ghost use Rattle.sheets.specs.Locations.{locationCount};
 ghost use Rattle.sheets.specs.Index.{entry, componentsFrom, modelFrom, GoodIndex};
 ghost use Rattle.sheets.specs.RunSheet.{readValues, readFlow, readJump, readStep, readOpening};
 ghost use Rattle.sheets.specs.Answers.{gotField, gotAs};
-ghost use Rattle.sheets.specs.RunAnswers.{readValue, gotSigned, heldValues, switchByte, switchBytes, heldBytes, gotStep, heldWith, heldStep, openingAs, gotOpening, heldOpening, readOpeningFields};
+ghost use Rattle.sheets.specs.RunAnswers.{readValue, gotSigned, heldValues, switchBytes, heldBytes, gotStep, heldWith, heldStep, openingAs, gotOpening, heldOpening, readOpeningFields};
 
 // A number of 32 bits as a signed one.
 fn signed(number: u32) -> i64
@@ -87,25 +87,6 @@ pub fn values_at(s: &[u8], at: usize, n: usize) -> Values
     }
 }
 
-// A switch byte of a component with so many switches: one of them, or 255 where it stays.
-fn switch_byte(s: &[u8], at: usize, count: u32) -> Field
-    ensures { λ r. ⌜ gotField r ≡ switchByte count (now (s .entry)) at ⌝ }
-{
-    match byte(s, at) {
-        Field::Refused(number, place) => Field::Refused(number, place),
-        Field::Value(switch, next) => {
-            if switch < count {
-                return Field::Value(switch, next);
-            }
-            if switch == 255 {
-                Field::Value(switch, next)
-            } else {
-                Field::Refused(5, at)
-            }
-        }
-    }
-}
-
 // The switch bytes of a jump, one for each component of the index.
 fn switches(index: &[u16], s: &[u8], at: usize) -> SwitchesRead
     requires { ⌜ (988 ≤ length (now index)) × (entry (now index) 1 ≤ 4) ⌝ }
@@ -116,7 +97,7 @@ fn switches(index: &[u16], s: &[u8], at: usize) -> SwitchesRead
     let mut place = at;
     let mut k: usize = 0;
     while k < components {
-        match switch_byte(s, place, index[16 + 219 * k + 2] as u32) {
+        match byte_numbered(s, place, index[16 + 219 * k + 2] as u32) {
             Field::Refused(number, cut) => return SwitchesRead::Refused(number, cut),
             Field::Value(switch, next) => {
                 bytes[k] = switch as u8;

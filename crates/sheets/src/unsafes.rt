@@ -2,8 +2,8 @@
 // (specs/Index.antt).
 use crate::Field;
 use crate::Next;
-use crate::fields::byte;
 use crate::fields::byte_below;
+use crate::fields::byte_numbered;
 use crate::model::condition_into;
 ghost use mathlib.Core.Path.{_≡_};
 ghost use mathlib.Core.Bool.{_||_};
@@ -39,24 +39,6 @@ pub fn owners_into(s: &[u8], at: usize, n: usize, c: u32, index: &mut [u16]) -> 
     Next::At(place)
 }
 
-// A byte that names one of so many modes, or is 255 for any.
-fn mode_byte(s: &[u8], at: usize, modes: u32) -> Field
-    ensures { λ r. ⌜ gotField r ≡ must (λ v. ltb v modes || eqb v 255) 5 u8 (now (s .entry)) at ⌝ }
-{
-    match byte(s, at) {
-        Field::Refused(number, place) => Field::Refused(number, place),
-        Field::Value(value, next) => {
-            if value < modes {
-                return Field::Value(value, next);
-            }
-            if value == 255 {
-                return Field::Value(value, next);
-            }
-            Field::Refused(5, at)
-        }
-    }
-}
-
 // A byte for each component, one of its modes or 255, kept from a number of the index on.
 fn unsafe_modes_into(s: &[u8], at: usize, c: usize, index: &mut [u16], i: usize) -> Next
     requires { ⌜ Sized (now s) (now index) ⌝ }
@@ -69,7 +51,7 @@ fn unsafe_modes_into(s: &[u8], at: usize, c: usize, index: &mut [u16], i: usize)
     let mut k: usize = 0;
     while k < c {
         let modes = index[17 + 219 * k] as u32;
-        match mode_byte(s, place, modes) {
+        match byte_numbered(s, place, modes) {
             Field::Refused(number, cut) => return Next::Refused(number, cut),
             Field::Value(mode, next) => {
                 index[i + k] = mode as u16;

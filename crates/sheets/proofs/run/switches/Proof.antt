@@ -7,6 +7,7 @@ use denote.Ref.{now}
 use lib.ListN.{take, replicate}
 use Rattle.sheets.specs.declared.SwitchesRead.the-variants as switches
 use Rattle.sheets.specs.Reading.{got}
+use Rattle.sheets.specs.Joint.{stays}
 use Rattle.sheets.specs.RunAnswers.{switchByte, switchBytes, heldBytes}
 use Rattle.sheets.specs.Index.{entry, componentPlace}
 use Rattle.sheets.proofs.AnswerLaws.{field-value, field-refused}
@@ -31,48 +32,48 @@ loop-holds : tie.Need-loop-holds Inv-loop μ-loop
 loop-holds c =
     (omega arith, (front-start 255 4, bytes-start (now (c .before .before .before .args .index)) (now (c .before .before .before .args .s)) (c .before .before .before .args .at) (replicate 4 255)))
 
-mul-switch-byte : tie.Need-mul-switch-byte Inv-loop μ-loop
+mul-byte-numbered : tie.Need-mul-byte-numbered Inv-loop μ-loop
 unfolding entry
-mul-switch-byte c = omega arith
+mul-byte-numbered c = omega arith
 
-add-switch-byte : tie.Need-add-switch-byte Inv-loop μ-loop
+add-byte-numbered : tie.Need-add-byte-numbered Inv-loop μ-loop
 unfolding entry
-add-switch-byte c = omega arith
+add-byte-numbered c = omega arith
 
-add-switch-byte-2 : tie.Need-add-switch-byte-2 Inv-loop μ-loop
+add-byte-numbered-2 : tie.Need-add-byte-numbered-2 Inv-loop μ-loop
 unfolding entry
-add-switch-byte-2 c = omega arith
+add-byte-numbered-2 c = omega arith
 
-mul-switch-byte-2 : tie.Need-mul-switch-byte-2 Inv-loop μ-loop
+mul-byte-numbered-2 : tie.Need-mul-byte-numbered-2 Inv-loop μ-loop
 unfolding entry
-mul-switch-byte-2 c = omega arith
+mul-byte-numbered-2 c = omega arith
 
-shared-slice-read-switch-byte : tie.Need-shared-slice-read-switch-byte Inv-loop μ-loop
+shared-slice-read-byte-numbered : tie.Need-shared-slice-read-byte-numbered Inv-loop μ-loop
 unfolding entry
-shared-slice-read-switch-byte c = omega arith
+shared-slice-read-byte-numbered c = omega arith
 
-cast-switch-byte : tie.Need-cast-switch-byte Inv-loop μ-loop
-cast-switch-byte c = omega (arith, c .shared-slice-known4 .given (16 + 219 * c .before .before .loop .k + 2))
+cast-byte-numbered : tie.Need-cast-byte-numbered Inv-loop μ-loop
+cast-byte-numbered c = omega (arith, c .shared-slice-known4 .given (16 + 219 * c .before .before .loop .k + 2))
 
-switch-byte-requires : tie.Need-switch-byte-requires Inv-loop μ-loop
-switch-byte-requires c κs = search needs
+byte-numbered-requires : tie.Need-byte-numbered-requires Inv-loop μ-loop
+byte-numbered-requires c κs = search needs
 
 enum-known-number : tie.Need-enum-known-number Inv-loop μ-loop
 enum-known-number c = search needs
 
 returns : tie.Need-returns Inv-loop μ-loop
-unfolding heldBytes entry componentPlace
+unfolding heldBytes entry componentPlace switchByte stays
 returns c =
     let a = c .before .before .before .before .before .before .before .before .before .before .args in
     let s = now (a .s) in
     let l = c .before .before .before .before .before .before .loop in
-    ap heldBytes (bytes-stop (now (a .index)) s (a .at) (l .bytes) (l .k) (l .place) (l .inv .1 .1) (c .before .before .before .before .before .loop-test .taken) (c .before .number .given .0 .0) (c .before .number .given .0 .1 .0) (sym (c .before .before .before .switch-byte .ensures) ∙ field-refused (c .before .number .given .1)))
+    ap heldBytes (bytes-stop (now (a .index)) s (a .at) (l .bytes) (l .k) (l .place) (l .inv .1 .1) (c .before .before .before .before .before .loop-test .taken) (c .before .number .given .0 .0) (c .before .number .given .0 .1 .0) (sym (c .before .before .before .byte-numbered .ensures) ∙ field-refused (c .before .number .given .1)))
 
 enum-known-switch : tie.Need-enum-known-switch Inv-loop μ-loop
 enum-known-switch c = search needs
 
 cast-bytes : tie.Need-cast-bytes Inv-loop μ-loop
-unfolding entry componentPlace
+unfolding entry componentPlace switchByte stays
 cast-bytes c =
     let a = c .before .before .before .before .before .before .before .before .before .before .args in
     let s = now (a .s) in
@@ -81,7 +82,7 @@ cast-bytes c =
     let count = entry index (componentPlace (l .k) + 2) in
     let v = c .before .switch .given .0 .0 in
     let after = c .before .switch .given .0 .1 .0 in
-    let e : switchByte count s (l .place) ≡ got v after = sym (c .before .before .before .switch-byte .ensures) ∙ field-value (c .before .switch .given .1) in
+    let e : switchByte count s (l .place) ≡ got v after = sym (c .before .before .before .byte-numbered .ensures) ∙ field-value (c .before .switch .given .1) in
     omega (arith, switch-is count s (l .place) v after e, c .before .before .before .before .before .before .before .before .shared-slice-known2 .given (l .place))
 
 array-write-bytes : tie.Need-array-write-bytes Inv-loop μ-loop
@@ -96,7 +97,7 @@ loop-less : tie.Need-loop-less Inv-loop μ-loop
 loop-less c = omega arith
 
 loop-again : tie.Need-loop-again Inv-loop μ-loop
-unfolding entry componentPlace
+unfolding entry componentPlace switchByte stays
 loop-again c =
     let a = c .before .before .before .before .before .before .before .before .before .before .args in
     let s = now (a .s) in
@@ -105,7 +106,7 @@ loop-again c =
     let count = entry index (componentPlace (l .k) + 2) in
     let v = c .before .switch .given .0 .0 in
     let after = c .before .switch .given .0 .1 .0 in
-    let e : switchByte count s (l .place) ≡ got v after = sym (c .before .before .before .switch-byte .ensures) ∙ field-value (c .before .switch .given .1) in
+    let e : switchByte count s (l .place) ≡ got v after = sym (c .before .before .before .byte-numbered .ensures) ∙ field-value (c .before .switch .given .1) in
     let room : l .k < 4 = omega arith in
     (omega arith, (front-put 255 4 (l .bytes) (l .k) v (l .inv .1 .0) room, bytes-go-on index s (a .at) (l .bytes) (l .k) (l .place) (l .inv .1 .1) (c .before .before .before .before .before .loop-test .taken) v after (omega arith) e))
 
@@ -142,13 +143,13 @@ switches-spec =
     shared-slice-read-components
     cast-components
     loop-holds
-    mul-switch-byte
-    add-switch-byte
-    add-switch-byte-2
-    mul-switch-byte-2
-    shared-slice-read-switch-byte
-    cast-switch-byte
-    switch-byte-requires
+    mul-byte-numbered
+    add-byte-numbered
+    add-byte-numbered-2
+    mul-byte-numbered-2
+    shared-slice-read-byte-numbered
+    cast-byte-numbered
+    byte-numbered-requires
     enum-known-number
     returns
     enum-known-switch

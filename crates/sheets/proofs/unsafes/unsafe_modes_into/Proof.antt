@@ -12,7 +12,8 @@ use Rattle.sheets.specs.Answers.{gotAs}
 use Rattle.sheets.proofs.AnswerLaws.{field-value, field-refused}
 use Rattle.sheets.proofs.IndexLaws.{entry-same, entry-other, kept-none, kept-set, kept-then}
 use Rattle.sheets.proofs.ReadLoop.{upTo}
-use Rattle.sheets.proofs.UnsafeLaws.{ReadingEach, each-starts, each-goes-on, each-stops, each-ends, components-length, component-next, named, mode-small, modeOf, mode-of, modes-kept}
+use Rattle.sheets.proofs.FieldLaws.{numbered}
+use Rattle.sheets.proofs.UnsafeLaws.{ReadingEach, each-starts, each-goes-on, each-stops, each-ends, components-length, component-next, mode-small, modeOf, mode-of, modes-kept}
 use Rattle.sheets.proofs.unsafes.unsafe_modes_into.Statement.{statement}
 use Rattle.sheets.proofs.unsafes.unsafe_modes_into.Tie as tie
 
@@ -61,8 +62,8 @@ cast-modes c =
     let m : modes ≡ entry old (componentPlace k + 1) = modes-kept (inv .1 .1 .1) k (c .before .before .before .before .before .pre .1 .0 .1 .1 .0) (omega (arith, c .before .before .before .before .before .pre .1 .0)) in
     omega (arith, c .before .before .before .before .before .pre .1 .1 k l)
 
-mode-byte-requires : tie.Need-mode-byte-requires Inv-loop μ-loop
-mode-byte-requires c κs =
+byte-numbered-requires : tie.Need-byte-numbered-requires Inv-loop μ-loop
+byte-numbered-requires c κs =
     search needs
 
 enum-known-number : tie.Need-enum-known-number Inv-loop μ-loop
@@ -92,7 +93,7 @@ returns c =
     let m : modes ≡ entry old (componentPlace k + 1) = modes-kept (inv .1 .1 .1) k (c .before .before .before .before .before .before .before .before .before .pre .1 .0 .1 .1 .0) (omega (arith, c .before .before .before .before .before .before .before .before .before .pre .1 .0)) in
     let d : drop k all ≡ one ∷ drop (k + 1) all = component-next s old k (omega (arith, c .before .before .before .before .before .before .before .before .before .pre .1 .0)) in (
       each-stops modeOf all s whole (λ j. entry x (i + j)) k place (c .before .number .given .0 .0) (c .before .number .given .0 .1 .0) one (inv .1 .1 .0) d
-          (mode-of s old (entry old 0) (componentPlace k) modes place m (sym (c .before .before .before .mode-byte .ensures) ∙ field-refused (c .before .number .given .1))),
+          (mode-of s old (entry old 0) (componentPlace k) modes place m (sym (c .before .before .before .byte-numbered .ensures) ∙ field-refused (c .before .number .given .1))),
       inv .1 .1 .1,
     )
 
@@ -115,7 +116,7 @@ cast-index c =
     let m : modes ≡ entry old (componentPlace k + 1) = modes-kept (inv .1 .1 .1) k (c .before .before .before .before .before .before .before .before .before .pre .1 .0 .1 .1 .0) (omega (arith, c .before .before .before .before .before .before .before .before .before .pre .1 .0)) in
     let mode = c .before .mode .given .0 .0 in
     let next = c .before .mode .given .0 .1 .0 in
-    let e : must (named modes) 5 u8 s place ≡ got mode next = sym (c .before .before .before .mode-byte .ensures) ∙ field-value (c .before .mode .given .1) in
+    let e : must (numbered modes) 5 u8 s place ≡ got mode next = sym (c .before .before .before .byte-numbered .ensures) ∙ field-value (c .before .mode .given .1) in
     omega (arith, mode-small modes s place mode next (omega (arith, c .before .before .before .before .before .before .before .before .before .pre .1 .1 k l)) e)
 
 add-index : tie.Need-add-index Inv-loop μ-loop
@@ -158,7 +159,7 @@ loop-again c =
     let d : drop k all ≡ one ∷ drop (k + 1) all = component-next s old k (omega (arith, c .before .before .before .before .before .before .before .before .before .pre .1 .0)) in
     let mode = c .before .mode .given .0 .0 in
     let next = c .before .mode .given .0 .1 .0 in
-    let e : must (named modes) 5 u8 s place ≡ got mode next = sym (c .before .before .before .mode-byte .ensures) ∙ field-value (c .before .mode .given .1) in
+    let e : must (numbered modes) 5 u8 s place ≡ got mode next = sym (c .before .before .before .byte-numbered .ensures) ∙ field-value (c .before .mode .given .1) in
     let y = set x (i + k) mode in
     let put : entry y (i + k) ≡ mode = entry-same x (i + k) mode (omega (arith, c .before .before .before .before .before .before .before .before .before .pre .1 .0, c .before .before .before .before .before .before .before .before .before .pre .0 .long, inv .1 .0)) in (
       omega arith,
@@ -200,7 +201,7 @@ unsafe-modes-into-spec =
     mul-modes-2
     slice-read-modes
     cast-modes
-    mode-byte-requires
+    byte-numbered-requires
     enum-known-number
     same-length
     returns
