@@ -1,14 +1,14 @@
 -- The run sheet's readings: signed values in their range, arrays that a loop fills, switch bytes, and how the parts of a step and of
 -- an opening make the whole. Assumes nothing.
 use mathlib.Core.Path.{_≡_, refl, sym, ap, _∙_}
-use mathlib.Core.Bool.{Bool, true, false, not, _&&_, _||_}
+use mathlib.Core.Bool.{Bool, true, false, cond, not, _&&_, _||_}
 use mathlib.Core.List.{List, [], _∷_, _++_}
-use Prim.Native.Nat.{ℕ, zero, suc, _+_, _-_, _≤_, _<_}
+use Prim.Native.Nat.{ℕ, zero, suc, _+_, _-_, _^_, _≤_, _<_}
 use native.Mathlib.Numerals.{add-one}
 use native.Mathlib.Decide.{decLe}
 use native.Mathlib.Omega.{arith}
 use lib.Dec.{leb, ltb, eqb}
-use lib.IntN.{ℤ, pos, negsuc, _-ℤ_}
+use lib.IntN.{ℤ, pos, negsuc, natAbs, _-ℤ_}
 use lib.ListN.{length, getD, take, drop, set, replicate, length-set, length-replicate, getD-replicate, take-append-drop}
 use lib.Seq.{take-suc, drop-cons, drop-set-lt, getD-set-same, getD-set-other, length-take-le}
 use lib.Signed.{leZ, ltZ}
@@ -48,6 +48,15 @@ module _ (n : ℕ) (h : 2147483648 ≤ n) (f : Fits w32 n) where
   pub signed-high : toZ w64 (ofZ w64 (toZ w64 n -ℤ pos 4294967296)) ≡ signed n
   unfolding signed
   signed-high = toZ-ofZ less-fits ∙ less ∙ sym (rw (le-ltb n 2147483648 h) refl)
+
+-- its size
+pub signed-small : (n : ℕ) → n < 2 ^ 32 → natAbs (signed n) ≤ 2 ^ 31
+unfolding signed
+signed-small n h = go (decLe 2147483648 n)
+  where
+    go : Dec (2147483648 ≤ n) → natAbs (cond (ltb n (2 ^ 31)) (pos n) (negsuc (2 ^ 32 - suc n))) ≤ 2 ^ 31
+    go (yes k) = rw (le-ltb n 2147483648 k) (omega arith)
+    go (no f) = let k : n < 2147483648 = omega arith in rw (lt-ltb n 2147483648 k) (omega arith)
 
 -- A value and its range
 leb-not : (a b : ℕ) → leb b a ≡ not (ltb a b)

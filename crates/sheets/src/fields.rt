@@ -3,10 +3,13 @@
 use crate::Field;
 ghost use mathlib.Core.Path.{_≡_};
 ghost use mathlib.Core.Bool.{_&&_, _||_};
-ghost use Prim.Native.Nat.{_+_, _≤_};
+ghost use Prim.Native.Nat.{_+_, _^_, _≤_};
 ghost use lib.Dec.{leb, ltb, eqb};
+ghost use lib.IntN.{natAbs};
 ghost use lib.ListN.{length, take, drop};
+ghost use Rattle.sheets.specs.Reading as reading;
 ghost use Rattle.sheets.specs.Reading.{bigEndian, u8, u16, u32, passing, must, within, below};
+ghost use Rattle.sheets.specs.Places.{signedAt};
 ghost use Rattle.sheets.specs.Answers.{gotField};
 
 // One byte.
@@ -58,6 +61,26 @@ pub fn number(s: &[u8], at: usize) -> u32
     let c = s[at + 2] as u32;
     let d = s[at + 3] as u32;
     ((a * 256 + b) * 256 + c) * 256 + d
+}
+
+// A number of 32 bits as a signed one.
+pub fn signed(number: u32) -> i64
+    ensures { λ r. ⌜ r ≡ reading.signed number ⌝ }
+{
+    if number < 2147483648 {
+        number as i64
+    } else {
+        number as i64 - 4294967296
+    }
+}
+
+// The four bytes at a place that has them, as a signed number.
+pub fn signed_at(s: &[u8], at: usize) -> i64
+    requires { ⌜ at + 4 ≤ length (now s) ⌝ }
+    ensures { λ r. ⌜ r ≡ signedAt (now (s .entry)) at ⌝ }
+    ensures { λ r. ⌜ natAbs r ≤ 2 ^ 31 ⌝ }
+{
+    signed(number(s, at))
 }
 
 // A field whose value must lie in a range, read at this place.

@@ -72,7 +72,7 @@ pub fn modes_at(s: &[u8], index: &[u16; 988], location: u32) -> [u8; 4]
 }
 
 // Whether a component's switch has this label and leaves this mode.
-fn leaves_by(s: &[u8], index: &[u16; 988], k: usize, i: usize, mode: u8, e: u32) -> bool
+pub fn leaves_by(s: &[u8], index: &[u16; 988], k: usize, i: usize, mode: u8, e: u32) -> bool
     requires { ⌜ GoodIndex (now s) (now index) ⌝ }
     requires { ⌜ k < entry (now index) 1 ⌝ }
     requires { ⌜ i < length (componentAt (now s) (now index) k .switches) ⌝ }
@@ -139,7 +139,7 @@ fn wide(x: u16) -> u32
 }
 
 // Whether a component is in the scope of an event.
-fn in_scope(s: &[u8], index: &[u16; 988], k: usize, e: u32) -> bool
+pub fn in_scope(s: &[u8], index: &[u16; 988], k: usize, e: u32) -> bool
     requires { ⌜ GoodIndex (now s) (now index) ⌝ }
     requires { ⌜ (k < entry (now index) 1) × (e ≤ 15) ⌝ }
     ensures { λ r. ⌜ r ≡ hasEvent (componentAt (now (s .entry)) (now (index .entry)) k .alphabet) e ⌝ }
@@ -148,7 +148,7 @@ fn in_scope(s: &[u8], index: &[u16; 988], k: usize, e: u32) -> bool
 }
 
 // The scope mask of an event: a one for each component that has it in its alphabet, component 0 lowest.
-fn scope_mask(s: &[u8], index: &[u16; 988], e: u32) -> u32
+pub fn scope_mask(s: &[u8], index: &[u16; 988], e: u32) -> u32
     requires { ⌜ GoodIndex (now s) (now index) ⌝ }
     requires { ⌜ e ≤ 15 ⌝ }
     ensures { λ r. ⌜ r ≡ scopeMask (componentsFrom (now (s .entry)) (now (index .entry))) e ⌝ }

@@ -24,6 +24,12 @@ pub enum Next {
     Refused(u32, usize),
 }
 
+// A model that was read: the place after it, or a refusal, and its index.
+pub struct ReadModel {
+    pub next: Next,
+    pub index: [u16; 988],
+}
+
 // How a proof of a certificate begins: its k, how many entries follow and the place after, or a refusal's number and place.
 pub enum HeadRead {
     Head(u32, u32, usize),

@@ -14,6 +14,7 @@ use crate::fields::byte_below;
 use crate::fields::byte_numbered;
 use crate::fields::byte_within;
 use crate::fields::half_within;
+use crate::fields::signed;
 use crate::fields::word;
 use crate::fields::word_within;
 ghost use mathlib.Core.List.{List, []};
@@ -26,17 +27,6 @@ ghost use Rattle.sheets.specs.Index.{entry, componentsFrom, modelFrom, G
 ghost use Rattle.sheets.specs.RunSheet.{readValues, readFlow, readJump, readStep, readOpening};
 ghost use Rattle.sheets.specs.Answers.{gotField, gotAs};
 ghost use Rattle.sheets.specs.RunAnswers.{readValue, gotSigned, heldValues, switchBytes, heldBytes, gotStep, heldWith, heldStep, openingAs, gotOpening, heldOpening, readOpeningFields};
-
-// A number of 32 bits as a signed one.
-fn signed(number: u32) -> i64
-    ensures { λ r. ⌜ r ≡ reading.signed number ⌝ }
-{
-    if number < 2147483648 {
-        number as i64
-    } else {
-        number as i64 - 4294967296
-    }
-}
 
 // A value of a state: four bytes, from −2^27 to 2^27.
 pub fn value(s: &[u8], at: usize) -> Signed

@@ -1,6 +1,7 @@
 // A model sheet, whole: its header, its body, no bytes left, then the limits on locations and joint switches.
 use crate::Field;
 use crate::Next;
+use crate::ReadModel;
 use crate::body::body_into;
 use crate::header::finished;
 use crate::header::header;
@@ -32,8 +33,8 @@ fn within_limits(s: &[u8], index: &[u16; 988], next: usize) -> Next
     Next::At(next)
 }
 
-// A model sheet, read into an index.
-pub fn read_model(s: &[u8], index: &mut [u16; 988]) -> Next
+// A model sheet, read into a lent index.
+fn model_into(s: &[u8], index: &mut [u16; 988]) -> Next
     ensures { λ r. ⌜ gotAs (modelFrom (now (s .entry)) (now (index .exit))) r ≡ readModel examLimits (now (s .entry)) ⌝ }
 {
     match header(s, 1) {
@@ -46,4 +47,13 @@ pub fn read_model(s: &[u8], index: &mut [u16; 988]) -> Next
             },
         },
     }
+}
+
+// A model sheet, and the index that was read from it.
+pub fn read_model(s: &[u8]) -> ReadModel
+    ensures { λ r. ⌜ gotAs (modelFrom (now (s .entry)) (r .index)) (r .next) ≡ readModel examLimits (now (s .entry)) ⌝ }
+{
+    let mut index = [0u16; 988];
+    let next = model_into(s, &mut index);
+    ReadModel { next, index }
 }

@@ -39,8 +39,9 @@ fn answer_next(read: Next) {
 
 // Reads a model.
 fn try_model(s: &[u8]) {
-    let mut index = [0u16; 988];
-    answer_next(read_model(s, &mut index));
+    let read = read_model(s);
+    let next = read.next;
+    answer_next(next);
 }
 
 // Reads a certificate's header and regions.
@@ -109,8 +110,10 @@ fn try_step(model: &[u8], index: &[u16; 988], s: &[u8], at: usize)
 
 // Reads what stands beside a model.
 fn try_beside(model: &[u8], kind: usize, at: usize, s: &[u8]) {
-    let mut index = [0u16; 988];
-    match read_model(model, &mut index) {
+    let read = read_model(model);
+    let index = read.index;
+    let seen = read.next;
+    match seen {
         Next::Refused(number, place) => answer(number, place),
         Next::At(_) => {
             if kind == 2 {

@@ -19,8 +19,8 @@ good {s} {index} {x} {p} e h = index-good examLimits s index p (told-at (modelFr
 read-model-requires : tie.Need-read-model-requires
 read-model-requires c κs = search needs
 
-enum-known-number : tie.Need-enum-known-number
-enum-known-number c = search needs
+enum-known-seen : tie.Need-enum-known-seen
+enum-known-seen c = search needs
 
 answer-requires : tie.Need-answer-requires
 answer-requires c κs = search needs
@@ -29,13 +29,13 @@ enum-told : tie.Need-enum-told
 enum-told c = search needs
 
 try-regions-requires : tie.Need-try-regions-requires
-try-regions-requires c κs = good (c .before .before .before .before .read-model .ensures) (c .before .before .enum-told .given .1)
+try-regions-requires c κs = good (c .before .before .before .before .before .read-model .ensures) (c .before .before .enum-told .given .1)
 
 try-opening-requires : tie.Need-try-opening-requires
-try-opening-requires c κs = good (c .before .before .before .before .before .read-model .ensures) (c .before .before .before .enum-told .given .1)
+try-opening-requires c κs = good (c .before .before .before .before .before .before .read-model .ensures) (c .before .before .before .enum-told .given .1)
 
 try-step-requires : tie.Need-try-step-requires
-try-step-requires c κs = good (c .before .before .before .before .before .read-model .ensures) (c .before .before .before .enum-told .given .1)
+try-step-requires c κs = good (c .before .before .before .before .before .before .read-model .ensures) (c .before .before .before .enum-told .given .1)
 
 returns : tie.Need-returns
 returns c = search needs
@@ -54,7 +54,7 @@ try-beside-spec =
     tie.close
     (tie.spec
     read-model-requires
-    enum-known-number
+    enum-known-seen
     answer-requires
     enum-told
     try-regions-requires

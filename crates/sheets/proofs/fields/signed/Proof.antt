@@ -1,8 +1,8 @@
 -- Below 2^31 the number itself, else 2^32 less. Assumes nothing.
 use borrow.Author.Needs.{needs}
 use Rattle.sheets.proofs.RunLaws.{signed-low, less-fits, signed-high}
-use Rattle.sheets.proofs.run.signed.Statement.{statement}
-use Rattle.sheets.proofs.run.signed.Tie as tie
+use Rattle.sheets.proofs.fields.signed.Statement.{statement}
+use Rattle.sheets.proofs.fields.signed.Tie as tie
 
 cast-result : tie.Need-cast-result
 cast-result c = search needs

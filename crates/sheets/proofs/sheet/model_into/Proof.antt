@@ -17,8 +17,8 @@ use Rattle.sheets.specs.Counts.{limitsTest}
 use Rattle.sheets.proofs.AnswerLaws.{field-value, field-refused}
 use Rattle.sheets.proofs.ChainLaws.{told-at, told-refused}
 use Rattle.sheets.proofs.SheetLaws.{body-good, HeaderRead, header-read, limits-seven, limits-eight, limits-pass, sheet-first, sheet-second, sheet-third, sheet-limits}
-use Rattle.sheets.proofs.sheet.read_model.Statement.{statement}
-use Rattle.sheets.proofs.sheet.read_model.Tie as tie
+use Rattle.sheets.proofs.sheet.model_into.Statement.{statement}
+use Rattle.sheets.proofs.sheet.model_into.Tie as tie
 
 header-requires : tie.Need-header-requires
 header-requires c κs = search needs
@@ -122,8 +122,8 @@ returns-4 c =
     let two : readModelBody 1 s 4 ≡ got (modelFrom s y) end = sym there ∙ told-at (modelFrom s y) (readModelBody 1 s at) (c .before .before .before .before .before .before .before .before .before .body-into .ensures) (c .before .before .before .before .before .before .before .end .given .1) in
     sheet-limits examLimits s one (modelFrom s y) end two (c .before .before .before .next .given .0 .0) (told-at tt (reading.finished s end) (c .before .before .before .before .before .finished .ensures) (c .before .before .before .next .given .1)) (c .within-limits .result) (c .within-limits .ensures)
 
-pub read-model-spec : {M : Type 1} → statement M
-read-model-spec =
+pub model-into-spec : {M : Type 1} → statement M
+model-into-spec =
     tie.close
     (tie.spec
     header-requires
