@@ -1,4 +1,5 @@
 pub mod Runs
+pub mod Held
 pub mod Obligations
 pub mod Marking
 pub mod ReadWell
