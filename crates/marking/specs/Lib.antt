@@ -2,6 +2,7 @@ pub mod Runs
 pub mod Held
 pub mod Obligations
 pub mod Marking
+pub mod Tables
 pub mod ReadWell
 pub mod Beside
 pub mod Program
