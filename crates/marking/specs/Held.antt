@@ -1,12 +1,17 @@
 -- What the contracts of marking name besides the definitions of 01: a state as the code holds it, with its values in an array of eight,
--- and their sizes. Assumes nothing.
+-- and their sizes; and the tests of a state, one component, unsafe condition or variable at a time. Assumes nothing.
+use mathlib.Core.Bool.{Bool, not, _&&_, _||_}
 use mathlib.Core.List.{List}
-use Prim.Native.Nat.{ℕ, _^_, _≤_}
+use Prim.Native.Nat.{ℕ, _+_, _*_, _^_, _≤_, _<_}
+use lib.Dec.{eqb}
 use lib.IntN.{ℤ, natAbs}
-use lib.ListN.{take}
+use lib.ListN.{getD, take}
+use Rattle.farkas.specs.Lists.{every}
 use Rattle.farkas.specs.Rows.{item}
-use Rattle.sheets.specs.Index.{entry}
-use Rattle.marking.specs.Runs.{State}
+use Rattle.farkas.specs.Farkas.{sameZ}
+use Rattle.sheets.specs.Joint.{stays, countUp}
+use Rattle.sheets.specs.Index.{entry, ownerPlace, componentPlace, modePlace, switchPlace, unsafePlace, spanRows, GoodSpan}
+use Rattle.marking.specs.Runs.{State, conditionHolds}
 
 -- the first of eight values, one per variable
 unfoldable pub perVariable : List ℕ → List ℤ → List ℤ
@@ -18,3 +23,57 @@ stateOf index location values = record { location = location; values = perVariab
 -- "n s32 p, −2^27..2^27"
 pub record SmallValues (values : List ℤ) : Type 0 where
   pub small : (i : ℕ) → natAbs (item values i) ≤ 2 ^ 27
+
+-- a point at which a row of so many coefficients, each of at most 32 bits, is summed in 64 bits
+pub record SmallPoint (count : ℕ) (point : List ℤ) : Type 0 where
+  pub some : 1 ≤ count
+  pub few : count ≤ 16
+  pub small : (i : ℕ) → natAbs (item point i) * count ≤ 2 ^ 31
+
+-- a mode of each component, with rows of each that an index keeps at an offset from it: 1 initial, 3 invariant, 5 flow
+pub record GoodModes (s index modes : List ℕ) (offset : ℕ) : Type 0 where
+  pub near : offset ≤ 5
+  pub known : (k : ℕ) → k < entry index 1 → getD modes k 0 < 8
+  pub spans : (k : ℕ) → k < entry index 1 → GoodSpan s (entry index 0) index (modePlace (componentPlace k) (getD modes k 0) + offset)
+
+-- What the tests of a state ask of the k-th component, unsafe condition or variable, by the numbers of an index.
+-- The rows of its mode at an offset hold
+unfoldable pub modeHolds : List ℕ → List ℕ → List ℕ → ℕ → ℕ → List ℤ → ℕ → Bool
+modeHolds s index modes offset q point k =
+    conditionHolds q (take (entry index 0) point) (spanRows s (entry index 0) index (modePlace (componentPlace k) (getD modes k 0) + offset))
+
+-- its mode is a start mode
+unfoldable pub startsAt : List ℕ → List ℕ → ℕ → Bool
+startsAt index modes k = eqb (entry index (modePlace (componentPlace k) (getD modes k 0))) 1
+
+-- its mode fits the one that stands from a place on, or any fits
+unfoldable pub fitsAt : List ℕ → ℕ → List ℕ → ℕ → Bool
+fitsAt index place modes k = eqb (entry index (place + k)) 255 || eqb (entry index (place + k)) (getD modes k 0)
+
+-- the modes and the rows of the unsafe condition fit
+unfoldable pub unsafeAt : List ℕ → List ℕ → List ℕ → ℕ → List ℤ → ℕ → Bool
+unsafeAt s index modes q point u =
+    every (fitsAt index (unsafePlace u) modes) (countUp 0 (entry index 1))
+    && conditionHolds q (take (entry index 0) point) (spanRows s (entry index 0) index (unsafePlace u + 4))
+
+-- it stays, or the rows of its switch hold at the values before and after
+unfoldable pub moveHolds : List ℕ → List ℕ → ℕ → List ℤ → ℕ → ℕ → Bool
+moveHolds s index q point k i =
+    eqb i stays
+    || conditionHolds q (take (2 * entry index 0) point) (spanRows s (2 * entry index 0) index (switchPlace (componentPlace k) i + 3))
+
+-- the same of its number among four
+unfoldable pub moveAt : List ℕ → List ℕ → List ℕ → ℕ → List ℤ → ℕ → Bool
+moveAt s index switches q point k = moveHolds s index q point k (getD switches k 0)
+
+-- the variable's value is the same
+unfoldable pub sameAt : List ℤ → List ℤ → ℕ → Bool
+sameAt next values i = sameZ (item next i) (item values i)
+
+-- the variable's owner moves, or its value is kept
+unfoldable pub keptAt : List ℕ → List ℕ → ℕ → ℤ → ℤ → Bool
+keptAt index switches v after before = not (eqb (getD switches (entry index (ownerPlace v)) 0) stays) || sameZ after before
+
+-- the same of its values in two arrays
+unfoldable pub valueKept : List ℕ → List ℕ → List ℤ → List ℤ → ℕ → Bool
+valueKept index switches next values v = keptAt index switches v (item next v) (item values v)

@@ -220,7 +220,7 @@ placed-entry hypotheses first =
     placed-bind (placed-must _ 9 (omega arith) (omega arith) (placed-below hypotheses placed-u8))
     (λ hypothesis. placed-bind (placed-within 1 (2 ^ 24 - 1) placed-u32) (λ multiplier. placed-give _))
 
-placed-entries : {least : ℕ} (hypotheses first count : ℕ) → Placed least (readEntries hypotheses first count)
+pub placed-entries : {least : ℕ} (hypotheses first count : ℕ) → Placed least (readEntries hypotheses first count)
 unfolding readEntries
 placed-entries hypotheses first zero = placed-give []
 placed-entries hypotheses first (suc n) =

@@ -1,0 +1,136 @@
+-- The sum so far is that of the coefficients that were read, and its size grows by at most a share of 2 ^ 62 a turn. Assumes nothing.
+use mathlib.Core.Path.{_≡_, refl, ap, _∙_}
+use Prim.Native.Nat.{ℕ, _*_, _+_, _-_, _^_, _≤_}
+use native.Mathlib.Omega.{arith}
+use denote.Ref.{now}
+use lib.IntN.{ℤ, pos, natAbs, _+ℤ_, _*ℤ_, +ℤ-idl}
+use lib.ListN.{getD}
+use mir.Syntax.{w64}
+use mir.Val.{toZ, ofZ}
+use mir.Facts.{toZ-ofZ}
+use mir.ValLaws.{toZ-pos}
+use Rattle.farkas.specs.Rows.{item, dot}
+use Rattle.sheets.specs.Places.{signedAt, numbersAt}
+use Rattle.marking.proofs.ValueLaws.{dot-goes-on, sum-room, sum-grows, bound-room, row-compared}
+use Rattle.marking.proofs.values.row_holds.Statement.{statement}
+use Rattle.marking.proofs.values.row_holds.Tie as tie
+
+abbrev Inv-loop : tie.InvT-loop
+Inv-loop s at count point q sum₀ i₀ sum i = (i ≤ count) × ((toZ w64 sum ≡ dot (numbersAt s at i) point) × (natAbs (toZ w64 sum) * count ≤ i * 2 ^ 62))
+
+abbrev μ-loop : tie.MeasureT-loop
+μ-loop s at count point q sum₀ i₀ sum i = count - i
+
+loop-holds : tie.Need-loop-holds Inv-loop μ-loop
+unfolding dot numbersAt
+loop-holds c = (omega arith, (refl, omega arith))
+
+mul-signed-at : tie.Need-mul-signed-at Inv-loop μ-loop
+mul-signed-at c = omega arith
+
+add-signed-at : tie.Need-add-signed-at Inv-loop μ-loop
+add-signed-at c = omega arith
+
+signed-at-requires : tie.Need-signed-at-requires Inv-loop μ-loop
+signed-at-requires c κs = omega arith
+
+mul-multiply-add : tie.Need-mul-multiply-add Inv-loop μ-loop
+mul-multiply-add c = omega (arith, c .before .before .before .before .pre .1 .0 .few)
+
+element-copy-out-multiply-add : tie.Need-element-copy-out-multiply-add Inv-loop μ-loop
+element-copy-out-multiply-add c = omega (arith, c .before .before .before .before .pre .1 .0 .few)
+
+-- the coefficient and the value of a turn, read back from their bits
+multiply-add-requires : tie.Need-multiply-add-requires Inv-loop μ-loop
+unfolding item
+multiply-add-requires c κs =
+    let s = c .before .before .before .before .before in
+    let l = c .before .before .before .loop in
+    let a = c .before .signed-at .result in
+    let p = getD (s .args .point .now) (l .i) (pos 0) in
+    rw (toZ-ofZ {z = a} (record { sfits = c .before .signed-at .ok }), toZ-ofZ {z = p} (record { sfits = c .multiply-add-arg .given }))
+    (sum-room (s .args .count) (l .i) (toZ w64 (l .sum)) a p (c .before .before .loop-test .taken) (l .inv .1 .1) (c .before .signed-at .ensures .1) (s .pre .1 .0 .small (l .i)))
+
+add-i : tie.Need-add-i Inv-loop μ-loop
+add-i c = omega arith
+
+loop-less : tie.Need-loop-less Inv-loop μ-loop
+loop-less c = omega arith
+
+summed : (c : tie.After-multiply-add Inv-loop μ-loop) → toZ w64 (ofZ w64 (c .multiply-add .result)) ≡ toZ w64 (c .before .before .before .before .loop .sum) +ℤ c .before .before .signed-at .result *ℤ item (c .before .before .before .before .before .before .args .point .now) (c .before .before .before .before .loop .i)
+unfolding item
+summed c =
+    let a = c .before .before .signed-at .result in
+    let p = getD (c .before .before .before .before .before .before .args .point .now) (c .before .before .before .before .loop .i) (pos 0) in
+    toZ-ofZ {z = c .multiply-add .result} (record { sfits = c .multiply-add .ok })
+    ∙ c .multiply-add .ensures
+    ∙ rw (toZ-ofZ {z = a} (record { sfits = c .before .before .signed-at .ok }), toZ-ofZ {z = p} (record { sfits = c .before .multiply-add-arg .given })) refl
+
+loop-again : tie.Need-loop-again Inv-loop μ-loop
+loop-again c =
+    let s = c .before .before .before .before .before .before in
+    let l = c .before .before .before .before .loop in
+    let a = c .before .before .signed-at .result in
+    let told = c .before .before .signed-at .ensures in
+    let more = c .before .before .before .loop-test .taken in (
+      omega arith,
+      (
+        summed c ∙ dot-goes-on (now (s .args .s)) (s .args .at) (l .i) (now (s .args .point)) (toZ w64 (l .sum)) a (l .inv .1 .0) (told .0),
+        rw (summed c) (sum-grows (s .args .count) (l .i) (toZ w64 (l .sum)) a (item (now (s .args .point)) (l .i)) more (l .inv .1 .1) (told .1) (s .pre .1 .0 .small (l .i))),
+      ),
+    )
+
+mul-signed-at-2 : tie.Need-mul-signed-at-2 Inv-loop μ-loop
+mul-signed-at-2 c = omega arith
+
+add-signed-at-2 : tie.Need-add-signed-at-2 Inv-loop μ-loop
+add-signed-at-2 c = omega arith
+
+signed-at-requires-2 : tie.Need-signed-at-requires-2 Inv-loop μ-loop
+signed-at-requires-2 c κs = omega arith
+
+cast-multiply-add : tie.Need-cast-multiply-add Inv-loop μ-loop
+cast-multiply-add c = omega arith
+
+multiply-add-requires-2 : tie.Need-multiply-add-requires-2 Inv-loop μ-loop
+multiply-add-requires-2 c κs =
+    let s = c .before .before .before .before in
+    let b = c .signed-at2 .result in
+    rw (toZ-ofZ {z = b} (record { sfits = c .signed-at2 .ok }), toZ-pos w64 (s .args .q) (omega arith))
+    (bound-room (natAbs b) (s .args .q) (c .signed-at2 .ensures .1) (s .pre .1 .1))
+
+returns : tie.Need-returns Inv-loop μ-loop
+returns c =
+    let s = c .before .before .before .before .before in
+    let l = c .before .before .before .loop in
+    let b = c .before .signed-at2 .result in
+    let here : l .i ≡ s .args .count = omega arith in
+    let whole : toZ w64 (l .sum) ≡ dot (numbersAt (now (s .args .s)) (s .args .at) (s .args .count)) (now (s .args .point)) = l .inv .1 .0 ∙ ap (λ (i : ℕ). dot (numbersAt (now (s .args .s)) (s .args .at) i) (now (s .args .point))) here in
+    let bound : toZ w64 (ofZ w64 (c .multiply-add2 .result)) ≡ signedAt (now (s .args .s)) (s .args .at + 4 * s .args .count) *ℤ pos (s .args .q) =
+    toZ-ofZ {z = c .multiply-add2 .result} (record { sfits = c .multiply-add2 .ok })
+    ∙ c .multiply-add2 .ensures
+    ∙ rw (toZ-ofZ {z = b} (record { sfits = c .before .signed-at2 .ok }), toZ-pos w64 (s .args .q) (omega arith), c .before .signed-at2 .ensures .0) (+ℤ-idl _) in
+    row-compared (now (s .args .s)) (s .args .at) (s .args .count) (s .args .q) (now (s .args .point)) (toZ w64 (l .sum)) (toZ w64 (ofZ w64 (c .multiply-add2 .result))) whole bound
+
+pub row-holds-spec : {M : Type 1} → statement M
+row-holds-spec =
+    tie.close
+    (tie.spec
+    Inv-loop
+    μ-loop
+    loop-holds
+    mul-signed-at
+    add-signed-at
+    signed-at-requires
+    mul-multiply-add
+    element-copy-out-multiply-add
+    multiply-add-requires
+    add-i
+    loop-less
+    loop-again
+    mul-signed-at-2
+    add-signed-at-2
+    signed-at-requires-2
+    cast-multiply-add
+    multiply-add-requires-2
+    returns)

@@ -1,0 +1,45 @@
+-- What the contracts of run marking name besides the definitions of 01: a run sheet up to its steps, a step that was read, as
+-- the code holds it, and how far the marking of a run has come. Assumes nothing.
+use mathlib.Core.Path.{_≡_}
+use mathlib.Core.Bool.{cond}
+use mathlib.Core.List.{List}
+use Prim.Native.Nat.{ℕ, _^_, _≤_, _<_}
+use lib.Dec.{eqb}
+use lib.ListN.{length}
+use Rattle.sheets.specs.declared.Switches.{Switches}
+use Rattle.sheets.specs.declared.Step as coded
+use Rattle.sheets.specs.declared.Step.the-variants as step
+use Rattle.sheets.specs.Reading.{Reader, _>>_, header}
+use Rattle.sheets.specs.Model.{Model}
+use Rattle.sheets.specs.Locations.{locationCount}
+use Rattle.sheets.specs.Index.{componentsFrom}
+use Rattle.sheets.specs.Counts.{KnownSwitches}
+use Rattle.sheets.specs.RunSheet.{Opening, readOpening}
+use Rattle.sheets.specs.RunAnswers.{fourSwitches}
+use Rattle.marking.specs.declared.RunMarked.{RunMarked}
+use Rattle.marking.specs.Runs.{State}
+use Rattle.marking.specs.Held.{stateOf, SmallValues}
+use Rattle.marking.specs.Marking.{Marked, passed, stopped}
+
+-- a run sheet up to its steps: its header, then how the run begins
+unfoldable pub runOpening : Model → Reader Opening
+runOpening m = header 3 >> readOpening m
+
+-- a step that was read has a time below 2^24, or an event that is a label and switches of the components
+pub record KnownStep (index : List ℕ) (by : coded.Step) : Type 0 where
+  pub time : (δ : ℕ) → by ≡ step.Flow δ → δ < 2 ^ 24
+  pub event : (e : ℕ) (w : Switches) → by ≡ step.Jump e w → e ≤ 15
+  pub switches : (e : ℕ) (w : Switches) → by ≡ step.Jump e w → KnownSwitches index (fourSwitches w)
+
+-- how far the marking of a run has come: with number 0 its steps passed so far, with any other it has stopped
+unfoldable pub markedAs : List ℕ → RunMarked → Marked State
+markedAs index r =
+    cond (eqb (r .number) 0)
+    (passed (stateOf index (r .location) (r .values)) (r .place) (r .done))
+    (stopped (r .number) (r .place) (r .done))
+
+-- its state stands in a location of the model, with values as they are read, and its place in the sheet
+pub record RunStands (model index sheet : List ℕ) (r : RunMarked) : Type 0 where
+  pub located : r .location < locationCount (componentsFrom model index)
+  pub small : SmallValues (r .values)
+  pub placed : r .place ≤ length sheet

@@ -1,0 +1,135 @@
+// Marking a certificate: its regions, the proofs of all obligations, and its end.
+use crate::Answer;
+use crate::Marking;
+use crate::counting::obligation_count;
+use crate::counting::refused_score;
+use crate::obligations::mark_obligations;
+use sheets::Field;
+use sheets::Next;
+use sheets::certificate::read_regions;
+use sheets::header::finished;
+use sheets::header::header;
+use sheets::joints::location_count;
+use sheets::sheet::read_model;
+ghost use mathlib.Core.Path.{_≡_};
+ghost use Prim.Native.Nat.{_≤_};
+ghost use lib.ListN.{length};
+ghost use Rattle.sheets.specs.Locations.{locationCount};
+ghost use Rattle.sheets.specs.Joint.{joints};
+ghost use Rattle.sheets.specs.Index.{entry, componentsFrom, modelFrom};
+ghost use Rattle.sheets.specs.ModelSheet.{examLimits};
+ghost use Rattle.sheets.specs.Certificate.{readRegions};
+ghost use Rattle.sheets.specs.CertificateAnswers.{regionsFrom};
+ghost use Rattle.marking.specs.Obligations.{obligations};
+ghost use Rattle.marking.specs.Marking.{answer, refusedScore, passed, markProofs, closeCertificate, markRegions, markCertificate};
+ghost use Rattle.marking.specs.Listing.{GoodPaper};
+ghost use Rattle.marking.specs.Closing.{Accepted, certificateRegions};
+
+// An answer on the certificate sheet.
+fn on_certificate(number: u32, place: usize, done: u32, score: u32) -> Answer
+    requires { ⌜ place ≤ 32768 ⌝ }
+    ensures { λ r. ⌜ r ≡ answer number 1 place done score ⌝ }
+{
+    Answer {
+        number,
+        sheet: 1,
+        place: place as u32,
+        done,
+        score,
+    }
+}
+
+// The answer where a proof was refused. Only then are the obligations counted, for the score.
+fn stop_certificate(
+    model: &[u8],
+    index: &[u16; 988],
+    second: &[u8],
+    regions: &[u16; 128],
+    locations: u32,
+    marked: Marking,
+) -> Answer
+    requires { ⌜ GoodPaper (now model) (now index) (now second) (now regions) ⌝ }
+    requires { ⌜ (locations ≡ locationCount (componentsFrom (now model) (now index))) × (length (joints (componentsFrom (now model) (now index))) ≤ 4096) ⌝ }
+    requires { ⌜ (marked .place ≤ 32768) × (marked .done ≤ 1000000) ⌝ }
+    ensures { λ r. ⌜ r ≡ answer (marked .number) 1 (marked .place) (marked .done) (refusedScore (marked .done) (length (obligations (modelFrom (now (model .entry)) (now (index .entry))) (regionsFrom (now (second .entry)) (entry (now (index .entry)) 0) (now (regions .entry)) locations)))) ⌝ }
+{
+    let total = obligation_count(model, index, second, regions, locations);
+    let score = refused_score(marked.done, total);
+    on_certificate(marked.number, marked.place, marked.done, score)
+}
+
+// The end of a certificate whose proofs have all passed: no bytes are left.
+fn end_certificate(second: &[u8], place: usize, done: u32) -> Answer
+    requires { ⌜ (length (now second) ≤ 32768) × (place ≤ length (now second)) ⌝ }
+    ensures { λ r. ⌜ r ≡ closeCertificate done (now (second .entry)) (passed tt place done) ⌝ }
+{
+    match finished(second, place) {
+        Next::Refused(number, cut) => on_certificate(number, cut, done, 99),
+        Next::At(_) => on_certificate(0, second.len(), done, 100),
+    }
+}
+
+// A certificate after its regions: its proofs, then its end.
+fn mark_rest(
+    model: &[u8],
+    index: &[u16; 988],
+    second: &[u8],
+    regions: &[u16; 128],
+    locations: u32,
+    at: usize,
+) -> Answer
+    requires { ⌜ GoodPaper (now model) (now index) (now second) (now regions) ⌝ }
+    requires { ⌜ (locations ≡ locationCount (componentsFrom (now model) (now index))) × (length (joints (componentsFrom (now model) (now index))) ≤ 4096) ⌝ }
+    requires { ⌜ at ≤ length (now second) ⌝ }
+    ensures { λ r. ⌜ r ≡ closeCertificate (length (obligations (modelFrom (now (model .entry)) (now (index .entry))) (regionsFrom (now (second .entry)) (entry (now (index .entry)) 0) (now (regions .entry)) locations))) (now (second .entry)) (markProofs (obligations (modelFrom (now (model .entry)) (now (index .entry))) (regionsFrom (now (second .entry)) (entry (now (index .entry)) 0) (now (regions .entry)) locations)) (now (second .entry)) at 0) ⌝ }
+{
+    let marked = mark_obligations(model, index, second, regions, locations, at);
+    if marked.number != 0 {
+        return stop_certificate(model, index, second, regions, locations, marked);
+    }
+    end_certificate(second, marked.place, marked.done)
+}
+
+// A certificate after its header: its regions, then its proofs and its end.
+fn mark_body(model: &[u8], index: &[u16; 988], second: &[u8]) -> Answer
+    requires { ⌜ Accepted (now model) (now index) ⌝ }
+    requires { ⌜ (4 ≤ length (now second)) × (length (now second) ≤ 32768) ⌝ }
+    ensures { λ r. ⌜ r ≡ markRegions (modelFrom (now (model .entry)) (now (index .entry))) (now (second .entry)) (readRegions (modelFrom (now (model .entry)) (now (index .entry))) (now (second .entry)) 4) ⌝ }
+{
+    let locations = location_count(model, index);
+    let mut regions = [0u16; 128];
+    match read_regions(second, 4, index[0] as usize, locations, &mut regions) {
+        Next::Refused(number, place) => on_certificate(number, place, 0, 0),
+        Next::At(place) => mark_rest(model, index, second, &regions, locations, place),
+    }
+}
+
+// A certificate sheet, whole, on a model that was read.
+fn mark_sheet(model: &[u8], index: &[u16; 988], second: &[u8]) -> Answer
+    requires { ⌜ Accepted (now model) (now index) ⌝ }
+    ensures { λ r. ⌜ r ≡ markRegions (modelFrom (now (model .entry)) (now (index .entry))) (now (second .entry)) (certificateRegions (modelFrom (now (model .entry)) (now (index .entry))) (now (second .entry)) 0) ⌝ }
+{
+    match header(second, 2) {
+        Field::Refused(number, place) => on_certificate(number, place, 0, 0),
+        Field::Value(_, _) => mark_body(model, index, second),
+    }
+}
+
+// Marks a certificate: the model goes first, then the certificate sheet.
+pub fn mark_certificate(model: &[u8], second: &[u8]) -> Answer
+    ensures { λ r. ⌜ r ≡ markCertificate examLimits (now (model .entry)) (now (second .entry)) ⌝ }
+{
+    let read = read_model(model);
+    let index = read.index;
+    let next = read.next;
+    match next {
+        Next::Refused(number, place) => Answer {
+            number,
+            sheet: 0,
+            place: place as u32,
+            done: 0,
+            score: 0,
+        },
+        Next::At(_) => mark_sheet(model, &index, second),
+    }
+}

@@ -1,0 +1,271 @@
+// How many obligations there are: the goals of each group, counted and never listed.
+use sheets::joints::event_count;
+use sheets::joints::joint_at;
+use sheets::joints::modes_at;
+use sheets::joints::target_of;
+ghost use mathlib.Core.Path.{_≡_};
+ghost use mathlib.Core.Bool.{_||_};
+ghost use mathlib.Core.List.{[]};
+ghost use Prim.Native.Nat.{_+_, _*_, _≤_, _<_};
+ghost use lib.Dec.{eqb};
+ghost use lib.ListN.{length, getD};
+ghost use Rattle.farkas.specs.Lists.{every};
+ghost use Rattle.sheets.specs.Locations.{locationCount, modesAt, locationOf};
+ghost use Rattle.sheets.specs.Joint.{bit, numbersFrom, modesAfter, switchesOf, jointsOf, joints, joinAll, countUp};
+ghost use Rattle.sheets.specs.Index.{entry, componentPlace, modePlace, unsafePlace, unsafeFrom, componentsFrom, modelFrom, GoodIndex};
+ghost use Rattle.sheets.specs.Counts.{perComponent};
+ghost use Rattle.sheets.specs.CertificateAnswers.{regionsFrom};
+ghost use Rattle.marking.specs.Runs.{present, modesFit};
+ghost use Rattle.marking.specs.Obligations.{locationObligations, obligations};
+ghost use Rattle.marking.specs.Marking.{refusedScore};
+ghost use Rattle.marking.specs.Listing.{KnownModes, GoodPaper};
+ghost use Rattle.marking.specs.Counting.{regionIn, targetRows};
+
+// Whether a component's mode is a start mode.
+fn is_start(model: &[u8], index: &[u16; 988], k: usize, mode: u8) -> bool
+    requires { ⌜ GoodIndex (now model) (now index) ⌝ }
+    requires { ⌜ (k < entry (now index) 1) × (mode < entry (now index) (componentPlace k + 1)) ⌝ }
+    ensures { λ r. ⌜ r ≡ eqb (entry (now (index .entry)) (modePlace (componentPlace k) mode)) 1 ⌝ }
+{
+    index[16 + 219 * k + 3 + 7 * (mode as usize)] == 1
+}
+
+// Whether every present mode is a start mode.
+pub fn all_start(model: &[u8], index: &[u16; 988], modes: [u8; 4]) -> bool
+    requires { ⌜ GoodIndex (now model) (now index) × KnownModes (now index) modes ⌝ }
+    ensures { λ r. ⌜ r ≡ every (λ mode. eqb (mode .start) 1) (present (componentsFrom (now (model .entry)) (now (index .entry))) (perComponent (now (index .entry)) modes)) ⌝ }
+{
+    let components = index[1] as usize;
+    let mut k: usize = 0;
+    while k < components {
+        if !is_start(model, index, k, modes[k]) {
+            return false;
+        }
+        k += 1;
+    }
+    true
+}
+
+// Whether a mode that is asked for, or 255 for any, fits the present one.
+fn mode_fits(asked: u16, mode: u8) -> bool
+    ensures { λ r. ⌜ r ≡ (eqb asked 255 || eqb asked mode) ⌝ }
+{
+    if asked == 255 {
+        return true;
+    }
+    asked == mode as u16
+}
+
+// Whether the modes that an unsafe condition asks for fit the present ones.
+pub fn modes_fit(model: &[u8], index: &[u16; 988], u: usize, modes: [u8; 4]) -> bool
+    requires { ⌜ GoodIndex (now model) (now index) × (u < entry (now index) 2) ⌝ }
+    ensures { λ r. ⌜ r ≡ modesFit (unsafeFrom (now (model .entry)) (entry (now (index .entry)) 0) (entry (now (index .entry)) 1) (now (index .entry)) (unsafePlace u) .modes) (perComponent (now (index .entry)) modes) ⌝ }
+{
+    let components = index[1] as usize;
+    let mut k: usize = 0;
+    while k < components {
+        if !mode_fits(index[892 + 6 * u + k], modes[k]) {
+            return false;
+        }
+        k += 1;
+    }
+    true
+}
+
+// 1 for yes, 0 for no.
+fn one_if(yes: bool) -> u32
+    ensures { λ r. ⌜ r ≡ bit yes ⌝ }
+{
+    if yes { 1 } else { 0 }
+}
+
+// How many unsafe conditions there are whose modes fit the present ones.
+fn fitting_count(model: &[u8], index: &[u16; 988], modes: [u8; 4]) -> u32
+    requires { ⌜ GoodIndex (now model) (now index) ⌝ }
+    ensures { λ r. ⌜ r ≡ length (numbersFrom 0 (λ u. modesFit (u .modes) (perComponent (now (index .entry)) modes)) (modelFrom (now (model .entry)) (now (index .entry)) .unsafe)) ⌝ }
+{
+    let conditions = index[2] as usize;
+    let mut count: u32 = 0;
+    let mut u: usize = 0;
+    while u < conditions {
+        count += one_if(modes_fit(model, index, u, modes));
+        u += 1;
+    }
+    count
+}
+
+// How many rows a location's region has.
+fn region_rows(
+    model: &[u8],
+    index: &[u16; 988],
+    second: &[u8],
+    regions: &[u16; 128],
+    location: u32,
+) -> u32
+    requires { ⌜ GoodPaper (now model) (now index) (now second) (now regions) ⌝ }
+    requires { ⌜ location < locationCount (componentsFrom (now model) (now index)) ⌝ }
+    ensures { λ r. ⌜ r ≡ length (regionIn (now (model .entry)) (now (index .entry)) (now (second .entry)) (now (regions .entry)) location) ⌝ }
+{
+    regions[2 * (location as usize) + 1] as u32
+}
+
+// How many goals a location has: its region's rows from the start, if all its modes are start modes; after a flow; and one for each unsafe
+// condition that fits.
+fn location_goals(
+    model: &[u8],
+    index: &[u16; 988],
+    second: &[u8],
+    regions: &[u16; 128],
+    location: u32,
+) -> u32
+    requires { ⌜ GoodPaper (now model) (now index) (now second) (now regions) ⌝ }
+    requires { ⌜ location < locationCount (componentsFrom (now model) (now index)) ⌝ }
+    ensures { λ r. ⌜ r ≡ length (locationObligations (modelFrom (now (model .entry)) (now (index .entry))) (regionIn (now (model .entry)) (now (index .entry)) (now (second .entry)) (now (regions .entry))) location) ⌝ }
+{
+    let modes = modes_at(model, index, location);
+    let rows = region_rows(model, index, second, regions, location);
+    let fitting = fitting_count(model, index, modes);
+    let starts = one_if(all_start(model, index, modes));
+    starts * rows + (rows + fitting)
+}
+
+// How many goals all locations have.
+fn all_location_goals(
+    model: &[u8],
+    index: &[u16; 988],
+    second: &[u8],
+    regions: &[u16; 128],
+    locations: u32,
+) -> u32
+    requires { ⌜ GoodPaper (now model) (now index) (now second) (now regions) ⌝ }
+    requires { ⌜ locations ≡ locationCount (componentsFrom (now model) (now index)) ⌝ }
+    ensures { λ r. ⌜ r ≡ length (joinAll (locationObligations (modelFrom (now (model .entry)) (now (index .entry))) (regionIn (now (model .entry)) (now (index .entry)) (now (second .entry)) (now (regions .entry)))) (countUp 0 locations)) ⌝ }
+{
+    let mut count: u32 = 0;
+    let mut location: u32 = 0;
+    while location < locations {
+        count += location_goals(model, index, second, regions, location);
+        location += 1;
+    }
+    count
+}
+
+// How many goals a joint switch has, found by its number: the rows of its target's region.
+fn target_goals(
+    model: &[u8],
+    index: &[u16; 988],
+    second: &[u8],
+    regions: &[u16; 128],
+    location: u32,
+    modes: [u8; 4],
+    e: u32,
+    x: u32,
+) -> u32
+    requires { ⌜ GoodPaper (now model) (now index) (now second) (now regions) ⌝ }
+    requires { ⌜ (location < locationCount (componentsFrom (now model) (now index))) × (perComponent (now index) modes ≡ modesAt (componentsFrom (now model) (now index)) location) ⌝ }
+    requires { ⌜ (e ≤ 15) × (x < length (switchesOf (componentsFrom (now model) (now index)) (modesAt (componentsFrom (now model) (now index)) location) e)) ⌝ }
+    ensures { λ r. ⌜ r ≡ length (regionIn (now (model .entry)) (now (index .entry)) (now (second .entry)) (now (regions .entry)) (locationOf (componentsFrom (now (model .entry)) (now (index .entry))) (modesAfter (componentsFrom (now (model .entry)) (now (index .entry))) (modesAt (componentsFrom (now (model .entry)) (now (index .entry))) location) (getD (switchesOf (componentsFrom (now (model .entry)) (now (index .entry))) (modesAt (componentsFrom (now (model .entry)) (now (index .entry))) location) e) x [])))) ⌝ }
+{
+    let target = target_of(model, index, modes, joint_at(model, index, modes, e, x));
+    region_rows(model, index, second, regions, target)
+}
+
+// How many goals the joint switches of an event have, from a location with these modes.
+fn event_goals(
+    model: &[u8],
+    index: &[u16; 988],
+    second: &[u8],
+    regions: &[u16; 128],
+    location: u32,
+    modes: [u8; 4],
+    e: u32,
+) -> u32
+    requires { ⌜ GoodPaper (now model) (now index) (now second) (now regions) ⌝ }
+    requires { ⌜ (location < locationCount (componentsFrom (now model) (now index))) × (perComponent (now index) modes ≡ modesAt (componentsFrom (now model) (now index)) location) ⌝ }
+    requires { ⌜ e ≤ 15 ⌝ }
+    ensures { λ r. ⌜ r ≡ length (targetRows (regionIn (now (model .entry)) (now (index .entry)) (now (second .entry)) (now (regions .entry))) (jointsOf (componentsFrom (now (model .entry)) (now (index .entry))) location e)) ⌝ }
+{
+    let switches = event_count(model, index, modes, e);
+    let mut count: u32 = 0;
+    let mut x: u32 = 0;
+    while x < switches {
+        count += target_goals(model, index, second, regions, location, modes, e, x);
+        x += 1;
+    }
+    count
+}
+
+// How many goals the joint switches from a location have.
+fn jump_goals(
+    model: &[u8],
+    index: &[u16; 988],
+    second: &[u8],
+    regions: &[u16; 128],
+    location: u32,
+) -> u32
+    requires { ⌜ GoodPaper (now model) (now index) (now second) (now regions) ⌝ }
+    requires { ⌜ location < locationCount (componentsFrom (now model) (now index)) ⌝ }
+    ensures { λ r. ⌜ r ≡ length (targetRows (regionIn (now (model .entry)) (now (index .entry)) (now (second .entry)) (now (regions .entry))) (joinAll (jointsOf (componentsFrom (now (model .entry)) (now (index .entry))) location) (countUp 0 16))) ⌝ }
+{
+    let modes = modes_at(model, index, location);
+    let mut count: u32 = 0;
+    let mut e: u32 = 0;
+    while e < 16 {
+        count += event_goals(model, index, second, regions, location, modes, e);
+        e += 1;
+    }
+    count
+}
+
+// How many goals all joint switches have.
+fn all_jump_goals(
+    model: &[u8],
+    index: &[u16; 988],
+    second: &[u8],
+    regions: &[u16; 128],
+    locations: u32,
+) -> u32
+    requires { ⌜ GoodPaper (now model) (now index) (now second) (now regions) ⌝ }
+    requires { ⌜ (locations ≡ locationCount (componentsFrom (now model) (now index))) × (length (joints (componentsFrom (now model) (now index))) ≤ 4096) ⌝ }
+    ensures { λ r. ⌜ r ≡ length (targetRows (regionIn (now (model .entry)) (now (index .entry)) (now (second .entry)) (now (regions .entry))) (joints (componentsFrom (now (model .entry)) (now (index .entry))))) ⌝ }
+{
+    let mut count: u32 = 0;
+    let mut location: u32 = 0;
+    while location < locations {
+        count += jump_goals(model, index, second, regions, location);
+        location += 1;
+    }
+    count
+}
+
+// How many obligations there are in all.
+pub fn obligation_count(
+    model: &[u8],
+    index: &[u16; 988],
+    second: &[u8],
+    regions: &[u16; 128],
+    locations: u32,
+) -> u32
+    requires { ⌜ GoodPaper (now model) (now index) (now second) (now regions) ⌝ }
+    requires { ⌜ (locations ≡ locationCount (componentsFrom (now model) (now index))) × (length (joints (componentsFrom (now model) (now index))) ≤ 4096) ⌝ }
+    ensures { λ r. ⌜ r ≡ length (obligations (modelFrom (now (model .entry)) (now (index .entry))) (regionsFrom (now (second .entry)) (entry (now (index .entry)) 0) (now (regions .entry)) locations)) ⌝ }
+{
+    let here = all_location_goals(model, index, second, regions, locations);
+    here + all_jump_goals(model, index, second, regions, locations)
+}
+
+// The score of a refused certificate: 100 times the proofs that passed over all obligations, rounded down, or 100 if there are none; at
+// most 99.
+pub fn refused_score(done: u32, total: u32) -> u32
+    requires { ⌜ done ≤ 1000000 ⌝ }
+    ensures { λ r. ⌜ r ≡ refusedScore done total ⌝ }
+{
+    if total == 0 {
+        return 99;
+    }
+    let score = 100 * done / total;
+    if 99 < score {
+        return 99;
+    }
+    score
+}

@@ -1,0 +1,221 @@
+// Steps of a run: joint switches, the rule of a jump, whether a step is allowed, and the location that it leads to.
+use crate::values::admissible;
+use crate::values::flow_rule;
+use crate::values::jump_rows;
+use crate::values::staying_kept;
+use sheets::Step;
+use sheets::joints::in_scope;
+use sheets::joints::leaves_by;
+use sheets::joints::modes_at;
+use sheets::joints::scope_mask;
+use sheets::joints::target_of;
+ghost use mathlib.Core.Path.{_≡_};
+ghost use mathlib.Core.List.{[]};
+ghost use Prim.Native.Nat.{_^_, _≤_, _<_};
+ghost use lib.ListN.{drop};
+ghost use Rattle.sheets.specs.Locations.{locationCount};
+ghost use Rattle.sheets.specs.Joint.{moves, partIn, membersMove, allStay, oneMoves, isJoint};
+ghost use Rattle.sheets.specs.Index.{entry, componentsFrom, modelFrom, GoodIndex};
+ghost use Rattle.sheets.specs.Counts.{componentAt, perComponent, KnownSwitches};
+ghost use Rattle.sheets.specs.RunAnswers.{stepOf};
+ghost use Rattle.sheets.specs.RunSheet.{jump};
+ghost use Rattle.marking.specs.Runs as runs;
+ghost use Rattle.marking.specs.Held.{perVariable, stateOf, SmallValues};
+ghost use Rattle.marking.specs.RunHeld.{KnownStep};
+
+// Whether a component moves by this number: that of one of its switches, which has this label and leaves this mode.
+fn moves_by(model: &[u8], index: &[u16; 988], k: usize, mode: u8, e: u32, i: u8) -> bool
+    requires { ⌜ GoodIndex (now model) (now index) ⌝ }
+    requires { ⌜ k < entry (now index) 1 ⌝ }
+    ensures { λ r. ⌜ r ≡ moves (componentAt (now (model .entry)) (now (index .entry)) k) mode e i ⌝ }
+{
+    if index[16 + 219 * k + 2] as usize <= i as usize {
+        return false;
+    }
+    leaves_by(model, index, k, i as usize, mode, e)
+}
+
+// A component's part in an event: a member of the scope moves by this number, any other component stays.
+fn part_in(model: &[u8], index: &[u16; 988], k: usize, mode: u8, e: u32, i: u8) -> bool
+    requires { ⌜ GoodIndex (now model) (now index) ⌝ }
+    requires { ⌜ (k < entry (now index) 1) × (e ≤ 15) ⌝ }
+    ensures { λ r. ⌜ r ≡ partIn (componentAt (now (model .entry)) (now (index .entry)) k) mode e i ⌝ }
+{
+    if in_scope(model, index, k, e) {
+        moves_by(model, index, k, mode, e, i)
+    } else {
+        i == 255
+    }
+}
+
+// Whether every component has its part in an event.
+fn members_move(model: &[u8], index: &[u16; 988], modes: [u8; 4], e: u32, switches: [u8; 4]) -> bool
+    requires { ⌜ GoodIndex (now model) (now index) ⌝ }
+    requires { ⌜ e ≤ 15 ⌝ }
+    ensures { λ r. ⌜ r ≡ membersMove (componentsFrom (now (model .entry)) (now (index .entry))) (perComponent (now (index .entry)) modes) e (perComponent (now (index .entry)) switches) ⌝ }
+{
+    let components = index[1] as usize;
+    let mut k: usize = 0;
+    while k < components {
+        if !part_in(model, index, k, modes[k], e, switches[k]) {
+            return false;
+        }
+        k += 1;
+    }
+    true
+}
+
+// Whether every component from one on stays.
+fn all_stay(model: &[u8], index: &[u16; 988], switches: [u8; 4], from: usize) -> bool
+    requires { ⌜ GoodIndex (now model) (now index) ⌝ }
+    requires { ⌜ from ≤ entry (now index) 1 ⌝ }
+    ensures { λ r. ⌜ r ≡ allStay (drop from (componentsFrom (now (model .entry)) (now (index .entry)))) (drop from (perComponent (now (index .entry)) switches)) ⌝ }
+{
+    let components = index[1] as usize;
+    let mut k = from;
+    while k < components {
+        if switches[k] != 255 {
+            return false;
+        }
+        k += 1;
+    }
+    true
+}
+
+// Whether one component moves, by a switch with label 0, and every other stays.
+fn one_moves(model: &[u8], index: &[u16; 988], modes: [u8; 4], switches: [u8; 4]) -> bool
+    requires { ⌜ GoodIndex (now model) (now index) ⌝ }
+    ensures { λ r. ⌜ r ≡ oneMoves (componentsFrom (now (model .entry)) (now (index .entry))) (perComponent (now (index .entry)) modes) (perComponent (now (index .entry)) switches) ⌝ }
+{
+    let components = index[1] as usize;
+    let mut k: usize = 0;
+    while k < components {
+        if switches[k] != 255 {
+            if !moves_by(model, index, k, modes[k], 0, switches[k]) {
+                return false;
+            }
+            return all_stay(model, index, switches, k + 1);
+        }
+        k += 1;
+    }
+    false
+}
+
+// Whether switch numbers, one per component, are a joint switch of an event from a location with these modes. An empty scope gives no
+// step.
+pub fn is_joint(model: &[u8], index: &[u16; 988], modes: [u8; 4], e: u32, switches: [u8; 4]) -> bool
+    requires { ⌜ GoodIndex (now model) (now index) ⌝ }
+    requires { ⌜ e ≤ 15 ⌝ }
+    ensures { λ r. ⌜ r ≡ isJoint (componentsFrom (now (model .entry)) (now (index .entry))) (perComponent (now (index .entry)) modes) e (perComponent (now (index .entry)) switches) ⌝ }
+{
+    if e == 0 {
+        return one_moves(model, index, modes, switches);
+    }
+    let mask = scope_mask(model, index, e);
+    if u32::count_ones(mask) == 0 {
+        return false;
+    }
+    members_move(model, index, modes, e, switches)
+}
+
+// Whether a jump meets its rule: a joint switch from the present location, whose rows hold, and staying components keep their values.
+pub fn jump_rule(
+    model: &[u8],
+    index: &[u16; 988],
+    location: u32,
+    q: u32,
+    e: u32,
+    switches: [u8; 4],
+    values: [i64; 8],
+    next: [i64; 8],
+) -> bool
+    requires { ⌜ GoodIndex (now model) (now index) ⌝ }
+    requires { ⌜ KnownSwitches (now index) switches ⌝ }
+    requires { ⌜ (location < locationCount (componentsFrom (now model) (now index))) × ((e ≤ 15) × ((q < 2 ^ 24) × (SmallValues values × SmallValues next))) ⌝ }
+    ensures { λ r. ⌜ r ≡ runs.jumpRule (modelFrom (now (model .entry)) (now (index .entry))) q (stateOf (now (index .entry)) location values) e (perComponent (now (index .entry)) switches) (perVariable (now (index .entry)) next) ⌝ }
+{
+    if !is_joint(model, index, modes_at(model, index, location), e, switches) {
+        return false;
+    }
+    if !jump_rows(model, index, location, q, switches, values, next) {
+        return false;
+    }
+    staying_kept(model, index, location, switches, values, next)
+}
+
+// Whether a jump is allowed: it meets its rule and leads to an admissible state.
+fn jump_allowed(
+    model: &[u8],
+    index: &[u16; 988],
+    location: u32,
+    q: u32,
+    e: u32,
+    switches: [u8; 4],
+    values: [i64; 8],
+    next: [i64; 8],
+) -> bool
+    requires { ⌜ GoodIndex (now model) (now index) ⌝ }
+    requires { ⌜ KnownSwitches (now index) switches ⌝ }
+    requires { ⌜ (location < locationCount (componentsFrom (now model) (now index))) × ((e ≤ 15) × ((q < 2 ^ 24) × (SmallValues values × SmallValues next))) ⌝ }
+    ensures { λ r. ⌜ r ≡ runs.stepAllowed (modelFrom (now (model .entry)) (now (index .entry))) q (stateOf (now (index .entry)) location values) (jump e (perComponent (now (index .entry)) switches) (perVariable (now (index .entry)) next)) ⌝ }
+{
+    let target = target_of(model, index, modes_at(model, index, location), switches);
+    if !admissible(model, index, target, q, next) {
+        return false;
+    }
+    jump_rule(model, index, location, q, e, switches, values, next)
+}
+
+// Whether a step is allowed: it leads to an admissible state and meets its rule.
+pub fn step_allowed(
+    model: &[u8],
+    index: &[u16; 988],
+    location: u32,
+    q: u32,
+    values: [i64; 8],
+    by: Step,
+    next: [i64; 8],
+) -> bool
+    requires { ⌜ GoodIndex (now model) (now index) ⌝ }
+    requires { ⌜ KnownStep (now index) by ⌝ }
+    requires { ⌜ (location < locationCount (componentsFrom (now model) (now index))) × ((q < 2 ^ 24) × (SmallValues values × SmallValues next)) ⌝ }
+    ensures { λ r. ⌜ r ≡ runs.stepAllowed (modelFrom (now (model .entry)) (now (index .entry))) q (stateOf (now (index .entry)) location values) (stepOf (entry (now (index .entry)) 1) by (perVariable (now (index .entry)) next)) ⌝ }
+{
+    match by {
+        Step::Flow(time) => {
+            if !admissible(model, index, location, q, next) {
+                return false;
+            }
+            flow_rule(model, index, location, time, values, next)
+        }
+        Step::Jump(e, w) => jump_allowed(
+            model,
+            index,
+            location,
+            q,
+            e,
+            [w.a, w.b, w.c, w.d],
+            values,
+            next,
+        ),
+    }
+}
+
+// The location that a step leads to: a flow keeps it.
+pub fn location_after(model: &[u8], index: &[u16; 988], location: u32, by: Step) -> u32
+    requires { ⌜ GoodIndex (now model) (now index) ⌝ }
+    requires { ⌜ KnownStep (now index) by ⌝ }
+    requires { ⌜ location < locationCount (componentsFrom (now model) (now index)) ⌝ }
+    ensures { λ r. ⌜ r ≡ runs.after (modelFrom (now (model .entry)) (now (index .entry))) (stateOf (now (index .entry)) location []) (stepOf (entry (now (index .entry)) 1) by []) .location ⌝ }
+    ensures { λ r. ⌜ r < locationCount (componentsFrom (now (model .entry)) (now (index .entry))) ⌝ }
+{
+    match by {
+        Step::Flow(_) => location,
+        Step::Jump(_, w) => target_of(
+            model,
+            index,
+            modes_at(model, index, location),
+            [w.a, w.b, w.c, w.d],
+        ),
+    }
+}

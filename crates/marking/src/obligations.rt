@@ -1,0 +1,273 @@
+// The proofs of a certificate, one per obligation, read and tested in order up to the first that fails.
+use crate::Group;
+use crate::Marking;
+use crate::groups::group_at;
+use crate::groups::jump_group;
+use crate::proofs::mark_proof;
+use crate::proofs::row_on;
+use farkas::Row;
+use farkas::no_sums;
+use sheets::Next;
+use sheets::joints::event_count;
+use sheets::joints::joint_at;
+use sheets::joints::modes_at;
+use sheets::joints::target_of;
+ghost use mathlib.Core.Path.{_≡_};
+ghost use mathlib.Core.Bool.{false};
+ghost use Prim.Native.Nat.{_+_, _*_, _^_, _≤_, _<_};
+ghost use lib.ListN.{length, getD};
+ghost use Rattle.farkas.specs.Rows.{zeroRow};
+ghost use Rattle.farkas.specs.Sizes.{Within};
+ghost use Rattle.sheets.specs.Locations.{locationCount};
+ghost use Rattle.sheets.specs.Joint.{countUp, joinAll, jointsOf, joints};
+ghost use Rattle.sheets.specs.Index.{entry, componentsFrom, modelFrom};
+ghost use Rattle.sheets.specs.CertificateAnswers.{regionsFrom};
+ghost use Rattle.marking.specs.Obligations.{obligations};
+ghost use Rattle.marking.specs.Marking.{markProofs};
+ghost use Rattle.marking.specs.Tables.{padded, heldNext};
+ghost use Rattle.marking.specs.Listing.{GoodPaper, Stands, jointTasks, GoodGroup, goalsOf, tasksOf, noTask, markTask, tasks, locationTasks, regionsOf, markTasks, standsAt};
+
+// A goal of a group, by its number: a row of the certificate on x or x', or no row.
+fn goal_row(second: &[u8], n: usize, group: Group, goal: u32) -> Row
+    requires { ⌜ length (now second) ≤ 32768 ⌝ }
+    requires { ⌜ (n ≤ 8) × (((group .zero ≡ false) → group .from + 4 * (n + 1) * (goal + 1) ≤ length (now second)) × ((group .shift ≤ 8) × (goal < group .goals))) ⌝ }
+    ensures { λ r. ⌜ r ≡ padded (getD (goalsOf (now (second .entry)) n group) goal zeroRow) ⌝ }
+    ensures { λ r. ⌜ Within (2 ^ 31) r ⌝ }
+{
+    if group.zero {
+        return no_sums();
+    }
+    row_on(
+        second,
+        group.from + 4 * (n + 1) * (goal as usize),
+        n,
+        group.shift,
+    )
+}
+
+// The proof of one of a group's goals, by its number, read from a place on and tested.
+fn mark_goal(
+    model: &[u8],
+    second: &[u8],
+    n: usize,
+    table: &[u16; 256],
+    group: Group,
+    goal: u32,
+    at: usize,
+) -> Next
+    requires { ⌜ length (now second) ≤ 32768 ⌝ }
+    requires { ⌜ (n ≤ 8) × (GoodGroup (now model) (now second) n (now table) group × (goal < group .goals)) ⌝ }
+    ensures { λ r. ⌜ r ≡ heldNext (markTask (getD (tasksOf (now (model .entry)) (now (second .entry)) n (now (table .entry)) group) goal noTask) (now (second .entry)) at) ⌝ }
+{
+    let row = goal_row(second, n, group, goal);
+    mark_proof(
+        model,
+        second,
+        n,
+        table,
+        group.hypotheses,
+        group.zero,
+        row,
+        at,
+    )
+}
+
+// The proofs of all locations, from a place on, up to the first that fails: of each location those of its start, of its flow and of each
+// unsafe condition, and of each of these one for each row.
+fn mark_locations(
+    model: &[u8],
+    index: &[u16; 988],
+    second: &[u8],
+    regions: &[u16; 128],
+    locations: u32,
+    at: usize,
+    table: &mut [u16; 256],
+) -> Marking
+    requires { ⌜ GoodPaper (now model) (now index) (now second) (now regions) ⌝ }
+    requires { ⌜ (locations ≡ locationCount (componentsFrom (now model) (now index))) × (at ≤ length (now second)) ⌝ }
+    ensures { λ r. ⌜ r ≡ standsAt (markTasks (joinAll (locationTasks (modelFrom (now (model .entry)) (now (index .entry))) (regionsOf (now (model .entry)) (now (index .entry)) (now (second .entry)) (now (regions .entry)))) (countUp 0 locations)) (now (second .entry)) at 0) ⌝ }
+{
+    let n = index[0] as usize;
+    let groups = index[2] as u32 + 2;
+    let mut number: u32 = 0;
+    let mut place = at;
+    let mut done: u32 = 0;
+    let mut location: u32 = 0;
+    'marking: while location < locations {
+        let modes = modes_at(model, index, location);
+        let mut g: u32 = 0;
+        while g < groups {
+            let group = group_at(model, index, second, regions, location, modes, g, table);
+            let goals = group.goals;
+            let mut goal: u32 = 0;
+            while goal < goals {
+                match mark_goal(model, second, n, table, group, goal, place) {
+                    Next::Refused(fault, cut) => {
+                        number = fault;
+                        place = cut;
+                        break 'marking;
+                    }
+                    Next::At(next) => {
+                        place = next;
+                        done += 1;
+                    }
+                }
+                goal += 1;
+            }
+            g += 1;
+        }
+        location += 1;
+    }
+    Marking {
+        number,
+        place,
+        done,
+    }
+}
+
+// The proofs of the joint switches of one event from a location, from a place on and with so many passed before, up to the first that
+// fails: of each joint switch one for each row of its target's region.
+fn mark_event(
+    model: &[u8],
+    index: &[u16; 988],
+    second: &[u8],
+    regions: &[u16; 128],
+    location: u32,
+    modes: [u8; 4],
+    e: u32,
+    at: usize,
+    before: u32,
+    table: &mut [u16; 256],
+) -> Marking
+    requires { ⌜ GoodPaper (now model) (now index) (now second) (now regions) ⌝ }
+    requires { ⌜ Stands (now model) (now index) location modes × ((e ≤ 15) × ((at ≤ length (now second)) × (before ≤ at))) ⌝ }
+    ensures { λ r. ⌜ r ≡ standsAt (markTasks (jointTasks (modelFrom (now (model .entry)) (now (index .entry))) (regionsOf (now (model .entry)) (now (index .entry)) (now (second .entry)) (now (regions .entry))) (jointsOf (componentsFrom (now (model .entry)) (now (index .entry))) location e)) (now (second .entry)) at before) ⌝ }
+{
+    let n = index[0] as usize;
+    let count = event_count(model, index, modes, e);
+    let mut number: u32 = 0;
+    let mut place = at;
+    let mut done = before;
+    let mut x: u32 = 0;
+    'marking: while x < count {
+        let switches = joint_at(model, index, modes, e, x);
+        let target = target_of(model, index, modes, switches);
+        let targets = modes_at(model, index, target);
+        let group = jump_group(
+            model,
+            index,
+            second,
+            regions,
+            location,
+            modes,
+            switches,
+            target,
+            targets,
+            table,
+        );
+        let goals = group.goals;
+        let mut goal: u32 = 0;
+        while goal < goals {
+            match mark_goal(model, second, n, table, group, goal, place) {
+                Next::Refused(fault, cut) => {
+                    number = fault;
+                    place = cut;
+                    break 'marking;
+                }
+                Next::At(next) => {
+                    place = next;
+                    done += 1;
+                }
+            }
+            goal += 1;
+        }
+        x += 1;
+    }
+    Marking {
+        number,
+        place,
+        done,
+    }
+}
+
+// The proofs of all joint switches, location by location and event by event.
+fn mark_joints(
+    model: &[u8],
+    index: &[u16; 988],
+    second: &[u8],
+    regions: &[u16; 128],
+    locations: u32,
+    at: usize,
+    before: u32,
+    table: &mut [u16; 256],
+) -> Marking
+    requires { ⌜ GoodPaper (now model) (now index) (now second) (now regions) ⌝ }
+    requires { ⌜ (locations ≡ locationCount (componentsFrom (now model) (now index))) × ((at ≤ length (now second)) × (before ≤ at)) ⌝ }
+    ensures { λ r. ⌜ r ≡ standsAt (markTasks (jointTasks (modelFrom (now (model .entry)) (now (index .entry))) (regionsOf (now (model .entry)) (now (index .entry)) (now (second .entry)) (now (regions .entry))) (joints (componentsFrom (now (model .entry)) (now (index .entry))))) (now (second .entry)) at before) ⌝ }
+{
+    let mut number: u32 = 0;
+    let mut place = at;
+    let mut done = before;
+    let mut location: u32 = 0;
+    'marking: while location < locations {
+        let modes = modes_at(model, index, location);
+        let mut e: u32 = 0;
+        while e < 16 {
+            let marked = mark_event(
+                model,
+                index,
+                second,
+                regions,
+                location,
+                modes,
+                e,
+                place,
+                done,
+                table,
+            );
+            number = marked.number;
+            place = marked.place;
+            done = marked.done;
+            if number != 0 {
+                break 'marking;
+            }
+            e += 1;
+        }
+        location += 1;
+    }
+    Marking {
+        number,
+        place,
+        done,
+    }
+}
+
+// The proofs of all obligations, from a place on, up to the first that fails: those of the locations, then those of the joint switches.
+pub fn mark_obligations(
+    model: &[u8],
+    index: &[u16; 988],
+    second: &[u8],
+    regions: &[u16; 128],
+    locations: u32,
+    at: usize,
+) -> Marking
+    requires { ⌜ GoodPaper (now model) (now index) (now second) (now regions) ⌝ }
+    requires { ⌜ (locations ≡ locationCount (componentsFrom (now model) (now index))) × (at ≤ length (now second)) ⌝ }
+    ensures { λ r. ⌜ r ≡ standsAt (markProofs (obligations (modelFrom (now (model .entry)) (now (index .entry))) (regionsFrom (now (second .entry)) (entry (now (index .entry)) 0) (now (regions .entry)) locations)) (now (second .entry)) at 0) ⌝ }
+{
+    let mut table = [0u16; 256];
+    let marked = mark_locations(model, index, second, regions, locations, at, &mut table);
+    if marked.number != 0 {
+        return marked;
+    }
+    mark_joints(
+        model,
+        index,
+        second,
+        regions,
+        locations,
+        marked.place,
+        marked.done,
+        &mut table,
+    )
+}

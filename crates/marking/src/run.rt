@@ -1,0 +1,195 @@
+// Marking a run sheet: its opening, its steps one after the other, and its end.
+use crate::Answer;
+use crate::RunMarked;
+use crate::jumps::location_after;
+use crate::jumps::step_allowed;
+use crate::values::is_unsafe;
+use crate::values::start_allowed;
+use sheets::Field;
+use sheets::Next;
+use sheets::OpeningRead;
+use sheets::StepRead;
+use sheets::header::finished;
+use sheets::header::header;
+use sheets::joints::location_count;
+use sheets::run::opening;
+use sheets::run::step;
+use sheets::sheet::read_model;
+ghost use mathlib.Core.Path.{_≡_};
+ghost use Prim.Native.Nat.{_+_, _^_, _≤_, _<_};
+ghost use lib.ListN.{length};
+ghost use Rattle.sheets.specs.Index.{modelFrom, GoodIndex};
+ghost use Rattle.sheets.specs.ModelSheet.{examLimits};
+ghost use Rattle.sheets.specs.RunSheet.{readOpening};
+ghost use Rattle.marking.specs.Held.{stateOf};
+ghost use Rattle.marking.specs.RunHeld.{runOpening, markedAs, RunStands};
+ghost use Rattle.marking.specs.Marking.{answer, markSteps, closeRun, markOpening, markRun};
+
+// One step: it is read, then tested; 13 at its first byte.
+fn mark_step(model: &[u8], index: &[u16; 988], s: &[u8], q: u32, run: RunMarked) -> RunMarked
+    requires { ⌜ GoodIndex (now model) (now index) ⌝ }
+    requires { ⌜ RunStands (now model) (now index) (now s) run ⌝ }
+    requires { ⌜ (q < 2 ^ 24) × (run .done < 4095) ⌝ }
+    ensures { λ r. ⌜ markedAs (now (index .entry)) r ≡ markSteps (modelFrom (now (model .entry)) (now (index .entry))) q (stateOf (now (index .entry)) (run .location) (run .values)) 1 (now (s .entry)) (run .place) (run .done) ⌝ }
+    ensures { λ r. ⌜ RunStands (now (model .entry)) (now (index .entry)) (now (s .entry)) r ⌝ }
+{
+    let read = step(model, index, s, run.place);
+    let values = read.values;
+    let told = read.read;
+    let before = run.values;
+    match told {
+        StepRead::Refused(number, place) => RunMarked {
+            number,
+            place,
+            done: run.done,
+            location: run.location,
+            values: before,
+        },
+        StepRead::Good(by, place) => {
+            if !step_allowed(model, index, run.location, q, before, by, values) {
+                return RunMarked {
+                    number: 13,
+                    place: run.place,
+                    done: run.done,
+                    location: run.location,
+                    values: before,
+                };
+            }
+            let location = location_after(model, index, run.location, by);
+            RunMarked {
+                number: 0,
+                place,
+                done: run.done + 1,
+                location,
+                values,
+            }
+        }
+    }
+}
+
+// The steps, one after the other: marking stops at the first that fails.
+fn mark_steps(
+    model: &[u8],
+    index: &[u16; 988],
+    s: &[u8],
+    q: u32,
+    steps: u32,
+    first: RunMarked,
+) -> RunMarked
+    requires { ⌜ GoodIndex (now model) (now index) ⌝ }
+    requires { ⌜ RunStands (now model) (now index) (now s) first ⌝ }
+    requires { ⌜ (q < 2 ^ 24) × ((first .number ≡ 0) × (first .done + steps ≤ 4095)) ⌝ }
+    ensures { λ r. ⌜ markedAs (now (index .entry)) r ≡ markSteps (modelFrom (now (model .entry)) (now (index .entry))) q (stateOf (now (index .entry)) (first .location) (first .values)) steps (now (s .entry)) (first .place) (first .done) ⌝ }
+    ensures { λ r. ⌜ RunStands (now (model .entry)) (now (index .entry)) (now (s .entry)) r ⌝ }
+{
+    let mut run = first;
+    let mut left = steps;
+    while 0 < left {
+        run = mark_step(model, index, s, q, run);
+        if run.number != 0 {
+            return run;
+        }
+        left -= 1;
+    }
+    run
+}
+
+// An answer on the run sheet.
+fn on_run(number: u32, place: usize, done: u32, score: u32) -> Answer
+    requires { ⌜ place ≤ 32768 ⌝ }
+    ensures { λ r. ⌜ r ≡ answer number 1 place done score ⌝ }
+{
+    Answer {
+        number,
+        sheet: 1,
+        place: place as u32,
+        done,
+        score,
+    }
+}
+
+// The end of a run: its steps passed, no bytes are left, and the state reached is unsafe; 14 at the sheet's length.
+fn close_run(model: &[u8], index: &[u16; 988], s: &[u8], q: u32, run: RunMarked) -> Answer
+    requires { ⌜ GoodIndex (now model) (now index) ⌝ }
+    requires { ⌜ RunStands (now model) (now index) (now s) run ⌝ }
+    requires { ⌜ (q < 2 ^ 24) × (length (now s) ≤ 32768) ⌝ }
+    ensures { λ r. ⌜ r ≡ closeRun (modelFrom (now (model .entry)) (now (index .entry))) q (now (s .entry)) (markedAs (now (index .entry)) run) ⌝ }
+{
+    if run.number != 0 {
+        return on_run(run.number, run.place, run.done, 0);
+    }
+    match finished(s, run.place) {
+        Next::Refused(number, place) => on_run(number, place, run.done, 0),
+        Next::At(_) => {
+            let values = run.values;
+            if is_unsafe(model, index, run.location, q, values) {
+                on_run(0, s.len(), run.done, 100)
+            } else {
+                on_run(14, s.len(), run.done, 0)
+            }
+        }
+    }
+}
+
+// A run sheet after its header: its opening, 12 at the location byte, then its steps and its end.
+fn mark_body(model: &[u8], index: &[u16; 988], s: &[u8]) -> Answer
+    requires { ⌜ GoodIndex (now model) (now index) ⌝ }
+    requires { ⌜ (4 ≤ length (now s)) × (length (now s) ≤ 32768) ⌝ }
+    ensures { λ r. ⌜ r ≡ markOpening (modelFrom (now (model .entry)) (now (index .entry))) (now (s .entry)) (readOpening (modelFrom (now (model .entry)) (now (index .entry))) (now (s .entry)) 4) ⌝ }
+{
+    let read = opening(model, index, location_count(model, index), s, 4);
+    let values = read.values;
+    let told = read.read;
+    match told {
+        OpeningRead::Refused(number, place) => on_run(number, place, 0, 0),
+        OpeningRead::Opening(q, steps, location, next) => {
+            if !start_allowed(model, index, location, q, values) {
+                return on_run(12, 10, 0, 0);
+            }
+            let first = RunMarked {
+                number: 0,
+                place: next,
+                done: 0,
+                location,
+                values,
+            };
+            close_run(
+                model,
+                index,
+                s,
+                q,
+                mark_steps(model, index, s, q, steps, first),
+            )
+        }
+    }
+}
+
+// A run sheet, whole, on a model that was read.
+fn mark_sheet(model: &[u8], index: &[u16; 988], s: &[u8]) -> Answer
+    requires { ⌜ GoodIndex (now model) (now index) ⌝ }
+    ensures { λ r. ⌜ r ≡ markOpening (modelFrom (now (model .entry)) (now (index .entry))) (now (s .entry)) (runOpening (modelFrom (now (model .entry)) (now (index .entry))) (now (s .entry)) 0) ⌝ }
+{
+    match header(s, 3) {
+        Field::Refused(number, place) => on_run(number, place, 0, 0),
+        Field::Value(_, _) => mark_body(model, index, s),
+    }
+}
+
+// Marks a run: the model goes first, then the run sheet.
+pub fn mark_run(model: &[u8], second: &[u8]) -> Answer
+    ensures { λ r. ⌜ r ≡ markRun examLimits (now (model .entry)) (now (second .entry)) ⌝ }
+{
+    let read = read_model(model);
+    let index = read.index;
+    let next = read.next;
+    match next {
+        Next::Refused(number, place) => Answer {
+            number,
+            sheet: 0,
+            place: place as u32,
+            done: 0,
+            score: 0,
+        },
+        Next::At(_) => mark_sheet(model, &index, second),
+    }
+}

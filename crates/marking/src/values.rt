@@ -1,0 +1,399 @@
+// Tests on the values of states: rows that hold, invariants, how a run may begin, the rules of flows and jumps, unsafe states.
+use farkas::multiply_add;
+use sheets::fields::signed_at;
+use sheets::joints::modes_at;
+ghost use mathlib.Core.Path.{_≡_};
+ghost use mathlib.Core.Bool.{false, _||_};
+ghost use mathlib.Core.List.{_++_};
+ghost use Prim.Native.Nat.{ℕ, _+_, _*_, _^_, _≤_, _<_};
+ghost use lib.Dec.{eqb};
+ghost use lib.IntN.{pos};
+ghost use lib.ListN.{length, getD, take, replicate};
+ghost use lib.Seq.{paste};
+ghost use Rattle.farkas.specs.Lists.{every, some};
+ghost use Rattle.farkas.specs.Rows.{rowHolds};
+ghost use Rattle.farkas.specs.Farkas.{sameZ};
+ghost use Rattle.sheets.specs.Locations.{locationCount};
+ghost use Rattle.sheets.specs.Joint.{stays, countUp};
+ghost use Rattle.sheets.specs.Places.{rowAt};
+ghost use Rattle.sheets.specs.Index.{entry, ownerPlace, componentPlace, spanRows, componentsFrom, modelFrom, GoodSpan, GoodIndex};
+ghost use Rattle.sheets.specs.Counts.{perComponent, KnownSwitches};
+ghost use Rattle.marking.specs.Runs as runs;
+ghost use Rattle.marking.specs.Held.{perVariable, stateOf, SmallValues, SmallPoint, GoodModes, modeHolds, startsAt, fitsAt, unsafeAt, moveHolds, sameAt, keptAt};
+
+// A number of an index, as places have it.
+fn wide(x: u16) -> usize
+    ensures { λ r. ⌜ r ≡ x ⌝ }
+{
+    x as usize
+}
+
+// A number of an index, by its place.
+fn number_at(index: &[u16; 988], i: usize) -> usize
+    requires { ⌜ i < 988 ⌝ }
+    ensures { λ r. ⌜ r ≡ entry (now (index .entry)) i ⌝ }
+{
+    wide(index[i])
+}
+
+// Whether a row with so many coefficients holds at a point over q: a·p ≤ b·q.
+fn row_holds(s: &[u8], at: usize, count: usize, point: &[i64; 16], q: u32) -> bool
+    requires { ⌜ at + 4 * (count + 1) ≤ length (now s) ⌝ }
+    requires { ⌜ SmallPoint count (now point) × (q < 2 ^ 24) ⌝ }
+    ensures { λ r. ⌜ r ≡ rowHolds q (take count (now (point .entry))) (rowAt (now (s .entry)) count at .row) ⌝ }
+{
+    let mut sum: i64 = 0;
+    let mut i: usize = 0;
+    while i < count {
+        sum = multiply_add(sum, signed_at(s, at + 4 * i), point[i]);
+        i += 1;
+    }
+    sum <= multiply_add(0, signed_at(s, at + 4 * count), q as i64)
+}
+
+// Whether the rows hold that an index keeps at a place.
+fn condition_holds(
+    s: &[u8],
+    index: &[u16; 988],
+    place: usize,
+    count: usize,
+    point: &[i64; 16],
+    q: u32,
+) -> bool
+    requires { ⌜ (place + 1 < 988) × GoodSpan (now s) count (now index) place ⌝ }
+    requires { ⌜ SmallPoint count (now point) × (q < 2 ^ 24) ⌝ }
+    ensures { λ r. ⌜ r ≡ runs.conditionHolds q (take count (now (point .entry))) (spanRows (now (s .entry)) count (now (index .entry)) place) ⌝ }
+{
+    let rows = number_at(index, place + 1);
+    let mut at = number_at(index, place);
+    let mut j: usize = 0;
+    while j < rows {
+        if !row_holds(s, at, count, point, q) {
+            return false;
+        }
+        at += 4 * (count + 1);
+        j += 1;
+    }
+    true
+}
+
+// A mode of a component or a switch of it, as places have it.
+fn byte_wide(x: u8) -> usize
+    ensures { λ r. ⌜ r ≡ x ⌝ }
+{
+    x as usize
+}
+
+// Whether the rows hold that an index keeps of the modes at an offset: 1 initial, 3 invariant, 5 flow.
+fn modes_hold(
+    model: &[u8],
+    index: &[u16; 988],
+    modes: [u8; 4],
+    offset: usize,
+    point: &[i64; 16],
+    q: u32,
+) -> bool
+    requires { ⌜ (entry (now index) 1 ≤ 4) × GoodModes (now model) (now index) modes offset ⌝ }
+    requires { ⌜ SmallPoint (entry (now index) 0) (now point) × (q < 2 ^ 24) ⌝ }
+    ensures { λ r. ⌜ r ≡ every (modeHolds (now (model .entry)) (now (index .entry)) modes offset q (now (point .entry))) (countUp 0 (entry (now (index .entry)) 1)) ⌝ }
+{
+    let n = number_at(index, 0);
+    let components = number_at(index, 1);
+    let mut k: usize = 0;
+    while k < components {
+        let place = 16 + 219 * k + 3 + 7 * byte_wide(modes[k]) + offset;
+        if !condition_holds(model, index, place, n, point, q) {
+            return false;
+        }
+        k += 1;
+    }
+    true
+}
+
+// Whether all modes are start modes.
+fn all_start(index: &[u16; 988], modes: [u8; 4]) -> bool
+    requires { ⌜ entry (now index) 1 ≤ 4 ⌝ }
+    requires { ⌜ ((k : ℕ) → k < entry (now index) 1 → getD modes k 0 < 8) ⌝ }
+    ensures { λ r. ⌜ r ≡ every (startsAt (now (index .entry)) modes) (countUp 0 (entry (now (index .entry)) 1)) ⌝ }
+{
+    let components = number_at(index, 1);
+    let mut k: usize = 0;
+    while k < components {
+        if number_at(index, 16 + 219 * k + 3 + 7 * byte_wide(modes[k])) != 1 {
+            return false;
+        }
+        k += 1;
+    }
+    true
+}
+
+// An array with so many values put in it from a place on.
+fn put(point: [i64; 16], at: usize, values: [i64; 8], n: usize) -> [i64; 16]
+    requires { ⌜ (n ≤ 8) × (at + n ≤ 16) ⌝ }
+    ensures { λ r. ⌜ r ≡ paste point at values n ⌝ }
+{
+    let mut filled = point;
+    let mut i: usize = 0;
+    while i < n {
+        filled[at + i] = values[i];
+        i += 1;
+    }
+    filled
+}
+
+// Values before and after, as one point.
+fn side_by_side(values: [i64; 8], next: [i64; 8], n: usize) -> [i64; 16]
+    requires { ⌜ n ≤ 8 ⌝ }
+    ensures { λ r. ⌜ r ≡ paste (paste (replicate 16 (pos 0)) 0 values n) n next n ⌝ }
+{
+    put(put([0; 16], 0, values, n), n, next, n)
+}
+
+// Whether a state is admissible: every component's invariant holds.
+pub fn admissible(model: &[u8], index: &[u16; 988], location: u32, q: u32, values: [i64; 8]) -> bool
+    requires { ⌜ GoodIndex (now model) (now index) ⌝ }
+    requires { ⌜ (location < locationCount (componentsFrom (now model) (now index))) × ((q < 2 ^ 24) × SmallValues values) ⌝ }
+    ensures { λ r. ⌜ r ≡ runs.admissible (modelFrom (now (model .entry)) (now (index .entry))) q (stateOf (now (index .entry)) location values) ⌝ }
+{
+    let point = side_by_side(values, values, number_at(index, 0));
+    modes_hold(model, index, modes_at(model, index, location), 3, &point, q)
+}
+
+// Whether a run may begin in a state.
+pub fn start_allowed(
+    model: &[u8],
+    index: &[u16; 988],
+    location: u32,
+    q: u32,
+    values: [i64; 8],
+) -> bool
+    requires { ⌜ GoodIndex (now model) (now index) ⌝ }
+    requires { ⌜ (location < locationCount (componentsFrom (now model) (now index))) × ((q < 2 ^ 24) × SmallValues values) ⌝ }
+    ensures { λ r. ⌜ r ≡ runs.startAllowed (modelFrom (now (model .entry)) (now (index .entry))) q (stateOf (now (index .entry)) location values) ⌝ }
+{
+    if !admissible(model, index, location, q, values) {
+        return false;
+    }
+    let modes = modes_at(model, index, location);
+    if !all_start(index, modes) {
+        return false;
+    }
+    let point = side_by_side(values, values, number_at(index, 0));
+    modes_hold(model, index, modes, 1, &point, q)
+}
+
+// Whether a mode is the one asked for, or any is allowed.
+fn mode_fits(asked: usize, mode: u8) -> bool
+    ensures { λ r. ⌜ r ≡ eqb asked 255 || eqb asked mode ⌝ }
+{
+    if asked == 255 {
+        return true;
+    }
+    asked == byte_wide(mode)
+}
+
+// Whether modes fit those of an unsafe condition: each is the one asked for, or any is allowed.
+fn modes_fit(index: &[u16; 988], place: usize, modes: [u8; 4]) -> bool
+    requires { ⌜ (entry (now index) 1 ≤ 4) × (place + 4 < 988) ⌝ }
+    ensures { λ r. ⌜ r ≡ every (fitsAt (now (index .entry)) place modes) (countUp 0 (entry (now (index .entry)) 1)) ⌝ }
+{
+    let components = number_at(index, 1);
+    let mut k: usize = 0;
+    while k < components {
+        if !mode_fits(number_at(index, place + k), modes[k]) {
+            return false;
+        }
+        k += 1;
+    }
+    true
+}
+
+// Whether the modes and the rows of an unsafe condition fit.
+fn unsafe_fits(
+    model: &[u8],
+    index: &[u16; 988],
+    u: usize,
+    modes: [u8; 4],
+    point: &[i64; 16],
+    q: u32,
+) -> bool
+    requires { ⌜ GoodIndex (now model) (now index) ⌝ }
+    requires { ⌜ u < entry (now index) 2 ⌝ }
+    requires { ⌜ SmallPoint (entry (now index) 0) (now point) × (q < 2 ^ 24) ⌝ }
+    ensures { λ r. ⌜ r ≡ unsafeAt (now (model .entry)) (now (index .entry)) modes q (now (point .entry)) u ⌝ }
+{
+    let place = 892 + 6 * u;
+    if !modes_fit(index, place, modes) {
+        return false;
+    }
+    condition_holds(model, index, place + 4, number_at(index, 0), point, q)
+}
+
+// Whether some unsafe condition fits.
+fn some_unsafe(model: &[u8], index: &[u16; 988], modes: [u8; 4], point: &[i64; 16], q: u32) -> bool
+    requires { ⌜ GoodIndex (now model) (now index) ⌝ }
+    requires { ⌜ SmallPoint (entry (now index) 0) (now point) × (q < 2 ^ 24) ⌝ }
+    ensures { λ r. ⌜ r ≡ some (unsafeAt (now (model .entry)) (now (index .entry)) modes q (now (point .entry))) (countUp 0 (entry (now (index .entry)) 2)) ⌝ }
+{
+    let conditions = number_at(index, 2);
+    let mut u: usize = 0;
+    while u < conditions {
+        if unsafe_fits(model, index, u, modes, point, q) {
+            return true;
+        }
+        u += 1;
+    }
+    false
+}
+
+// Whether a state is unsafe.
+pub fn is_unsafe(model: &[u8], index: &[u16; 988], location: u32, q: u32, values: [i64; 8]) -> bool
+    requires { ⌜ GoodIndex (now model) (now index) ⌝ }
+    requires { ⌜ (location < locationCount (componentsFrom (now model) (now index))) × ((q < 2 ^ 24) × SmallValues values) ⌝ }
+    ensures { λ r. ⌜ r ≡ runs.isUnsafe (modelFrom (now (model .entry)) (now (index .entry))) q (stateOf (now (index .entry)) location values) ⌝ }
+{
+    let point = side_by_side(values, values, number_at(index, 0));
+    some_unsafe(model, index, modes_at(model, index, location), &point, q)
+}
+
+// Whether two values are the same.
+fn same(after: i64, before: i64) -> bool
+    ensures { λ r. ⌜ r ≡ sameZ after before ⌝ }
+{
+    after == before
+}
+
+// Whether the variables' values are the same.
+fn same_values(n: usize, next: [i64; 8], values: [i64; 8]) -> bool
+    requires { ⌜ n ≤ 8 ⌝ }
+    ensures { λ r. ⌜ r ≡ every (sameAt next values) (countUp 0 n) ⌝ }
+{
+    let mut i: usize = 0;
+    while i < n {
+        if !same(next[i], values[i]) {
+            return false;
+        }
+        i += 1;
+    }
+    true
+}
+
+// By how much each value changes.
+fn differences(next: [i64; 8], values: [i64; 8]) -> [i64; 16]
+    requires { ⌜ SmallValues next × SmallValues values ⌝ }
+    ensures { λ r. ⌜ r ≡ runs.difference next values ++ replicate 8 (pos 0) ⌝ }
+{
+    let mut point: [i64; 16] = [0; 16];
+    let mut i: usize = 0;
+    while i < 8 {
+        point[i] = next[i] - values[i];
+        i += 1;
+    }
+    point
+}
+
+// Whether a flow of this time meets its rule.
+pub fn flow_rule(
+    model: &[u8],
+    index: &[u16; 988],
+    location: u32,
+    time: u32,
+    values: [i64; 8],
+    next: [i64; 8],
+) -> bool
+    requires { ⌜ GoodIndex (now model) (now index) ⌝ }
+    requires { ⌜ (location < locationCount (componentsFrom (now model) (now index))) × ((time < 2 ^ 24) × (SmallValues values × SmallValues next)) ⌝ }
+    ensures { λ r. ⌜ r ≡ runs.flowRule (modelFrom (now (model .entry)) (now (index .entry))) (stateOf (now (index .entry)) location values) time (perVariable (now (index .entry)) next) ⌝ }
+{
+    let point = differences(next, values);
+    if !modes_hold(
+        model,
+        index,
+        modes_at(model, index, location),
+        5,
+        &point,
+        time,
+    ) {
+        return false;
+    }
+    if time != 0 {
+        return true;
+    }
+    same_values(number_at(index, 0), next, values)
+}
+
+// Whether a component stays, or the rows of its switch hold.
+fn move_holds(model: &[u8], index: &[u16; 988], k: usize, i: u8, point: &[i64; 16], q: u32) -> bool
+    requires { ⌜ GoodIndex (now model) (now index) ⌝ }
+    requires { ⌜ (k < entry (now index) 1) × (eqb i stays ≡ false → i < entry (now index) (componentPlace k + 2)) ⌝ }
+    requires { ⌜ SmallPoint (2 * entry (now index) 0) (now point) × (q < 2 ^ 24) ⌝ }
+    ensures { λ r. ⌜ r ≡ moveHolds (now (model .entry)) (now (index .entry)) q (now (point .entry)) k i ⌝ }
+{
+    if i == 255 {
+        return true;
+    }
+    let place = 16 + 219 * k + 59 + 5 * byte_wide(i) + 3;
+    condition_holds(model, index, place, 2 * number_at(index, 0), point, q)
+}
+
+// Whether the rows of a jump by these switches hold.
+pub fn jump_rows(
+    model: &[u8],
+    index: &[u16; 988],
+    location: u32,
+    q: u32,
+    switches: [u8; 4],
+    values: [i64; 8],
+    next: [i64; 8],
+) -> bool
+    requires { ⌜ GoodIndex (now model) (now index) ⌝ }
+    requires { ⌜ KnownSwitches (now index) switches ⌝ }
+    requires { ⌜ (q < 2 ^ 24) × (SmallValues values × SmallValues next) ⌝ }
+    ensures { λ r. ⌜ r ≡ runs.jumpRows (modelFrom (now (model .entry)) (now (index .entry))) q (stateOf (now (index .entry)) location values) (perComponent (now (index .entry)) switches) (perVariable (now (index .entry)) next) ⌝ }
+{
+    let point = side_by_side(values, next, number_at(index, 0));
+    let components = number_at(index, 1);
+    let mut k: usize = 0;
+    while k < components {
+        if !move_holds(model, index, k, switches[k], &point, q) {
+            return false;
+        }
+        k += 1;
+    }
+    true
+}
+
+// Whether a variable's owner moves, or its value is kept.
+fn value_kept(index: &[u16; 988], switches: [u8; 4], v: usize, after: i64, before: i64) -> bool
+    requires { ⌜ (v < 8) × (entry (now index) (ownerPlace v) < 4) ⌝ }
+    ensures { λ r. ⌜ r ≡ keptAt (now (index .entry)) switches v after before ⌝ }
+{
+    let owner = number_at(index, 3 + v);
+    if switches[owner] != 255 {
+        return true;
+    }
+    same(after, before)
+}
+
+// Whether the variables of staying components keep their values.
+pub fn staying_kept(
+    model: &[u8],
+    index: &[u16; 988],
+    location: u32,
+    switches: [u8; 4],
+    values: [i64; 8],
+    next: [i64; 8],
+) -> bool
+    requires { ⌜ GoodIndex (now model) (now index) ⌝ }
+    ensures { λ r. ⌜ r ≡ runs.stayingKept (modelFrom (now (model .entry)) (now (index .entry))) (stateOf (now (index .entry)) location values) (perComponent (now (index .entry)) switches) (perVariable (now (index .entry)) next) ⌝ }
+{
+    let n = number_at(index, 0);
+    let mut v: usize = 0;
+    while v < n {
+        if !value_kept(index, switches, v, next[v], values[v]) {
+            return false;
+        }
+        v += 1;
+    }
+    true
+}
