@@ -1,0 +1,23 @@
+// The marker's entries for the exam desk, a C program that hands over the sheets as bytes. include/marker.h has their prototypes.
+use marking::Answer;
+use marking::certificate::mark_certificate;
+use marking::run::mark_run;
+ghost use mathlib.Core.Path.{_≡_};
+ghost use Rattle.marking.specs.Marking.{markCertificate, markRun};
+ghost use Rattle.sheets.specs.ModelSheet.{examLimits};
+
+// The answer for a certificate beside a model.
+#[no_mangle]
+pub extern "C" fn silfoddra_mark_certificate(model: &[u8], second: &[u8]) -> Answer
+    ensures { λ r. ⌜ r ≡ markCertificate examLimits (now (model .entry)) (now (second .entry)) ⌝ }
+{
+    mark_certificate(model, second)
+}
+
+// The answer for a run beside a model.
+#[no_mangle]
+pub extern "C" fn silfoddra_mark_run(model: &[u8], second: &[u8]) -> Answer
+    ensures { λ r. ⌜ r ≡ markRun examLimits (now (model .entry)) (now (second .entry)) ⌝ }
+{
+    mark_run(model, second)
+}

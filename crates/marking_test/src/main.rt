@@ -1,0 +1,146 @@
+// Reads papers from standard input and writes what marking each gives: its label and the five numbers of the answer.
+// tests/marking_papers.py writes the papers, and says what must be written for each.
+// A paper: the label's length and the label, a kind, a number in two bytes, a sheet's length in two bytes, and the sheet. Kind 0 takes
+// the sheet as the model for the papers that follow, 1 marks it as a certificate, 2 as a run; 3 asks for the joint list's answer with
+// so many records lent as the number says; 4 asks for the program's line for the sheet's bytes as its input.
+use libc::STDIN_FILENO;
+use libc::STDOUT_FILENO;
+use marking::Answer;
+use marking::Line;
+use marking::certificate::mark_certificate;
+use marking::list::list_answer;
+use marking::program::mark_input;
+use marking::run::mark_run;
+ghost use Prim.Native.Nat.{_^_, _<_};
+
+// Writes a number after a separator.
+fn number(before: &[u8], n: u32) {
+    io::write_all(STDOUT_FILENO, before);
+    io::print_decimal(STDOUT_FILENO, n as u64);
+}
+
+// Writes an answer after a separator.
+fn write_answer(before: &[u8], answer: Answer) {
+    number(before, answer.number);
+    number(b" ", answer.sheet);
+    number(b" ", answer.place);
+    number(b" ", answer.done);
+    number(b" ", answer.score);
+}
+
+// Writes a line of the program.
+fn write_line(line: Line) {
+    match line {
+        Line::Safe(done) => number(b": SAFE ", done),
+        Line::Unsafe(done) => number(b": UNSAFE ", done),
+        Line::Refused(number, sheet, place, done, score) => {
+            let answer = Answer {
+                number,
+                sheet,
+                place,
+                done,
+                score,
+            };
+            write_answer(b": REFUSED ", answer);
+        }
+    }
+}
+
+// The byte at a place, 0 past the end.
+fn byte_at(all: &[u8], at: usize) -> usize
+    ensures { λ r. ⌜ r < 256 ⌝ }
+{
+    if at < all.len() {
+        return all[at] as usize;
+    }
+    0
+}
+
+// The number in the two bytes at a place.
+fn two_bytes(all: &[u8], at: usize) -> usize
+    requires { ⌜ at < 2 ^ 20 ⌝ }
+    ensures { λ r. ⌜ r < 65536 ⌝ }
+{
+    byte_at(all, at) * 256 + byte_at(all, at + 1)
+}
+
+// Marks a sheet beside a model.
+fn mark(kind: usize, lent: u32, model: &[u8], sheet: &[u8]) {
+    if kind == 1 {
+        write_answer(b": ", mark_certificate(model, sheet));
+    } else if kind == 2 {
+        write_answer(b": ", mark_run(model, sheet));
+    } else if kind == 3 {
+        write_answer(b": ", list_answer(model, lent));
+    } else {
+        write_line(mark_input(sheet));
+    }
+    io::write_all(STDOUT_FILENO, b"\n");
+}
+
+// Where the next paper begins, and the model that it is marked beside.
+struct Place {
+    at: usize,
+    model: usize,
+    end: usize,
+}
+
+// Marks the paper at a place.
+fn paper(all: &[u8], place: Place) -> Place {
+    let at = place.at;
+    let model = place.model;
+    let model_end = place.end;
+    if all.len() <= at {
+        return place;
+    }
+    if 524288 <= at {
+        return place;
+    }
+    let label = at + 1;
+    let head = label + byte_at(all, at);
+    let sheet = head + 5;
+    let end = sheet + two_bytes(all, head + 3);
+    if end > all.len() || model > model_end || model_end > all.len() {
+        return place;
+    }
+    let kind = byte_at(all, head);
+    if kind == 0 {
+        return Place {
+            at: end,
+            model: sheet,
+            end,
+        };
+    }
+    io::write_all(STDOUT_FILENO, &all[label..head]);
+    mark(
+        kind,
+        two_bytes(all, head + 1) as u32,
+        &all[model..model_end],
+        &all[sheet..end],
+    );
+    Place {
+        at: end,
+        model,
+        end: model_end,
+    }
+}
+
+// Marks the papers.
+fn papers(all: &[u8]) {
+    let mut place = Place {
+        at: 0,
+        model: 0,
+        end: 0,
+    };
+    let mut n: u32 = 0;
+    while n < 2000 {
+        place = paper(all, place);
+        n += 1;
+    }
+}
+
+fn main() {
+    let mut all = [0u8; 409600];
+    let n = io::read_full(STDIN_FILENO, &mut all);
+    papers(&all[..n]);
+}

@@ -1,0 +1,796 @@
+#!/usr/bin/env python3
+"""Writes the papers that crates/marking_test marks, and what it must print for each, from document 01.
+
+usage: marking_papers.py FOLDER                 writes FOLDER/stdin and FOLDER/stdout
+       marking_papers.py --examples FOLDER      writes the sheets of examples/
+
+The lines come from tests/marker.py, a second marker. Where document 01 itself settles an answer, or a part of it, the paper states
+it here as well, and the script stops where the two differ.
+
+A record on standard input: the label's length (1 byte), the label, a kind (1), a number (2), the length of a sheet (2), the sheet.
+Kind 0 takes the sheet as the model for the records that follow, 1 marks it as a certificate, 2 as a run; 3 asks for the joint list's
+answer with so many records lent as the number says; 4 for the program's line for the sheet's bytes as its input.
+"""
+import sys
+from pathlib import Path
+
+sys.dont_write_bytecode = True
+
+import marker
+from largest import most_entries, most_joint_switches, most_proofs, most_steps
+from sheet import Sheet, alphabet, certificate, component, fixed, flow, jump, mode, model, run, switch
+from tank import C, PLANT_CERTIFICATE, PLANT_RUN, SAFE_PLANT, T, UNSAFE_PLANT, tank
+
+ANY = 255
+STAYS = 255
+MODEL, CERTIFICATE, RUN, LIST, INPUT = range(5)
+
+
+def data_of(sheet):
+    return sheet.bytes() if isinstance(sheet, Sheet) else sheet
+
+
+class Papers:
+    def __init__(self):
+        self.records, self.lines, self.labels, self.model = [], [], set(), b''
+
+    def record(self, label, kind, number, data):
+        name = label.encode()
+        self.records.append(bytes([len(name)]) + name + bytes([kind]) + number.to_bytes(2, 'big') + len(data).to_bytes(2, 'big') + data)
+
+    def line(self, label, text):
+        assert label not in self.labels, label
+        self.labels.add(label)
+        self.lines.append(f'{label}: {text}')
+
+    def paper(self, label, kind, number, model_data, data, answer, expected):
+        """Expected: nothing, the number and the place, or all five numbers."""
+        stated = (answer[0], answer[2]) if len(expected) == 2 else answer
+        assert not expected or stated == expected, (label, answer, expected)
+        if model_data != self.model:
+            self.record('', MODEL, 0, model_data)
+            self.model = model_data
+        self.record(label, kind, number, data)
+        self.line(label, ' '.join(str(v) for v in answer))
+
+    def certificate(self, label, model_sheet, second, *expected):
+        m, s = data_of(model_sheet), data_of(second)
+        self.paper(label, CERTIFICATE, 0, m, s, marker.mark_certificate(m, s), expected)
+
+    def run(self, label, model_sheet, second, *expected):
+        m, s = data_of(model_sheet), data_of(second)
+        self.paper(label, RUN, 0, m, s, marker.mark_run(m, s), expected)
+
+    def list(self, label, model_sheet, lent, *expected):
+        m = data_of(model_sheet)
+        self.paper(label, LIST, lent, m, b'', marker.list_answer(m, lent), expected)
+
+    def input(self, label, data, expected):
+        assert marker.line(data) == expected, (label, marker.line(data), expected)
+        self.record(label, INPUT, 0, data)
+        self.line(label, expected)
+
+
+# Sheets that several sections use
+
+UNSAFE_AT_NINE = tank(-9)
+UNSAFE_AT_FIVE = tank(-5)
+TO_NINE = run(1, 0, (5,), flow(2, 9))
+AT_FIVE = run(1, 0, (5,))
+
+
+def plain(n=1, owners=None, modes=(1,), switches=None, alphabets=None, label=0, start=1, initial=0, invariant=0, rates=0, jumps=0, unsafe=1, rows=1):
+    """A model with rows 0 ≤ 0 in the numbers that are given, where the last row of each unsafe condition is 0 ≤ −1; and a certificate
+    without region rows that uses that row in each proof. Also the number of its obligations."""
+    zero, never = (0,) * n + (0,), (0,) * n + (-1,)
+    c = len(modes)
+    one = mode(start, [zero] * initial, [zero] * invariant, [zero] * rates)
+    one_switch = switch(0, 0, label, [(0,) * (2 * n + 1)] * jumps)
+    components = [component([one] * modes[k], [one_switch] * (switches or [0] * c)[k], (alphabets or [0] * c)[k]) for k in range(c)]
+    sheet = model(owners or [0] * n, components, [([ANY] * c, [zero] * (rows - 1) + [never] * min(rows, 1))] * unsafe)
+    locations = 1
+    for count in modes:
+        locations *= count
+    proof = (0, [(c * invariant + rows - 1, 1)] if rows else [])
+    return sheet, certificate([[]] * locations, [proof] * (locations * unsafe)), locations * unsafe
+
+
+def free(n=1, modes=1, switches=(), unsafe=((ANY,), ())):
+    """One component without rows, where every state is unsafe."""
+    return model([0] * n, [component([mode()] * modes, switches)], [unsafe])
+
+
+# Document 01's own papers
+
+def the_table(papers):
+    labelled = tank(switches=[switch(0, 0, 1)])
+    three_full = [component([mode()], [switch(0, 0, 1)] * 32, alphabet(1))] * 3
+    one_joint = tank(switches=[switch(0, 0, 0)])
+    p = papers
+    p.certificate('table 1: empty', b'', C, 1, 0, 0, 0, 0)
+    p.certificate('table 2: T with byte 2 as 9', T.set('version', 9), C, 2, 0, 2, 0, 0)
+    p.certificate('table 3: C as model', C, C, 3, 0, 3, 0, 0)
+    p.certificate('table 4: T less its last byte', fixed(T.bytes()[:-1]), C, 4, 0, 62, 0, 0)
+    p.certificate('table 5: T with n 0', T.set('n', 0), C, 5, 0, 4, 0, 0)
+    p.certificate('table 6: label 1, alphabet 0', labelled, C, 6, 0, 58, 0, 0)
+    p.certificate('table 7: 8, 8, 2 modes', plain(modes=(8, 8, 2))[0], C, 7, 0, 4, 0, 0)
+    p.certificate('table 8: 32768 joint switches', model([0], three_full), C, 8, 0, 4, 0, 0)
+    p.certificate('table 9: last proof as 2, 0', T, C.set('hypothesis2.0', 2).set('hypothesis2.1', 0), 9, 1, 44, 2, 66)
+    p.certificate('table 10: first multiplier 2', T, C.set('multiplier0.0', 2), 10, 1, 14, 0, 0)
+    p.certificate('table 11: region bound 9', T, C.set('region0.0.1', 9), 11, 1, 14, 0, 0)
+    p.run('table 12: T from 6', T, run(1, 0, (6,)), 12, 1, 10, 0, 0)
+    p.run('table 13: 5 to 8 in 1', T, run(1, 0, (5,), flow(1, 8)), 13, 1, 15, 0, 0)
+    p.run('table 14: T at 5', T, AT_FIVE, 14, 1, 15, 0, 0)
+    p.list('table 15: 1 needed, 0 lent', one_joint, 0, 15, 2, 1, 0, 0)
+    p.list('1 needed, 1 lent', one_joint, 1, 0, 0, 70, 1, 0)
+    p.list('1 needed, 2 lent', one_joint, 2, 0, 0, 70, 1, 0)
+    p.certificate('T with C', T, C, 0, 1, 49, 3, 100)
+    p.run('T with unsafe at 9, 5 to 9 in 2', UNSAFE_AT_NINE, TO_NINE, 0, 1, 24, 1, 100)
+    twelve = [f'table {i}:' for i in (2, 3, 4, 5, 9, 10, 11, 12, 13, 14)] + ['T with C:', 'T with unsafe at 9']
+    assert all(any(line.startswith(name) for line in p.lines) for name in twelve) and len(twelve) == 12
+    different = [line.split(': ')[1] for line in p.lines if line.startswith(('T with C:', 'table 14:'))]
+    assert len(set(different)) == 2
+
+
+def rejected_readings(papers):
+    p = papers
+    still = model([0], [component([mode()])], [([0], [(-1, -7)])])
+    p.run('zero time, drifting', still, run(1, 0, (5,), flow(0, 7)), 13, 1, 15, 0, 0)
+    p.run('zero time, staying', still, run(1, 0, (7,), flow(0, 7)), 0, 1, 24, 1, 100)
+    p.run('some time, drifting', still, run(1, 0, (5,), flow(1, 7)), 0, 1, 24, 1, 100)
+    steps = ready_for_steps()
+    p.run('unmentioned variable of the moving component changed', steps, run(1, 0, (0, 0, 0), jump(0, [1, STAYS, STAYS], 9, 0, 0)), 0, 1, 40, 1, 100)
+    p.run('one member of a scope alone', steps, run(1, 0, (0, 0, 0), jump(1, [0, STAYS, STAYS], 0, 0, 0)), 13, 1, 23, 0, 0)
+    p.run('the other member of a scope alone', steps, run(1, 0, (0, 0, 0), jump(1, [STAYS, 0, STAYS], 0, 0, 0)), 13, 1, 23, 0, 0)
+    nothing = certificate([[(0, 0)]], [(0, []), (1, []), (0, [(1, 1), (2, 1)])])
+    p.certificate('k 0 with sum 0', T, nothing, 11, 1, 14, 0, 0)
+    p.certificate('k 1 with sum 0', T, nothing.set('k0', 1), 0, 1, 39, 3, 100)
+    opposite = model([0], [component([mode(1, [], [(1, 3), (-1, -3)])])], [([0], [(0, 0)])])
+    p.certificate('k 0 with opposite rows that meet', opposite, certificate([[]], [(0, [(0, 1), (1, 1)])]), 11, 1, 6, 0, 0)
+    apart = opposite.set('invariant0.0.1.1', -4)
+    p.certificate('k 0 with opposite rows that are apart', apart, certificate([[]], [(0, [(0, 1), (1, 1)])]), 0, 1, 21, 1, 100)
+    p.certificate('unsafe by the invariants', T, certificate([[]], [(0, [(0, 1), (1, 1)])]), 0, 1, 21, 1, 100)
+
+
+# Lengths, headers, cuts
+
+def headers(papers):
+    p = papers
+    for size in (1, 2, 3):
+        p.certificate(f'model of {size}', fixed(T.bytes()[:size]), C, 1, 0, 0, 0, 0)
+        p.certificate(f'certificate of {size}', T, fixed(C.bytes()[:size]), 1, 1, 0, 0, 0)
+        p.run(f'run of {size}', T, fixed(AT_FIVE.bytes()[:size]), 1, 1, 0, 0, 0)
+    p.certificate('no certificate', T, b'', 1, 1, 0, 0, 0)
+    p.run('no run', T, b'', 1, 1, 0, 0, 0)
+    for change, by in (('one more', 1), ('one less', -1)):
+        p.certificate(f'model L {change}', T.set('L', 64 + by), C, 1, 0, 0, 0, 0)
+        p.certificate(f'certificate L {change}', T, C.set('L', 47 + by), 1, 1, 0, 0, 0)
+        p.run(f'run L {change}', T, AT_FIVE.set('L', 13 + by), 1, 1, 0, 0, 0)
+    for version in (0, 2, 255):
+        p.certificate(f'model version {version}', T.set('version', version), C, 2, 0, 2, 0, 0)
+        p.certificate(f'certificate version {version}', T, C.set('version', version), 2, 1, 2, 0, 0)
+        p.run(f'run version {version}', T, AT_FIVE.set('version', version), 2, 1, 2, 0, 0)
+    for kind in (0, 1, 2, 3, 4, 255):
+        if kind != 1:
+            p.certificate(f'model kind {kind}', T.set('kind', kind), C, 3, 0, 3, 0, 0)
+        if kind != 2:
+            p.certificate(f'certificate kind {kind}', T, C.set('kind', kind), 3, 1, 3, 0, 0)
+        if kind != 3:
+            p.run(f'run kind {kind}', T, AT_FIVE.set('kind', kind), 3, 1, 3, 0, 0)
+    p.certificate('version before kind', T, C.set('version', 2).set('kind', 3), 2, 1, 2, 0, 0)
+    p.certificate('L before version', T, C.set('version', 2).set('L', 1), 1, 1, 0, 0, 0)
+    p.certificate('model before second', T.set('fit0.0', 1), b'', 5, 0, 56, 0, 0)
+    p.certificate('128 locations before second', plain(modes=(8, 8, 2))[0], b'', 7, 0, 4, 0, 0)
+
+
+def cuts(papers):
+    """Every cut of T, C and the run to 9, with L made right: a cut field's place is its first byte; under 4 bytes it is 1."""
+    def first_bytes(sheet):
+        return [at for name, size, _ in sheet.fields for at in [sheet.place(name)] * size]
+    for cut in range(66):
+        expected = (1, 0, 0, 0, 0) if cut < 4 else (4, 0, first_bytes(T)[cut], 0, 0)
+        papers.certificate(f'T cut to {cut}', fixed(T.bytes()[:cut]), C, *expected)
+    for cut in range(4, 49):
+        done = (cut >= 24) + (cut >= 34)
+        papers.certificate(f'C cut to {cut}', T, fixed(C.bytes()[:cut]), 4, 1, first_bytes(C)[cut], done, (0, 33, 66)[done])
+    for cut in range(4, 24):
+        papers.run(f'run cut to {cut}', UNSAFE_AT_NINE, fixed(TO_NINE.bytes()[:cut]), 4, 1, first_bytes(TO_NINE)[cut], 0, 0)
+    papers.certificate('T and a byte', fixed(T.bytes() + b'\0'), C, 4, 0, 66, 0, 0)
+    papers.certificate('C and a byte', T, fixed(C.bytes() + b'\0'), 4, 1, 49, 3, 99)
+    papers.run('run and a byte', UNSAFE_AT_NINE, fixed(TO_NINE.bytes() + b'\0'), 4, 1, 24, 1, 0)
+    papers.run('bytes left before 14', T, fixed(AT_FIVE.bytes() + b'\0'), 4, 1, 15, 0, 0)
+    papers.run('start tested before a cut step', T, fixed(run(1, 0, (6,), flow(1, 7)).bytes()[:16]), 12, 1, 10, 0, 0)
+
+
+def sizes(papers):
+    p = papers
+    big, proofs = most_proofs()
+    p.certificate('certificate of 32768 with 6527 proofs', big, proofs, 0, 1, 32768, 6527, 100)
+    p.certificate('certificate of 32769', T, fixed(C.bytes() + bytes(32769 - 49)), 1, 1, 0, 0, 0)
+    big, steps = most_steps()
+    p.run('run of 32768 with 4095 steps', big, steps, 0, 1, 32768, 4095, 100)
+    p.run('run of 32769', T, fixed(AT_FIVE.bytes() + bytes(32769 - 15)), 1, 1, 0, 0, 0)
+    p.certificate('model of 32768', fixed(T.bytes() + bytes(32768 - 66)), C, 4, 0, 66, 0, 0)
+    p.certificate('model of 32769', fixed(T.bytes() + bytes(32769 - 66)), C, 1, 0, 0, 0, 0)
+    p.certificate('64 proofs of up to 112 entries', *most_entries(), 0, 1, 30982, 64, 100)
+    p.certificate('4096 joint switches, nothing to prove', *most_joint_switches(), 0, 1, 69, 0, 100)
+
+
+# Both ends of each range
+
+def good_model(papers, name, **counts):
+    sheet, proofs, done = plain(**counts)
+    papers.certificate(name, sheet, proofs, 0, 1, proofs.length(), done, 100)
+
+
+def bad_model(papers, label, sheet, name, *values, number=5):
+    for value in values:
+        papers.certificate(f'{label} {value}', sheet.set(name, value), C, number, 0, sheet.place(name), 0, 0)
+
+
+def counts_of_a_model(papers):
+    p = papers
+    good_model(p, 'n 1')
+    good_model(p, 'n 8', n=8)
+    bad_model(p, 'n', T, 'n', 9, 255)
+    good_model(p, 'c 4', modes=(1, 1, 1, 1))
+    bad_model(p, 'c', T, 'c', 0, 5, 255)
+    good_model(p, 'unsafe 0', unsafe=0)
+    good_model(p, 'unsafe 16', unsafe=16)
+    bad_model(p, 'unsafe', T, 'unsafe', 17, 255)
+    good_model(p, 'owner 2 of 3', n=2, owners=[0, 2], modes=(1, 1, 1))
+    bad_model(p, 'owner of 3:', plain(n=2, modes=(1, 1, 1))[0], 'owner1', 3, 255)
+    bad_model(p, 'owner of 1:', T, 'owner0', 1, 255)
+    good_model(p, 'alphabet 2', alphabets=[2])
+    good_model(p, 'alphabet 65534', alphabets=[65534])
+    bad_model(p, 'alphabet', T, 'alphabet0', 1, 3, 65535)
+    good_model(p, 'modes 8', modes=(8,))
+    bad_model(p, 'modes', T, 'modes0', 0, 9, 255)
+    good_model(p, 'switches 32', switches=[32])
+    bad_model(p, 'switches', T, 'switches0', 33, 255)
+    good_model(p, '64 locations', modes=(4, 2, 8))
+    p.certificate('65 modes in 4 components, 72 locations', plain(modes=(8, 3, 3, 1))[0], C, 7, 0, 4, 0, 0)
+    good_model(p, '4096 joint switches', modes=(1, 1, 1), switches=[16] * 3, alphabets=[2] * 3, label=1)
+    one_more = plain(modes=(1, 1, 1), switches=[16, 16, 17], alphabets=[2] * 3, label=1)[0].set('label2.16', 0)
+    p.certificate('4097 joint switches', one_more, C, 8, 0, 4, 0, 0)
+    p.certificate('1048576 joint switches', plain(modes=(1,) * 4, switches=[32] * 4, alphabets=[2] * 4, label=1)[0], C, 8, 0, 4, 0, 0)
+    over = plain(modes=(8, 8, 2))[0]
+    p.certificate('bytes left before 7', fixed(over.bytes() + b'\0'), C, 4, 0, over.length(), 0, 0)
+
+
+def conditions_of_a_model(papers):
+    p = papers
+    good_model(p, 'start 0', start=0)
+    bad_model(p, 'start', T, 'start0.0', 2, 255)
+    p.certificate('start 0 with initial rows', T.set('start0.0', 0), C, 5, 0, 13, 0, 0)
+    good_model(p, 'initial rows 8', initial=8)
+    bad_model(p, 'initial rows', T, 'initial0.0', 9, 255)
+    good_model(p, 'invariant rows 8', invariant=8)
+    bad_model(p, 'invariant rows', T, 'invariant0.0', 9, 255)
+    good_model(p, 'flow rows 8', rates=8)
+    bad_model(p, 'flow rows', T, 'flow0.0', 9, 255)
+    good_model(p, 'jump rows 8', switches=[1], jumps=8)
+    good_model(p, 'unsafe rows 8', rows=8)
+    bad_model(p, 'unsafe rows', T, 'rows0', 9, 255)
+    sheet, proofs, _ = plain(rows=0)
+    p.certificate('unsafe rows 0', sheet, proofs, 11, 1, 6, 0, 0)
+    two = model([0], [component([mode(), mode()]), component([mode()] * 3)], [([1, 2], [(0, -1)])])
+    p.certificate('unsafe modes 1 2', two, certificate([[]] * 6, [(0, [(0, 1)])]), 0, 1, 21, 1, 100)
+    p.certificate('unsafe modes any 2', two.set('fit0.0', ANY), certificate([[]] * 6, [(0, [(0, 1)])] * 2), 0, 1, 31, 2, 100)
+    p.certificate('unsafe modes 1 any', two.set('fit0.1', ANY), certificate([[]] * 6, [(0, [(0, 1)])] * 3), 0, 1, 41, 3, 100)
+    bad_model(p, 'first unsafe mode', two, 'fit0.0', 2, 254)
+    bad_model(p, 'second unsafe mode', two, 'fit0.1', 3, 254)
+
+
+def switches_of_a_model(papers):
+    p = papers
+    sheet = plain(modes=(3,), switches=[2], alphabets=[alphabet(1, 15)], label=1)[0]
+    proofs = plain(modes=(3,))[1]
+    p.certificate('source and target 2', sheet.set('source0.1', 2).set('target0.1', 2), proofs, 0, 1, proofs.length(), 3, 100)
+    bad_model(p, 'source', sheet, 'source0.1', 3, 255)
+    bad_model(p, 'target', sheet, 'target0.1', 3, 255)
+    for label in (0, 15):
+        p.certificate(f'label {label}', sheet.set('label0.1', label), proofs, 0, 1, proofs.length(), 3, 100)
+    bad_model(p, 'label', sheet, 'label0.1', 16, 255)
+    bad_model(p, 'label outside', sheet, 'label0.1', 2, 14, number=6)
+    bad_model(p, 'jump rows', sheet, 'jump0.1', 9, 255)
+    p.certificate('label outside before nine jump rows', sheet.set('label0.1', 2).set('jump0.1', 9), C, 6, 0, sheet.place('label0.1'), 0, 0)
+    p.certificate('target before label', sheet.set('target0.1', 3).set('label0.1', 2), C, 5, 0, sheet.place('target0.1'), 0, 0)
+
+
+def refused_models_in_each_call(papers):
+    refused = [
+        (T.set('version', 2), 2, 2), (C, 3, 3), (fixed(T.bytes()[:-1]), 4, 62), (T.set('n', 0), 5, 4), (tank(switches=[switch(0, 0, 1)]), 6, 58),
+        (plain(modes=(8, 8, 2))[0], 7, 4), (plain(modes=(1,) * 3, switches=[32] * 3, alphabets=[2] * 3, label=1)[0], 8, 4), (b'', 1, 0),
+    ]
+    for sheet, number, place in refused:
+        papers.run(f'run with a model refused as {number}', sheet, AT_FIVE, number, 0, place, 0, 0)
+        papers.list(f'list with a model refused as {number}', sheet, 65535, number, 0, place, 0, 0)
+
+
+def fields_of_a_certificate(papers):
+    p = papers
+
+    def field(label, name, *values, number=5, done=0, score=0, at=None):
+        for value in values:
+            p.certificate(f'{label} {value}', T, C.set(name, value), number, 1, C.place(name) if at is None else at, done, score)
+
+    field('locations', 'locations', 0, 2, 255)
+    p.certificate('locations 64 of 64', *plain(modes=(8, 8))[:2], 0, 1, 709, 64, 100)
+    p.certificate('locations 63 of 64', plain(modes=(8, 8))[0], plain(modes=(8, 8))[1].set('locations', 63), 5, 1, 4, 0, 0)
+    p.certificate('locations 65 of 64', plain(modes=(8, 8))[0], plain(modes=(8, 8))[1].set('locations', 65), 5, 1, 4, 0, 0)
+    field('region rows', 'region0', 17, 255)
+    p.certificate('region rows 0', T, certificate([[]], [(0, [(0, 1), (1, 1)])]), 0, 1, 21, 1, 100)
+    sixteen = certificate([[(1, 10)] * 16], [(1, [(2, 1)])] * 16 + [(1, [(17, 1)])] * 16 + [(0, [(15, 1), (17, 1)])])
+    p.certificate('region rows 16', T, sixteen, 0, 1, sixteen.length(), 33, 100)
+    field('k', 'k0', 2 ** 24, 2 ** 32 - 1)
+    field('k in range', 'k0', 0, 2, 2 ** 24 - 1, number=10)
+    p.certificate('k and multiplier 16777215', T, C.set('k0', 2 ** 24 - 1).set('multiplier0.0', 2 ** 24 - 1), 0, 1, 49, 3, 100)
+    field('unsafe k', 'k2', 1, 2 ** 24 - 1, 2 ** 24, done=2, score=66)
+    p.certificate('unsafe k before its entries', T, C.set('k2', 1).set('entries2', 129), 5, 1, 34, 2, 66)
+    field('entries', 'entries0', 129, 255)
+    field('entries in range', 'entries0', 128, number=9, at=24)
+    p.certificate('entries 0', T, certificate([[(0, 0)]], [(1, []), (2 ** 24 - 1, []), (0, [(1, 1), (2, 1)])]), 0, 1, 39, 3, 100)
+    field('first hypothesis', 'hypothesis0.0', 3, 4, 255)
+    field('first hypothesis in range', 'hypothesis0.0', 0, number=0, at=49, done=3, score=100)
+    field('first hypothesis not fitting', 'hypothesis0.0', 1, number=10, at=14)
+    field('flow hypothesis', 'hypothesis1.0', 6, 255, done=1, score=33)
+    field('flow hypothesis in range', 'hypothesis1.0', 5, number=10, at=24, done=1, score=33)
+    field('unsafe hypothesis', 'hypothesis2.1', 3, 255, done=2, score=66)
+    field('hypothesis repeated', 'hypothesis2.1', 0, number=9, done=2, score=66)
+    p.certificate('out of range before not ascending', T, C.set('hypothesis2.0', 2).set('hypothesis2.1', 3), 5, 1, 44, 2, 66)
+    p.certificate('not ascending before multiplier 0', T, C.set('hypothesis2.1', 0).set('multiplier2.1', 0), 9, 1, 44, 2, 66)
+    p.certificate('not ascending before the end', T, fixed(C.set('hypothesis2.1', 0).bytes()[:45]), 9, 1, 44, 2, 66)
+    field('multiplier', 'multiplier0.0', 0, 2 ** 24, 2 ** 32 - 1)
+    field('multiplier in range', 'multiplier0.0', 2, 2 ** 24 - 1, number=10, at=14)
+    field('last multiplier', 'multiplier2.1', 0, 2 ** 24, done=2, score=66)
+    p.certificate('both multipliers 16777215', T, C.set('multiplier2.0', 2 ** 24 - 1).set('multiplier2.1', 2 ** 24 - 1), 0, 1, 49, 3, 100)
+    p.certificate('a proof is read before it is tested', T, C.set('multiplier0.0', 2).set('entries0', 2).set('k1', 0), 9, 1, 24, 0, 0)
+    p.certificate('10 before 11', T, C.set('multiplier0.0', 2).set('region0.0.1', 9), 10, 1, 14, 0, 0)
+    p.certificate('unsafe bound just fails', tank(-10), C, 11, 1, 34, 2, 66)
+
+
+def fields_of_a_run(papers):
+    p = papers
+
+    def field(label, name, *values, number=5, done=0, at=None):
+        for value in values:
+            p.run(f'{label} {value}', UNSAFE_AT_NINE, TO_NINE.set(name, value), number, 1, TO_NINE.place(name) if at is None else at, done, 0)
+
+    field('q', 'q', 0, 2 ** 24, 2 ** 32 - 1)
+    p.run('q 16777215', UNSAFE_AT_FIVE, run(2 ** 24 - 1, 0, (5 * (2 ** 24 - 1),)), 0, 1, 15, 0, 100)
+    p.run('steps 0', UNSAFE_AT_FIVE, AT_FIVE, 0, 1, 15, 0, 100)
+    field('steps', 'steps', 4096, 65535)
+    field('more steps than there are', 'steps', 2, 4095, number=4, at=24, done=1)
+    field('location', 'location', 1, 255)
+    p.run('location 63 of 64', *in_location(63), 0, 1, 15, 0, 100)
+    p.run('location 64 of 64', *in_location(64), 5, 1, 10, 0, 0)
+    field('p', 'p0', -2 ** 27 - 1, 2 ** 27 + 1, -2 ** 31, 2 ** 31 - 1)
+    field('new p', 'p0.0', -2 ** 27 - 1, 2 ** 27 + 1)
+    for value in (-2 ** 27, 2 ** 27):
+        p.run(f'p {value}', free(), run(1, 0, (value,)), 0, 1, 15, 0, 100)
+        p.run(f'new p {value}', free(), run(1, 0, (0,), flow(1, value)), 0, 1, 24, 1, 100)
+    p.run('last of eight p', free(8), run(1, 0, (0,) * 7 + (2 ** 27 + 1,)), 5, 1, 39, 0, 0)
+    p.run('location before p', T, AT_FIVE.set('location', 1).set('p0', 2 ** 31 - 1), 5, 1, 10, 0, 0)
+    p.run('p before the start', T, AT_FIVE.set('p0', 2 ** 27 + 1), 5, 1, 11, 0, 0)
+    field('step', 'step0', 2, 255)
+    field('time', 'time0', 2 ** 24, 2 ** 32 - 1)
+    p.run('time 16777215', free(), run(1, 0, (0,), flow(2 ** 24 - 1, 1)), 0, 1, 24, 1, 100)
+    p.run('time 0', free(), run(1, 0, (1,), flow(0, 1)), 0, 1, 24, 1, 100)
+    p.run('a step is read before it is tested', UNSAFE_AT_NINE, TO_NINE.set('time0', 1).set('p0.0', 2 ** 27 + 1), 5, 1, 20, 0, 0)
+
+
+def in_location(location):
+    """64 locations, 8 by 8, of which 63 alone starts and is unsafe; and a run that begins in a location."""
+    part = component([mode(0)] * 7 + [mode(1)])
+    return model([0], [part, part], [([7, 7], [])]), run(1, location, (0,))
+
+
+def fields_of_a_jump(papers):
+    p = papers
+    labels = free(switches=[switch(0, 0, 0)] * 31 + [switch(0, 0, 15)]).set('alphabet0', alphabet(15))
+
+    def jumps(label, event, chosen, *expected):
+        p.run(label, labels, run(1, 0, (0,), jump(event, [chosen], 7)), *expected)
+
+    jumps('event 0, switch 0', 0, 0, 0, 1, 22, 1, 100)
+    jumps('event 0, switch 30', 0, 30, 0, 1, 22, 1, 100)
+    jumps('event 15, switch 31', 15, 31, 0, 1, 22, 1, 100)
+    for event in (16, 255):
+        jumps(f'event {event}', event, 31, 5, 1, 16, 0, 0)
+    for chosen in (32, 254):
+        jumps(f'switch {chosen} of 32', 15, chosen, 5, 1, 17, 0, 0)
+    jumps('switch 255', 15, STAYS, 13, 1, 15, 0, 0)
+    steps = ready_for_steps()
+    good = run(1, 0, (0, 0, 0), jump(1, [0, 0, STAYS], 0, 0, 0))
+    for k, count in enumerate((4, 2, 1)):
+        for chosen in (count, 254):
+            p.run(f'switch {chosen} of {count} in component {k}', steps, good.set(f'switch{k}.0', chosen), 5, 1, 25 + k, 0, 0)
+    for value in (-2 ** 27 - 1, 2 ** 27 + 1):
+        p.run(f'p {value} after a jump', steps, good.set('p2.0', value), 5, 1, 36, 0, 0)
+    for value in (-2 ** 27, 2 ** 27):
+        p.run(f'p {value} after a jump', steps, good.set('p1.0', value), 0, 1, 40, 1, 100)
+    firsts = [good.place(name) for name, size, _ in good.fields for _ in range(size)]
+    for cut in range(23, 40):
+        p.run(f'jump cut to {cut}', steps, fixed(good.bytes()[:cut]), 4, 1, firsts[cut], 0, 0)
+
+
+# What a step may do
+
+def ready_for_steps():
+    """Three components with a variable each and no rows; every state is unsafe. Event 1 is shared by the first two, 2 is the first's
+    alone, 3 is in its alphabet without a switch, 4 in none."""
+    first = component([mode(), mode()], [switch(0, 1, 1), switch(0, 0, 0), switch(1, 0, 1), switch(0, 1, 2)], alphabet(1, 2, 3))
+    second = component([mode()], [switch(0, 0, 1), switch(0, 0, 0)], alphabet(1))
+    third = component([mode()], [switch(0, 0, 0)])
+    return model([0, 1, 2], [first, second, third], [([ANY] * 3, [])])
+
+
+def joint_steps(papers):
+    steps = ready_for_steps()
+    S = STAYS
+    allowed = [(1, [0, 0, S]), (0, [1, S, S]), (0, [S, 1, S]), (0, [S, S, 0]), (2, [3, S, S])]
+    refused = [
+        (1, [0, 0, 0]), (1, [S, S, S]), (1, [2, 0, S]), (1, [1, 0, S]), (1, [0, 1, S]), (1, [3, 0, S]),
+        (0, [S, S, S]), (0, [1, 1, S]), (0, [1, 1, 0]), (0, [0, S, S]), (0, [3, S, S]),
+        (2, [S, S, S]), (2, [3, 0, S]), (2, [0, S, S]), (2, [S, 0, S]),
+        (3, [S, S, S]), (3, [0, S, S]), (4, [S, S, S]), (4, [S, S, 0]), (15, [S, S, S]),
+    ]
+    for event, chosen in allowed:
+        papers.run(f'event {event} by {chosen}', steps, run(1, 0, (1, 2, 3), jump(event, chosen, 1, 2, 3)), 0, 1, 40, 1, 100)
+    for event, chosen in refused:
+        papers.run(f'event {event} by {chosen}', steps, run(1, 0, (1, 2, 3), jump(event, chosen, 1, 2, 3)), 13, 1, 23, 0, 0)
+    moved = jump(1, [0, 0, S], 1, 2, 3)
+    papers.run('there and back', steps, run(1, 0, (1, 2, 3), moved, jump(1, [2, 0, S], 1, 2, 3)), 0, 1, 57, 2, 100)
+    papers.run('there and there again', steps, run(1, 0, (1, 2, 3), moved, jump(1, [0, 0, S], 1, 2, 3)), 13, 1, 40, 1, 0)
+    papers.run('there by an event of its own and back', steps, run(1, 0, (1, 2, 3), jump(2, [3, S, S], 1, 2, 3), jump(1, [2, 0, S], 1, 2, 3)), 0, 1, 57, 2, 100)
+    for v in range(3):
+        values = [1, 2, 3]
+        values[v] = 9
+        expected = (13, 1, 23, 0, 0) if v == 2 else (0, 1, 40, 1, 100)
+        papers.run(f'variable {v} changed by a jump of the first two', steps, run(1, 0, (1, 2, 3), jump(1, [0, 0, S], *values)), *expected)
+
+
+def starts(papers):
+    p = papers
+    for value, expected in ((4, 12), (5, 0), (6, 12)):
+        p.run(f'start at {value}', UNSAFE_AT_FIVE, run(1, 0, (value,)), expected, 10 if expected else 15)
+    for value, expected in ((9, 12), (10, 0), (11, 12)):
+        p.run(f'start at {value} over 2', UNSAFE_AT_FIVE, run(2, 0, (value,)), expected, 10 if expected else 15)
+    inside = model([0], [component([mode(1, [], [(1, 10)])])], [([0], [])])
+    p.run('start on the invariant', inside, run(3, 0, (30,)), 0, 1, 15, 0, 100)
+    p.run('start over the invariant', inside, run(3, 0, (31,)), 12, 1, 10, 0, 0)
+    some = model([0], [component([mode(1), mode(0)]), component([mode(0), mode(1), mode(0)])], [([ANY, ANY], [])])
+    for location in range(6):
+        p.run(f'start in location {location} where 1 starts', some, run(1, location, (0,)), *((0, 15) if location == 1 else (12, 10)))
+    p.run('start before the first step', T, run(1, 0, (6,), flow(1, 8)), 12, 1, 10, 0, 0)
+
+
+def conditions(papers):
+    p = papers
+    guard = switch(0, 1, 0, [(-1, 0, -8), (-1, 1, 1)])
+    two = model([0], [component([mode(1, [], [(1, 10)], [(1, 2), (-1, 0)]), mode(0, [], [(-1, -9)])], [guard])], [([1], [(-1, -10)])])
+
+    def tries(label, q, steps, *expected):
+        p.run(label, two, run(q, 0, (5 * q,), *steps), *expected)
+
+    tries('flow to the invariant, jump', 1, [flow(3, 10), jump(0, [0], 11)], 0, 1, 31, 2, 100)
+    tries('flow over the invariant', 1, [flow(3, 11), jump(0, [0], 11)], 13, 1, 15, 0, 0)
+    tries('flow just too fast', 1, [flow(2, 10)], 13, 1, 15, 0, 0)
+    tries('flow as fast as may be', 1, [flow(2, 9)], 14, 1, 24, 1, 0)
+    tries('flow back', 1, [flow(2, 4)], 13, 1, 15, 0, 0)
+    tries('jump before the guard', 1, [flow(1, 7), jump(0, [0], 8)], 13, 1, 24, 1, 0)
+    tries('jump on the guard to outside the target invariant', 1, [flow(2, 8), jump(0, [0], 8)], 13, 1, 24, 1, 0)
+    tries('jump on the guard, end not unsafe', 1, [flow(2, 8), jump(0, [0], 9)], 14, 1, 31, 2, 0)
+    tries('jump too far', 1, [flow(3, 10), jump(0, [0], 12)], 13, 1, 24, 1, 0)
+    tries('flow in the target mode, free of rates', 1, [flow(2, 9), jump(0, [0], 9), flow(1, 100)], 0, 1, 40, 3, 100)
+    tries('flow in the target mode to outside', 1, [flow(2, 9), jump(0, [0], 9), flow(1, 8)], 13, 1, 31, 2, 0)
+    tries('q 10, a tenth too fast', 10, [flow(1, 53)], 13, 1, 15, 0, 0)
+    tries('q 10, as fast as may be', 10, [flow(1, 52)], 14, 1, 24, 1, 0)
+    tries('q 10, jump row by a tenth', 10, [flow(30, 100), jump(0, [0], 111)], 13, 1, 24, 1, 0)
+    tries('q 10, jump row just', 10, [flow(30, 100), jump(0, [0], 110)], 0, 1, 31, 2, 100)
+    sure = model([0], [component([mode()])], [([0], [(1, 3)]), ([0], [(-1, -9)]), ([ANY], [(1, 6), (-1, -6)])])
+    for value, unsafe in ((3, True), (4, False), (6, True), (8, False), (9, True)):
+        p.run(f'one of three unsafe conditions at {value}', sure, run(1, 0, (value,)), *((0, 1, 15, 0, 100) if unsafe else (14, 1, 15, 0, 0)))
+    p.run('no unsafe conditions', model([0], [component([mode()])]), run(1, 0, (0,)), 14, 1, 15, 0, 0)
+
+
+# Sums at the ends of their sizes
+
+def opposite_rows(count, n, most, bound):
+    return [(most,) * n + (bound,) if i % 2 == 0 else (-most,) * n + (bound,) for i in range(count)]
+
+
+def wide(bound, start):
+    """120 hypotheses of a jump with numbers as large as they may be: 16 region rows, 32 and 32 invariants, 24 jump rows, 16 staying."""
+    most = 2 ** 31 - 1
+    full = mode(start, [], opposite_rows(8, 8, most, bound))
+    jumps = opposite_rows(8, 16, most, bound)
+    moving = component([full], [switch(0, 0, 1, jumps)], alphabet(1))
+    return model([3] * 8, [moving] * 3 + [component([full])]), opposite_rows(16, 8, most, bound)
+
+
+def large_numbers(papers):
+    p = papers
+    least, multiplier = -2 ** 31, 2 ** 24 - 1
+    every = [(h, multiplier) for h in range(120)]
+    sheet, region = wide(least, 1)
+    two = (0, [(0, 1), (1, 1)])
+    below = certificate([region], [two] * 16 + [two] * 16 + [(0, every)] + [two] * 15)
+    p.certificate('120 entries, bound as low as may be', sheet, below, 0, 1, below.length(), 48, 100)
+    p.certificate('hypothesis 120 of 120', sheet, below.set('hypothesis32.119', 120), 5, 1, below.place('hypothesis32.119'), 32, 66)
+    p.certificate('120 entries, one multiplier less', sheet, below.set('multiplier32.7', multiplier - 1), 10, 1, below.place('k32'), 32, 66)
+    sheet, region = wide(2 ** 31 - 1, 0)
+    same = [(1, [(48 + i % 2, 1)]) for i in range(16)]
+    above = certificate([region], same + same[:15] + [(0, every)])
+    p.certificate('120 entries, bound as high as may be', sheet, above, 11, 1, above.place('k31'), 31, 96)
+    rates = [(least, least), (0, 2 ** 31 - 1), (0, 1)]
+    steep = model([0], [component([mode(0, [], [], rates)])])
+    slope = certificate([[(least, 0)]], [(multiplier, [(0, multiplier), (1, multiplier), (2, multiplier), (3, multiplier)])])
+    p.certificate('negated -2147483648 in a flow', steep, slope, 0, 1, slope.length(), 1, 100)
+    p.certificate('negated -2147483648 in a flow, k one less', steep, slope.set('k0', multiplier - 1), 10, 1, 14, 0, 0)
+    last = 2 ** 27
+    jumping = free(8, switches=[switch(0, 0, 0, [(least,) * 16 + (least,)])])
+    for value, expected in ((last, (0, 1, 78, 1, 100)), (-last, (13, 1, 43, 0, 0))):
+        p.run(f'jump row with values {value}', jumping, run(2 ** 24 - 1, 0, (value,) * 8, jump(0, [0], *(value,) * 8)), *expected)
+    flowing = model([0] * 8, [component([mode(1, [], [], [(least,) * 8 + (least,)])])], [([0], [])])
+    for value, expected in ((last, (0, 1, 80, 1, 100)), (-last, (13, 1, 43, 0, 0))):
+        p.run(f'flow row to values {value}', flowing, run(1, 0, (-value,) * 8, flow(2 ** 24 - 1, *(value,) * 8)), *expected)
+    bounded = model([0], [component([mode(1, [(1, 2 ** 31 - 1)])])], [([0], [(1, least)])])
+    p.run('bound -2147483648 by q 16777215', bounded, run(2 ** 24 - 1, 0, (-last,)), 14, 1, 15, 0, 0)
+
+
+# Order and scores of obligations
+
+def order_of_joint_switches(papers):
+    """The first component's switches have weights 1 and 2, the second's 3 and 5, so that the sum tells the pair: 4, 6, 5, 7."""
+    p = papers
+    first = component([mode(0, [], [], [(1, 0)])], [switch(0, 0, 1, [(0, 1, 0)]), switch(0, 0, 1, [(0, 2, 0)])], alphabet(1))
+    alone = component([mode()], [switch(0, 0, 0, [(0, 7, 0)])])
+    second = component([mode()], [switch(0, 0, 1, [(0, 3, 0)]), switch(0, 0, 1, [(0, 5, 0)])], alphabet(1))
+    sheet = model([0], [first, alone, second])
+    flows, lone = (1, [(0, 1), (1, 1)]), (1, [(0, 1), (2, 1)])
+    pairs = [(k, [(1, 1), (2, 1)]) for k in (4, 6, 5, 7)]
+    whole = certificate([[(1, 0)]], [flows, lone] + pairs)
+    p.certificate('order of joint switches', sheet, whole, 0, 1, whole.length(), 6, 100)
+    for i in range(2, 6):
+        other = 9 - whole.value(f'k{i}')
+        p.certificate(f'proof {i} for another joint switch', sheet, whole.set(f'k{i}', other), 10, 1, whole.place(f'k{i}'), i, 100 * i // 6)
+    late = certificate([[(1, 0)]], [flows] + pairs + [lone])
+    p.certificate('event 0 last', sheet, late, 10, 1, late.place('k1'), 1, 16)
+
+
+def order_of_hypotheses(papers):
+    """Each row of the model has a prime of its own as its coefficient, so that a proof tells which hypotheses it uses."""
+    initial, invariant, rates, jumps = [[1, 2], [3, 5]], [[7, 11], [13, 17]], [[19, 23], [29, 31]], [[41, 43], [47, 53]]
+    components = []
+    for k in range(2):
+        rows = [[(a, 0) for a in part[k]] for part in (initial, invariant, rates)]
+        components.append(component([mode(1, *rows)], [switch(0, 0, 1, [(0, a, 0) for a in jumps[k]])], alphabet(1)))
+    sheet = model([2], components + [component([mode()])], [([ANY] * 3, [(37, 0), (-37, -1)])])
+    inside = initial[0] + initial[1] + invariant[0] + invariant[1]
+    starts_from = [(1, [(i, 1)]) for i in range(8)]
+    flows = [(inside[4 + i], [(12 + i, inside[i])]) for i in range(4)]
+    flows += [(a, [(i, a), (16 + i - 4, inside[i])]) for i, a in zip(range(4, 8), rates[0] + rates[1])]
+    never = (0, [(9, 37), (13, 11)])
+    jumped = [(a, [(16 + i, inside[i])]) for i, a in enumerate(jumps[0] + jumps[1])]
+    jumped += [(1, [(4, 1), (20, 7)]), (13, [(10, 11), (20, 143)]), (17, [(11, 13), (20, 221)]), (1, [(15, 1)])]
+    whole = certificate([[(a, 0) for a in inside]], starts_from + flows + [never] + jumped)
+    papers.certificate('order of hypotheses', sheet, whole, 0, 1, whole.length(), 25, 100)
+    for proof, entry, done in ((2, 0, 2), (11, 0, 11), (14, 1, 14), (16, 1, 16), (18, 0, 18), (22, 0, 22), (24, 0, 24)):
+        name = f'hypothesis{proof}.{entry}'
+        papers.certificate(f'order of hypotheses, {name} one less', sheet, whole.set(name, whole.value(name) - 1), 10, 1, whole.place(f'k{proof}'), done, 4 * done)
+
+
+def order_of_locations(papers):
+    """Two modes by three: the invariants' coefficients tell the modes of a location."""
+    first, second = [2, 3], [5, 7, 11]
+    components = [component([mode(0, [], [(a, 0)]) for a in part]) for part in (first, second)]
+    regions = [[(a, 0), (b, 0)] for a in first for b in second]
+    whole = certificate(regions, [(1, [(4, 1)]), (1, [(5, 1)])] * 6)
+    papers.certificate('order of locations', model([0], components), whole, 0, 1, whole.length(), 12, 100)
+    turned = certificate([[(a, 0), (b, 0)] for b in second for a in first], [(1, [(4, 1)]), (1, [(5, 1)])] * 6)
+    papers.certificate('order of locations, the other way', model([0], components), turned, 10, 1, turned.place('k2'), 2, 16)
+    some = model([0], [component([mode(1), mode(0)]), component([mode(1), mode(1)])])
+    six = certificate([[(0, 0)]] * 4, [(1, [])] * 6)
+    papers.certificate('start rows where all modes start', some, six, 0, 1, six.length(), 6, 100)
+
+
+def order_of_staying_variables(papers):
+    """The owners fall while the variables rise; the middle component moves."""
+    still = [(1, 0, 0, 0), (0, 1, 0, 0), (0, 0, 1, 0)]
+    components = [component([mode(0, [], [], still)]), component([mode()], [switch(0, 0)]), component([mode()])]
+    flows = [(1, [(i, 1), (3 + i, 1)]) for i in range(3)]
+    whole = certificate([still], flows + [(1, [(0, 1), (3, 1)]), (0, []), (1, [(2, 1), (5, 1)])])
+    sheet = model([2, 1, 0], components)
+    papers.certificate('a moving variable with no row', sheet, whole, 11, 1, whole.place('k4'), 4, 66)
+    two = [still[0], still[2]]
+    kept = certificate([two], [(1, [(0, 1), (2, 1)]), (1, [(1, 1), (4, 1)]), (1, [(0, 1), (2, 1)]), (1, [(1, 1), (4, 1)])])
+    papers.certificate('order of staying variables', sheet, kept, 0, 1, kept.length(), 4, 100)
+    papers.certificate('the row the other way', sheet, kept.set('hypothesis2.1', 3), 10, 1, kept.place('k2'), 2, 50)
+
+
+def contradictions(papers):
+    never = [(0, 0, -1)]
+    blocked = model([0], [component([mode(), mode(0)], [switch(0, 1, 0, never)])], [([1], [(0, 0)])])
+    cut_off = certificate([[], [(0, -1)]], [(0, [(0, 1)]), (0, [(0, 1)]), (0, [(0, 1)])])
+    papers.certificate('k 0 after a flow and a jump', blocked, cut_off, 0, 1, cut_off.length(), 3, 100)
+    papers.certificate('k 0 after a jump with bound 0', blocked.set('jump0.0.0.2', 0), cut_off, 11, 1, cut_off.place('k2'), 2, 66)
+
+
+def scores(papers):
+    p = papers
+    none = plain(unsafe=0)[0]
+    empty = certificate([[]], [])
+    p.certificate('no obligations', none, empty, 0, 1, 6, 0, 100)
+    p.certificate('no obligations, a byte left', none, fixed(empty.bytes() + b'\0'), 4, 1, 6, 0, 99)
+    p.certificate('no obligations, locations wrong', none, empty.set('locations', 2), 5, 1, 4, 0, 0)
+    p.certificate('no obligations, cut in the regions', none, fixed(empty.bytes()[:5]), 4, 1, 5, 0, 0)
+    for total in (1, 7, 16):
+        sheet, proofs, _ = plain(unsafe=total)
+        for done in range(total):
+            p.certificate(f'{done} of {total}', sheet, proofs.set(f'entries{done}', 129), 5, 1, proofs.place(f'entries{done}'), done, 100 * done // total)
+        p.certificate(f'{total} of {total} and a byte', sheet, fixed(proofs.bytes() + b'\0'), 4, 1, proofs.length(), total, 99)
+    sheet, proofs, total = plain(modes=(8, 8), unsafe=2)
+    for done in (1, 2, 127):
+        p.certificate(f'{done} of {total}', sheet, proofs.set(f'k{done}', 1), 5, 1, proofs.place(f'k{done}'), done, 100 * done // total)
+    p.certificate('cut in the last region', sheet, fixed(proofs.bytes()[:68]), 4, 1, 68, 0, 0)
+    p.certificate('last region out of range', sheet, proofs.set('region63', 17), 5, 1, 68, 0, 0)
+
+
+# The plant of four components
+
+def plant_certificate(papers):
+    p, whole = papers, PLANT_CERTIFICATE
+    p.certificate('plant', SAFE_PLANT, whole, 0, 1, 2108, 115, 100)
+
+    def change(name, value, number, done, at=None):
+        p.certificate(f'plant, {name} as {value}', SAFE_PLANT, whole.set(name, value), number, 1, whole.place(at or name), done, 100 * done // 115)
+
+    change('k6', 1, 5, 6)
+    change('hypothesis30.1', 3, 9, 30)
+    change('hypothesis49.1', 27, 5, 49)
+    change('multiplier87.2', 3, 10, 87, 'k87')
+    change('multiplier114.0', 0, 5, 114)
+    change('hypothesis53.1', 11, 10, 53, 'k53')
+    change('k21', 1, 10, 21, 'k21')
+    change('entries91', 2, 10, 91, 'k91')
+    change('region5.3.4', 9, 11, 49, 'k49')
+    change('region7.2.4', 89, 11, 38, 'k38')
+    p.certificate('plant less its last byte', SAFE_PLANT, fixed(whole.bytes()[:-1]), 4, 1, 2104, 114, 99)
+    p.certificate('plant and a byte', SAFE_PLANT, fixed(whole.bytes() + b'\0'), 4, 1, 2108, 115, 99)
+    p.certificate('plant without its last proof', SAFE_PLANT, fixed(whole.bytes()[:whole.place('k114')]), 4, 1, whole.place('k114'), 114, 99)
+    p.certificate('plant with other unsafe conditions', UNSAFE_PLANT, whole)
+    p.list('plant list', SAFE_PLANT, 22, 0, 0, 1322, 22, 0)
+    p.list('plant list, one short', SAFE_PLANT, 21, 15, 2, 22, 0, 0)
+
+
+def plant_run(papers):
+    p, whole = papers, PLANT_RUN
+    p.run('plant run', UNSAFE_PLANT, whole, 0, 1, 178, 7, 100)
+
+    def change(name, value, number, done, at=None):
+        place = 178 if number == 14 else 10 if number == 12 else whole.place(at or name)
+        p.run(f'plant run, {name} as {value}', UNSAFE_PLANT, whole.set(name, value), number, 1, place, done, 0)
+
+    change('q', 0, 5, 0)
+    change('q', 3, 12, 0)
+    change('location', 1, 12, 0)
+    change('location', 8, 5, 0)
+    change('p0', 1, 12, 0)
+    change('p1', 41, 12, 0)
+    change('p2', 9, 12, 0)
+    change('p1.0', 37, 13, 0, 'step0')
+    change('p3.0', 3, 13, 0, 'step0')
+    change('p2.0', 9, 13, 0, 'step0')
+    change('p1.1', 38, 13, 1, 'step1')
+    change('p0.1', 1, 13, 1, 'step1')
+    change('switch3.1', 255, 13, 1, 'step1')
+    change('switch3.1', 3, 5, 1)
+    change('switch0.1', 1, 13, 1, 'step1')
+    change('event1', 2, 13, 1, 'step1')
+    change('event1', 4, 13, 1, 'step1')
+    change('event1', 16, 5, 1)
+    change('time2', 8, 13, 2, 'step2')
+    change('p0.2', 21, 13, 2, 'step2')
+    change('p0.3', 17, 13, 3, 'step3')
+    change('p2.3', 8, 13, 4, 'step4')
+    change('switch2.3', 0, 13, 3, 'step3')
+    change('switch0.4', 2, 13, 4, 'step4')
+    change('switch0.4', 0, 13, 4, 'step4')
+    change('switch1.4', 1, 13, 4, 'step4')
+    change('p1.5', 52, 13, 5, 'step5')
+    change('step5', 2, 5, 5)
+    change('time5', 2 ** 24, 5, 5)
+    change('p1.6', 121, 13, 6, 'step6')
+    change('p2.6', 7, 13, 6, 'step6')
+    change('p2.6', 5, 14, 7)
+    change('p3.6', 1, 13, 6, 'step6')
+    change('steps', 6, 4, 6, 'step6')
+    p.run('plant run, p1.6 as 120', UNSAFE_PLANT, whole.set('p1.6', 120), 0, 1, 178, 7, 100)
+    p.run('plant run and a byte', UNSAFE_PLANT, fixed(whole.bytes() + b'\0'), 4, 1, 178, 7, 0)
+    p.run('plant run less its last byte', UNSAFE_PLANT, fixed(whole.bytes()[:-1]), 4, 1, 174, 6, 0)
+    p.run('plant run, one step more', UNSAFE_PLANT, whole.set('steps', 8), 4, 1, 178, 7, 0)
+
+
+def joint_list(papers):
+    p = papers
+    p.list('none needed, none lent', T, 0, 0, 0, 66, 0, 0)
+    p.list('none needed, some lent', T, 9, 0, 0, 66, 0, 0)
+    many = plain(modes=(1, 1, 1), switches=[16] * 3, alphabets=[2] * 3, label=1)[0]
+    for lent in (0, 1, 4095):
+        p.list(f'4096 needed, {lent} lent', many, lent, 15, 2, 4096, 0, 0)
+    for lent in (4096, 4097, 65535):
+        p.list(f'4096 needed, {lent} lent', many, lent, 0, 0, many.length(), 4096, 0)
+    steps = ready_for_steps()
+    # location 0: 3 alone, 1·1 together, 1 by event 2; location 1: 2 alone, 1·1 together
+    p.list('8 needed, 7 lent', steps, 7, 15, 2, 8, 0, 0)
+    p.list('8 needed, 8 lent', steps, 8, 0, 0, steps.length(), 8, 0)
+
+
+def inputs(papers):
+    """The program's input: the first sheet is L+2 bytes, or all if fewer; the rest is the second, a run if its byte 3 is 3."""
+    t, c, at_five = T.bytes(), C.bytes(), AT_FIVE.bytes()
+    p = papers
+    p.input('input: T then C', t + c, 'SAFE 3')
+    p.input('input: T then T at 5', t + at_five, 'REFUSED 14 1 15 0 0')
+    p.input('input: unsafe tank then its run', UNSAFE_AT_NINE.bytes() + TO_NINE.bytes(), 'UNSAFE 1')
+    p.input('input: plant then its certificate', SAFE_PLANT.bytes() + PLANT_CERTIFICATE.bytes(), 'SAFE 115')
+    p.input('input: plant then its run', UNSAFE_PLANT.bytes() + PLANT_RUN.bytes(), 'UNSAFE 7')
+    p.input('input: nothing', b'', 'REFUSED 1 0 0 0 0')
+    p.input('input: one byte', t[:1], 'REFUSED 1 0 0 0 0')
+    p.input('input: two bytes, L 0', bytes(2), 'REFUSED 1 0 0 0 0')
+    p.input('input: L over what is there', t[:-1], 'REFUSED 1 0 0 0 0')
+    p.input('input: L 65535', b'\xff\xff' + (t + c)[2:], 'REFUSED 1 0 0 0 0')
+    p.input('input: L one less, so that the second sheet begins early', T.set('L', 63).bytes() + c, 'REFUSED 4 0 62 0 0')
+    p.input('input: L one more, so that the second sheet begins late', T.set('L', 65).bytes() + c, 'REFUSED 4 0 66 0 0')
+    p.input('input: T alone', t, 'REFUSED 1 1 0 0 0')
+    p.input('input: T and three bytes', t + b'\0\1\1', 'REFUSED 1 1 0 0 0')
+    p.input('input: T and a header of kind 3', t + b'\0\2\1\3', 'REFUSED 4 1 4 0 0')
+    p.input('input: T and a header of kind 2', t + b'\0\2\1\2', 'REFUSED 4 1 4 0 0')
+    p.input('input: T twice', t + t, 'REFUSED 3 1 3 0 0')
+    p.input('input: run of version 2', t + AT_FIVE.set('version', 2).bytes(), 'REFUSED 2 1 2 0 0')
+    p.input('input: C then T', c + t, 'REFUSED 3 0 3 0 0')
+    p.input('input: T, C and a byte', t + c + b'\0', 'REFUSED 1 1 0 0 0')
+    p.input('input: last proof fails', t + C.set('multiplier2.1', 2).bytes(), 'REFUSED 10 1 34 2 66')
+
+
+SECTIONS = [
+    the_table, rejected_readings, headers, cuts, counts_of_a_model, conditions_of_a_model, switches_of_a_model, refused_models_in_each_call,
+    fields_of_a_certificate, fields_of_a_run, fields_of_a_jump, joint_steps, starts, conditions, large_numbers,
+    order_of_joint_switches, order_of_hypotheses, order_of_locations, order_of_staying_variables, contradictions, scores,
+    plant_certificate, plant_run, joint_list, inputs, sizes,
+]
+
+EXAMPLES = {
+    'tank.model': T, 'tank.certificate': C, 'tank.run': AT_FIVE,
+    'unsafe-tank.model': UNSAFE_AT_NINE, 'unsafe-tank.run': TO_NINE,
+    'plant.model': SAFE_PLANT, 'plant.certificate': PLANT_CERTIFICATE,
+    'unsafe-plant.model': UNSAFE_PLANT, 'unsafe-plant.run': PLANT_RUN,
+}
+
+
+def write_papers(folder):
+    papers = Papers()
+    for section in SECTIONS:
+        section(papers)
+    data = b''.join(papers.records)
+    assert len(data) < 400_000
+    (folder / 'stdin').write_bytes(data)
+    (folder / 'stdout').write_text('\n'.join(papers.lines) + '\n')
+    print(len(papers.lines), 'papers,', len(papers.records), 'records,', len(data), 'bytes')
+
+
+def write_examples(folder):
+    for name, sheet in EXAMPLES.items():
+        (folder / name).write_bytes(sheet.bytes())
+    print(len(EXAMPLES), 'sheets')
+
+
+if __name__ == '__main__':
+    if len(sys.argv) == 3 and sys.argv[1] == '--examples':
+        write_examples(Path(sys.argv[2]))
+    elif len(sys.argv) == 2:
+        write_papers(Path(sys.argv[1]))
+    else:
+        sys.exit(__doc__)
