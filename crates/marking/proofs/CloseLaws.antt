@@ -1,7 +1,6 @@
 -- A certificate's marking put together: a model that was read is within the exam's limits; regions that were read make a good paper; where
 -- all proofs have passed the score is 100; and how each part's answer makes that of the whole. Assumes nothing.
 use mathlib.Core.Path.{_≡_, refl, sym, ap, ap₂, _∙_, subst}
-use mathlib.Core.Bool.{Bool, true, false}
 use mathlib.Core.List.{List}
 use Prim.Native.Nat.{ℕ, zero, suc, _≤_, min}
 use native.Mathlib.Nat.{mul-div-cancel}
@@ -9,7 +8,7 @@ use native.Mathlib.Omega.{arith}
 use lib.Dec.{leb}
 use lib.ListN.{length}
 use borrow.Author.Tests.{leb-true}
-use Rattle.sheets.specs.Reading.{Got, got, refused, Reader, andThen, _>>_, expect, header, finished}
+use Rattle.sheets.specs.Reading.{Got, got, refused, _>>_, header, finished}
 use Rattle.sheets.specs.Rows.{Condition}
 use Rattle.sheets.specs.Model.{Model}
 use Rattle.sheets.specs.Locations.{locationCount}
@@ -18,7 +17,7 @@ use Rattle.sheets.specs.Index.{entry, componentsFrom, modelFrom}
 use Rattle.sheets.specs.ModelSheet.{Limits, examLimits, readModel}
 use Rattle.sheets.specs.Certificate.{readRegions}
 use Rattle.sheets.specs.CertificateAnswers.{regionsFrom, regionsFor, GoodRegions}
-use Rattle.sheets.proofs.Gives.{Gives, gives-bind, gives-then, gives-give, gives-any}
+use Rattle.sheets.proofs.Gives.{gives-bind, gives-then, gives-give, gives-any}
 use Rattle.sheets.proofs.Placed.{Fine, placed-finished, placed-regions}
 use Rattle.sheets.proofs.GoodIndexLaws.{index-good}
 use Rattle.sheets.proofs.CertificateLaws.{regions-of, good-regions}
@@ -31,13 +30,7 @@ use Rattle.marking.specs.Closing.{Accepted}
 use Rattle.marking.proofs.MarkedRanges.{Marks, proofs-mark}
 use Rattle.marking.proofs.CountGoals.{obligations-length, locations-few, jumps-few}
 use Rattle.marking.proofs.MarkLaws.{stands-passed, stands-stopped}
-use Rattle.marking.proofs.ListLaws.{few-joints, model-short}
-
--- a test that had to be passed was passed
-expected : {A : Type 0} {P : A → Type 0} (b : Bool) (number place : ℕ) (r : Reader A) → (b ≡ true → Gives P r) → Gives P (expect b number place >> r)
-unfolding expect _>>_ andThen
-expected true number place r f = gives-then (expect true number place) (f refl)
-expected false number place r f = record { holds = λ s p a next e. let z : _≡_ {A = ℕ} 0 1 = cc in absurd (omega arith) }
+use Rattle.marking.proofs.ListLaws.{few-joints, model-short, expected}
 
 -- a model that a sheet gives has at most as many locations as the limits allow
 few-locations : (limits : Limits) (s : List ℕ) (m : Model) (next : ℕ) → readModel limits s ≡ got m next → locationCount (m .components) ≤ limits .locations

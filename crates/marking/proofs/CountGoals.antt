@@ -2,13 +2,14 @@
 -- targets of joint switches; each sum by its turns. Assumes nothing.
 use mathlib.Core.Path.{_≡_, refl, sym, ap, ap₂, _∙_, subst}
 use mathlib.Core.Bool.{Bool, true, false, cond}
-use mathlib.Core.List.{List, [], _∷_, _++_, map, append-assoc}
-use Prim.Native.Nat.{ℕ, zero, suc, _+_, _*_, _-_, _≤_, _<_}
+use mathlib.Core.List.{List, [], _∷_, _++_, map}
+use Prim.Native.Nat.{ℕ, suc, _+_, _*_, _-_, _≤_, _<_}
+use native.Mathlib.Nat.{sub-zero}
 use native.Mathlib.Decide.{decLe}
 use native.Mathlib.Numerals.{add-one}
 use native.Mathlib.Omega.{arith}
 use lib.Dec.{eqb}
-use lib.ListN.{length, getD, drop, length-append, drop-of-length-le}
+use lib.ListN.{length, getD, drop, length-append, drop-of-length-le, List·getD-eq-default}
 use lib.Seq.{drop-cons}
 use Rattle.farkas.specs.Lists.{every}
 use Rattle.farkas.specs.declared.Row.{Row}
@@ -27,50 +28,34 @@ use Rattle.sheets.proofs.JointCounts.{numbers-length, event-length, jointsIn}
 use Rattle.sheets.proofs.JointLoops.{switches-few, per-component-modes, record-at, found-joint, four-known, four-first}
 use Rattle.marking.specs.Runs.{present, modesIn, modesFit}
 use Rattle.marking.specs.Obligations.{Hypothesis, Kind, Obligation, perRow, startObligations, flowObligations, unsafeObligations, locationObligations, jumpObligations, jumpsObligations, obligationsOver, obligations, regionOf}
-use Rattle.marking.specs.Listing.{GoodPaper}
-use Rattle.marking.specs.Counting.{regionIn, targetRows}
+use Rattle.marking.specs.Listing.{GoodPaper, regionsOf}
+use Rattle.marking.specs.Counting.{targetRows}
+use Rattle.marking.proofs.ListFacts.{joined-few, joined-twice, count-length}
 use Rattle.marking.proofs.CountLaws.{have-modes}
-
--- lists that are joined
-pub joined-few : {A B : Type 0} (f : A → List B) (b : ℕ) → ((a : A) → length (f a) ≤ b) → (xs : List A) → length (joinAll f xs) ≤ b * length xs
-unfolding joinAll
-joined-few f b h [] = omega arith
-joined-few f b h (x ∷ xs) = omega (arith, length-append (f x) (joinAll f xs), h x, joined-few f b h xs)
-
-joined-both : {A B : Type 0} (f : A → List B) (xs ys : List A) → joinAll f (xs ++ ys) ≡ joinAll f xs ++ joinAll f ys
-unfolding joinAll
-joined-both f [] ys = refl
-joined-both f (x ∷ xs) ys = ap (λ zs. f x ++ zs) (joined-both f xs ys) ∙ sym (append-assoc (f x) (joinAll f xs) (joinAll f ys))
-
-joined-twice : {A B C : Type 0} (g : B → List C) (f : A → List B) (xs : List A) → joinAll g (joinAll f xs) ≡ joinAll (λ a. joinAll g (f a)) xs
-unfolding joinAll
-joined-twice g f [] = refl
-joined-twice g f (x ∷ xs) = joined-both g (f x) (joinAll f xs) ∙ ap (λ zs. joinAll g (f x) ++ zs) (joined-twice g f xs)
-
-getD-past : {A : Type 0} (xs : List A) (i : ℕ) (d : A) → length xs ≤ i → getD xs i d ≡ d
-getD-past [] i d h = refl
-getD-past (x ∷ xs) zero d h = absurd (omega arith)
-getD-past (x ∷ xs) (suc i) d h = getD-past xs i d (omega arith)
 
 -- the rows of a region
 module _ (model index second regions : List ℕ) where
-  pub region-length : (location : ℕ) → location < locationCount (componentsFrom model index) → length (regionIn model index second regions location) ≡ entry regions (2 * location + 1)
-  unfolding regionIn regionOf regionsFrom spanRows
+  pub region-at : (location : ℕ) → location < locationCount (componentsFrom model index) → regionsOf model index second regions location ≡ spanRows second (entry index 0) regions (2 * location)
+  unfolding regionsOf regionOf regionsFrom
+  region-at location h = counted-at (λ l. spanRows second (entry index 0) regions (2 * l)) (locationCount (componentsFrom model index)) location [] h
+
+  pub region-length : (location : ℕ) → location < locationCount (componentsFrom model index) → length (regionsOf model index second regions location) ≡ entry regions (2 * location + 1)
+  unfolding spanRows
   region-length location h =
-      ap (λ (c : Condition). length c) (counted-at (λ l. spanRows second (entry index 0) regions (2 * l)) (locationCount (componentsFrom model index)) location [] h)
+      ap (λ (c : Condition). length c) (region-at location h)
       ∙ length-rows second (entry index 0) (entry regions (2 * location)) (entry regions (2 * location + 1))
 
-  region-past : (location : ℕ) → locationCount (componentsFrom model index) ≤ location → length (regionIn model index second regions location) ≡ 0
-  unfolding regionIn regionOf regionsFrom
+  region-past : (location : ℕ) → locationCount (componentsFrom model index) ≤ location → length (regionsOf model index second regions location) ≡ 0
+  unfolding regionsOf regionOf regionsFrom
   region-past location h =
       let kept : ℕ → Condition = λ l. spanRows second (entry index 0) regions (2 * l) in
       let count = locationCount (componentsFrom model index) in
-      ap (λ (c : Condition). length c) (getD-past (map kept (countUp 0 count)) location [] (omega (arith, counted-length kept 0 count)))
+      ap (λ (c : Condition). length c) (List·getD-eq-default (map kept (countUp 0 count)) [] {n = location} (omega (arith, counted-length kept 0 count)))
 
-  pub region-few : GoodPaper model index second regions → (location : ℕ) → length (regionIn model index second regions location) ≤ 16
+  pub region-few : GoodPaper model index second regions → (location : ℕ) → length (regionsOf model index second regions location) ≤ 16
   region-few g location = go (decLe (locationCount (componentsFrom model index)) location)
     where
-      go : Dec (locationCount (componentsFrom model index) ≤ location) → length (regionIn model index second regions location) ≤ 16
+      go : Dec (locationCount (componentsFrom model index) ≤ location) → length (regionsOf model index second regions location) ≤ 16
       go (yes l) = omega (arith, region-past location l)
       go (no f) = let l : location < locationCount (componentsFrom model index) = omega arith in omega (arith, region-length location l, g .placed .few location l)
 
@@ -172,45 +157,37 @@ module _ (m : Model) (regionAt : ℕ → Condition) where
       ∙ sym (length-append (regionAt (j .target)) (targetRows regionAt rest))
 
 -- the goals of a location are few
-pub location-few : {model index second regions : List ℕ} → GoodPaper model index second regions → (location : ℕ) → length (locationObligations (modelFrom model index) (regionIn model index second regions) location) ≤ 48
+pub location-few : {model index second regions : List ℕ} → GoodPaper model index second regions → (location : ℕ) → length (locationObligations (modelFrom model index) (regionsOf model index second regions) location) ≤ 48
 location-few {model} {index} {second} {regions} g location =
     let m = modelFrom model index in
-    let rows = length (regionIn model index second regions location) in
+    let rows = length (regionsOf model index second regions location) in
     let starts = every (λ mode. eqb (mode .start) 1) (modesIn m location) in
-    omega (arith, location-length m (regionIn model index second regions) location, bit-times starts rows, region-few model index second regions g location, fitting-few model index (g .good) (λ w. modesFit (w .modes) (modesAt (m .components) location)))
+    omega (arith, location-length m (regionsOf model index second regions) location, bit-times starts rows, region-few model index second regions g location, fitting-few model index (g .good) (λ w. modesFit (w .modes) (modesAt (m .components) location)))
 
 -- their sum, by the counts of the modes of a location
 pub location-sum :
     (model index second regions : List ℕ) (location : ℕ) (modes rest : List ℕ) → modes ≡ modesAt (componentsFrom model index) location ++ rest
     → (starts rows fitting : ℕ) {b : Bool} → b ≡ every (λ mode. eqb (mode .start) 1) (present (componentsFrom model index) (perComponent index modes)) → starts ≡ bit b
-    → rows ≡ length (regionIn model index second regions location) → fitting ≡ length (numbersFrom 0 (λ w. modesFit (w .modes) (perComponent index modes)) (modelFrom model index .unsafe))
-    → starts * rows + (rows + fitting) ≡ length (locationObligations (modelFrom model index) (regionIn model index second regions) location)
+    → rows ≡ length (regionsOf model index second regions location) → fitting ≡ length (numbersFrom 0 (λ w. modesFit (w .modes) (perComponent index modes)) (modelFrom model index .unsafe))
+    → starts * rows + (rows + fitting) ≡ length (locationObligations (modelFrom model index) (regionsOf model index second regions) location)
 unfolding modesIn modelFrom
 location-sum model index second regions location modes rest e starts rows fitting p q r f =
     let here = per-component-modes model index location modes rest e in
     let m = modelFrom model index in
     let s : starts ≡ bit (every (λ mode. eqb (mode .start) 1) (modesIn m location)) = q ∙ ap bit p ∙ ap (λ (ms : List ℕ). bit (every (λ mode. eqb (mode .start) 1) (present (componentsFrom model index) ms))) here in
     let t : fitting ≡ length (numbersFrom 0 (λ w. modesFit (w .modes) (modesAt (m .components) location)) (m .unsafe)) = f ∙ ap (λ (ms : List ℕ). length (numbersFrom 0 (λ w. modesFit (w .modes) ms) (m .unsafe))) here in
-    ap₂ (λ (i j : ℕ). i + j) (ap₂ (λ (i j : ℕ). i * j) s r) (ap₂ (λ (i j : ℕ). i + j) r t) ∙ sym (location-length m (regionIn model index second regions) location)
+    ap₂ (λ (i j : ℕ). i + j) (ap₂ (λ (i j : ℕ). i * j) s r) (ap₂ (λ (i j : ℕ). i + j) r t) ∙ sym (location-length m (regionsOf model index second regions) location)
 
 pub joined-start : {B : Type 0} (f : ℕ → List B) (n : ℕ) → length (joinAll f (countUp 0 (n - 0))) ≡ length (joinAll f (countUp 0 n))
-joined-start f n = ap (λ (k : ℕ). length (joinAll f (countUp 0 k))) (whole n)
-  where
-    whole : (n : ℕ) → n - 0 ≡ n
-    whole n = omega arith
+joined-start f n = ap (λ (k : ℕ). length (joinAll f (countUp 0 k))) (sub-zero n)
 
-count-length : (i n : ℕ) → length (countUp i n) ≡ n
-unfolding countUp
-count-length i zero = refl
-count-length i (suc n) = ap suc (count-length (suc i) n)
-
-pub locations-few : {model index second regions : List ℕ} → GoodPaper model index second regions → (locations : ℕ) → locations ≡ locationCount (componentsFrom model index) → length (joinAll (locationObligations (modelFrom model index) (regionIn model index second regions)) (countUp 0 locations)) ≤ 3072
+pub locations-few : {model index second regions : List ℕ} → GoodPaper model index second regions → (locations : ℕ) → locations ≡ locationCount (componentsFrom model index) → length (joinAll (locationObligations (modelFrom model index) (regionsOf model index second regions)) (countUp 0 locations)) ≤ 3072
 locations-few {model} {index} {second} {regions} g locations h =
-    omega (arith, joined-few (locationObligations (modelFrom model index) (regionIn model index second regions)) 48 (location-few g) (countUp 0 locations), count-length 0 locations, g .few)
+    omega (arith, joined-few (locationObligations (modelFrom model index) (regionsOf model index second regions)) 48 (location-few g) (countUp 0 locations), count-length 0 locations, g .few)
 
 -- all obligations
-pub obligations-length : (model index second regions : List ℕ) (locations : ℕ) → locations ≡ locationCount (componentsFrom model index) → length (obligations (modelFrom model index) (regionsFrom second (entry index 0) regions locations)) ≡ length (joinAll (locationObligations (modelFrom model index) (regionIn model index second regions)) (countUp 0 locations)) + length (targetRows (regionIn model index second regions) (joints (componentsFrom model index)))
-unfolding obligations obligationsOver modelFrom regionIn
+pub obligations-length : (model index second regions : List ℕ) (locations : ℕ) → locations ≡ locationCount (componentsFrom model index) → length (obligations (modelFrom model index) (regionsFrom second (entry index 0) regions locations)) ≡ length (joinAll (locationObligations (modelFrom model index) (regionsOf model index second regions)) (countUp 0 locations)) + length (targetRows (regionsOf model index second regions) (joints (componentsFrom model index)))
+unfolding obligations obligationsOver modelFrom regionsOf
 obligations-length model index second regions locations h =
     let m = modelFrom model index in
     let count = locationCount (componentsFrom model index) in
@@ -231,11 +208,8 @@ rows-joined regionAt f xs = ap (λ (c : Condition). length c) (sym (joined-twice
 pub rows-start : (regionAt : ℕ → Condition) (components : List Component) (locations : ℕ) → locations ≡ locationCount components → length (joinAll (λ l. targetRows regionAt (jointsIn components l)) (countUp 0 (locations - 0))) ≡ length (targetRows regionAt (joints components))
 unfolding joints
 rows-start regionAt components locations h =
-    ap (λ (n : ℕ). length (joinAll (λ l. targetRows regionAt (jointsIn components l)) (countUp 0 n))) (whole locations ∙ h)
+    ap (λ (n : ℕ). length (joinAll (λ l. targetRows regionAt (jointsIn components l)) (countUp 0 n))) (sub-zero locations ∙ h)
     ∙ rows-joined regionAt (jointsIn components) (countUp 0 (locationCount components))
-  where
-    whole : (n : ℕ) → n - 0 ≡ n
-    whole n = omega arith
 
 -- how many joint switches an event has, by the modes of a location
 pub counted-switches : (components : List Component) (e : ℕ) {n : ℕ} {modes here : List ℕ} → n ≡ length (switchesOf components modes e) → modes ≡ here → n ≡ length (switchesOf components here e)
@@ -258,20 +232,20 @@ module _ (regionAt : ℕ → Condition) (components : List Component) (location 
   event-end x h =
       ap (λ (js : List JointSwitch). length (targetRows regionAt js)) (drop-of-length-le (jointsOf components location e) {i = x} (omega (arith, event-length components location e)))
 
-pub event-few : {model index second regions : List ℕ} → GoodPaper model index second regions → (location e : ℕ) → length (targetRows (regionIn model index second regions) (jointsOf (componentsFrom model index) location e)) ≤ 16777216
+pub event-few : {model index second regions : List ℕ} → GoodPaper model index second regions → (location e : ℕ) → length (targetRows (regionsOf model index second regions) (jointsOf (componentsFrom model index) location e)) ≤ 16777216
 event-few {model} {index} {second} {regions} g location e =
     let components = componentsFrom model index in
-    omega (arith, rows-few (regionIn model index second regions) (region-few model index second regions g) (jointsOf components location e), event-length components location e, switches-few (g .good) (modesAt components location) e)
+    omega (arith, rows-few (regionsOf model index second regions) (region-few model index second regions g) (jointsOf components location e), event-length components location e, switches-few (g .good) (modesAt components location) e)
 
-pub jumps-few : {model index second regions : List ℕ} → GoodPaper model index second regions → length (joints (componentsFrom model index)) ≤ 4096 → length (targetRows (regionIn model index second regions) (joints (componentsFrom model index))) ≤ 65536
+pub jumps-few : {model index second regions : List ℕ} → GoodPaper model index second regions → length (joints (componentsFrom model index)) ≤ 4096 → length (targetRows (regionsOf model index second regions) (joints (componentsFrom model index))) ≤ 65536
 jumps-few {model} {index} {second} {regions} g h =
-    omega (arith, rows-few (regionIn model index second regions) (region-few model index second regions g) (joints (componentsFrom model index)))
+    omega (arith, rows-few (regionsOf model index second regions) (region-few model index second regions g) (joints (componentsFrom model index)))
 
-pub events-few : {model index second regions : List ℕ} → GoodPaper model index second regions → (location : ℕ) → length (targetRows (regionIn model index second regions) (jointsIn (componentsFrom model index) location)) ≤ 268435456
+pub events-few : {model index second regions : List ℕ} → GoodPaper model index second regions → (location : ℕ) → length (targetRows (regionsOf model index second regions) (jointsIn (componentsFrom model index) location)) ≤ 268435456
 unfolding countUp
 events-few {model} {index} {second} {regions} g location =
     let components = componentsFrom model index in
-    let regionAt = regionIn model index second regions in
+    let regionAt = regionsOf model index second regions in
     omega (arith, joined-few (λ e. targetRows regionAt (jointsOf components location e)) 16777216 (event-few g location) (countUp 0 16), rows-joined regionAt (jointsOf components location) (countUp 0 16))
 
 -- What is found by its number: switches that are known, which lead to a location
@@ -292,11 +266,13 @@ module _ {model index : List ℕ} (g : GoodIndex model index) (location e x : �
     found-four : switches ≡ fourSwitches foundAt
     found-four = q ∙ ap (λ (ms : List ℕ). fourSwitches (getD (switchesOf (componentsFrom model index) ms e) x [])) p
 
+    pub found-first : perComponent index switches ≡ foundAt
+    found-first = ap (perComponent index) found-four ∙ four-first g found-known
+
     pub found-switches : KnownSwitches index switches
     found-switches = subst (λ (ws : List ℕ). KnownSwitches index ws) (sym found-four) (four-known g found-known)
 
     pub found-target : (target : ℕ) → target ≡ locationOf (componentsFrom model index) (modesAfter (componentsFrom model index) (perComponent index modes) (perComponent index switches)) → target ≡ locationOf (componentsFrom model index) (modesAfter (componentsFrom model index) (modesAt (componentsFrom model index) location) foundAt)
     found-target target t =
         t
-        ∙ ap₂ (λ (ms ws : List ℕ). locationOf (componentsFrom model index) (modesAfter (componentsFrom model index) ms ws)) p
-        (ap (perComponent index) found-four ∙ four-first g found-known)
+        ∙ ap₂ (λ (ms ws : List ℕ). locationOf (componentsFrom model index) (modesAfter (componentsFrom model index) ms ws)) p found-first

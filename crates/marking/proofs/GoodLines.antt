@@ -1,8 +1,9 @@
 -- Lines whose rows lie within their sheets, and how many lines a table has. Assumes nothing.
-use mathlib.Core.Path.{_≡_, refl, sym, ap, _∙_, subst}
+use mathlib.Core.Path.{_≡_, refl, sym, ap, subst}
 use mathlib.Core.Bool.{Bool, true, false}
-use mathlib.Core.List.{List, [], _∷_, _++_, map}
-use Prim.Native.Nat.{ℕ, zero, suc, _+_, _*_, _-_, _≤_, _<_}
+use mathlib.Core.List.{List, _++_}
+use Prim.Native.Nat.{ℕ, zero, suc, _+_, _*_, _≤_, _<_}
+use native.Mathlib.Nat.{zero-add}
 use native.Mathlib.Omega.{arith}
 use lib.Dec.{eqb}
 use lib.ListN.{length, getD, length-append}
@@ -13,7 +14,7 @@ use Rattle.sheets.specs.Index.{entry, ownerPlace, componentPlace, modePlace, sw
 use Rattle.sheets.specs.Counts.{perComponent, KnownSwitches}
 use Rattle.sheets.specs.CertificateAnswers.{GoodRegions}
 use Rattle.marking.specs.Tables.{Listed, GoodLine}
-use Rattle.marking.specs.Listing.{line, spanLines, keptLines, modeLines, switchLine, switchLines, stayingLine, stayingLines, GoodModes, KnownModes, rowSize, hereLines, startLines, flowLines, unsafeLines, jumpLines, GoodPaper}
+use Rattle.marking.specs.Listing.{line, spanLines, keptLines, modeLines, switchLine, stayingLine, stayingLines, GoodModes, KnownModes, rowSize, hereLines, startLines, flowLines, unsafeLines, jumpLines, GoodPaper}
 use Rattle.marking.proofs.ModeLines.{kept-length, modesOn, modes-next, modes-end, switchesOn, switches-next, switches-end, switch-stays, switch-moves, switch-few, variable-stays, variable-moves, variable-few}
 
 -- a property of every line of a span
@@ -118,9 +119,6 @@ module _ (model index modes : List ℕ) (g : GoodIndex model index) (known : Kno
 both-few : (xs ys : List Listed) {a b c : ℕ} → length xs ≤ a → length ys ≤ b → a + b ≤ c → length (xs ++ ys) ≤ c
 both-few xs ys h k l = omega (arith, length-append xs ys, h, k, l)
 
-nothing : (n : ℕ) → 0 + n ≡ n
-nothing n = omega arith
-
 -- lines of modes
 module _ (model second index modes : List ℕ) (long : entry index 1 ≤ length modes) (form offset : ℕ) (h : form < 4) (f : form ≡ 1 → ⊥) (good : GoodModes model index modes offset) where
   modes-good-from : (d k : ℕ) → k + d ≡ entry index 1 → All (GoodLine model second (entry index 0)) (modesOn form (4 * (entry index 0 + 1)) offset index modes k)
@@ -140,10 +138,10 @@ module _ (model second index modes : List ℕ) (long : entry index 1 ≤ length 
       omega (arith, ap length (modes-next form size offset index modes long k l), length-append kept rest, kept-length form size index (modePlace (componentPlace k) (getD modes k 0) + offset), good .spans k l .few, modes-few-from d (k + 1) (omega (arith, e)))
 
   pub modes-good : All (GoodLine model second (entry index 0)) (modesOn form (4 * (entry index 0 + 1)) offset index modes 0)
-  modes-good = modes-good-from (entry index 1) 0 (nothing (entry index 1))
+  modes-good = modes-good-from (entry index 1) 0 (zero-add (entry index 1))
 
   pub modes-few : length (modesOn form (4 * (entry index 0 + 1)) offset index modes 0) ≤ 8 * entry index 1
-  modes-few = modes-few-from (entry index 1) 0 (nothing (entry index 1))
+  modes-few = modes-few-from (entry index 1) 0 (zero-add (entry index 1))
 
 -- lines of switches
 module _ (model second index switches : List ℕ) (long : entry index 1 ≤ length switches) (g : GoodIndex model index) (known : KnownSwitches index switches) where
@@ -173,10 +171,10 @@ module _ (model second index switches : List ℕ) (long : entry index 1 ≤ leng
       omega (arith, ap length (switches-next size index switches long k l), length-append one (switchesOn size index switches (k + 1)), few, switches-few-from d (k + 1) (omega (arith, e)))
 
   pub switches-good : All (GoodLine model second (entry index 0)) (switchesOn (4 * (2 * entry index 0 + 1)) index switches 0)
-  switches-good = switches-good-from (entry index 1) 0 (nothing (entry index 1))
+  switches-good = switches-good-from (entry index 1) 0 (zero-add (entry index 1))
 
   pub switches-few : length (switchesOn (4 * (2 * entry index 0 + 1)) index switches 0) ≤ 8 * entry index 1
-  switches-few = switches-few-from (entry index 1) 0 (nothing (entry index 1))
+  switches-few = switches-few-from (entry index 1) 0 (zero-add (entry index 1))
 
 -- lines of staying variables
 module _ (model second index switches : List ℕ) where
@@ -201,7 +199,7 @@ module _ (model second index switches : List ℕ) where
 
   pub staying-good : All (GoodLine model second (entry index 0)) (stayingLines index switches)
   unfolding stayingLines
-  staying-good = staying-good-from 0 (entry index 0) (omega (arith, nothing (entry index 0)))
+  staying-good = staying-good-from 0 (entry index 0) (omega (arith, zero-add (entry index 0)))
 
   pub staying-few : length (stayingLines index switches) ≤ 2 * entry index 0
   unfolding stayingLines
@@ -214,9 +212,6 @@ pub record Fine (model second : List ℕ) (n : ℕ) (lines : List Listed) (most 
 
 fine-both : {model second : List ℕ} {n : ℕ} {xs ys : List Listed} {a b : ℕ} → Fine model second n xs a → Fine model second n ys b → Fine model second n (xs ++ ys) (a + b)
 fine-both {xs = xs} {ys = ys} {a = a} {b = b} p q = record { good = all-append (p .good) (q .good); few = both-few xs ys (p .few) (q .few) (omega arith) }
-
-pub fine-wider : {model second : List ℕ} {n : ℕ} {xs : List Listed} {a b : ℕ} → a ≤ b → Fine model second n xs a → Fine model second n xs b
-fine-wider h p = record { good = p .good; few = omega (arith, p .few, h) }
 
 module _ (model index second regions modes : List ℕ) (location : ℕ) (long : entry index 1 ≤ length modes) (known : KnownModes index modes) (paper : GoodPaper model index second regions) where
   abbrev Table : List Listed → ℕ → Type 0

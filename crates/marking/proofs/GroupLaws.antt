@@ -1,11 +1,11 @@
 -- Groups of proofs: where their tables' rows stand, and what they have to prove. Assumes nothing.
 use mathlib.Core.Path.{_≡_, refl, sym, ap, ap₂, _∙_, subst}
-use mathlib.Core.Bool.{Bool, true, false, cond, not}
+use mathlib.Core.Bool.{Bool, true, false, cond}
 use mathlib.Core.List.{List, [], _∷_, _++_, map, append-assoc}
-use Prim.Native.Nat.{ℕ, zero, suc, _+_, _*_, _-_, _≤_, _<_}
+use Prim.Native.Nat.{ℕ, zero, suc, _+_, _*_, _≤_, _<_}
 use native.Mathlib.Omega.{arith}
 use lib.Dec.{eqb}
-use lib.ListN.{length, getD}
+use lib.ListN.{length}
 use Rattle.farkas.specs.declared.Row.{Row}
 use Rattle.farkas.specs.Lists.{every}
 use Rattle.farkas.specs.Rows.{zeroRow}
@@ -16,14 +16,15 @@ use Rattle.sheets.specs.Locations.{locationCount, modesAt}
 use Rattle.sheets.specs.Joint.{countUp}
 use Rattle.sheets.specs.Index.{entry, spanRows, unsafePlace, unsafeFrom, componentsFrom, modelFrom, GoodIndex}
 use Rattle.sheets.specs.Counts.{perComponent, KnownSwitches}
-use Rattle.sheets.specs.CertificateAnswers.{regionsFrom, GoodRegions}
+use Rattle.sheets.specs.CertificateAnswers.{GoodRegions}
 use Rattle.sheets.proofs.GoodIndexLaws.{counted-at}
 use Rattle.marking.specs.declared.Group.{Group}
 use Rattle.marking.specs.Runs.{present, modesIn, modesFit, movers, stayingVariables}
-use Rattle.marking.specs.Obligations.{Hypothesis, Kind, atStart, afterFlow, clearOfUnsafe, afterJump, zeroOnly, onX, onNext, perRow, regionOf, startHypotheses, flowHypotheses, unsafeHypotheses, jumpHypotheses, startObligations, flowObligations, unsafeObligations, jumpObligations}
+use Rattle.marking.specs.Obligations.{Hypothesis, Kind, atStart, afterFlow, clearOfUnsafe, afterJump, zeroOnly, onX, onNext, perRow, startHypotheses, flowHypotheses, unsafeHypotheses, jumpHypotheses, startObligations, flowObligations, unsafeObligations, jumpObligations}
 use Rattle.marking.specs.Tables.{Listed, linesIn, hypothesesFrom, rowsOf, GoodLine}
-use Rattle.marking.specs.Listing.{Spaced, rowSize, KnownModes, Stands, Task, taskOf, tasks, tasksFrom, tasksOf, goalsOf, regionsOf, groupTasks, jumpTasks, noUnsafe, emptyGroup, regionGroup, unsafeGroup, GoodGroup, GoodPaper, startLines, flowLines, unsafeLines, jumpLines}
+use Rattle.marking.specs.Listing.{Spaced, rowSize, Stands, Task, taskOf, tasks, tasksFrom, tasksOf, goalsOf, regionsOf, groupTasks, jumpTasks, noUnsafe, emptyGroup, regionGroup, unsafeGroup, GoodGroup, GoodPaper, startLines, flowLines, unsafeLines, jumpLines}
 use Rattle.farkas.proofs.All.{All, none}
+use Rattle.marking.proofs.CountGoals.{region-at}
 use Rattle.marking.proofs.TableLaws.{lines-most}
 use Rattle.marking.proofs.GoodLines.{Fine}
 use Rattle.marking.proofs.HypothesisLines.{told, start-told, flow-told, unsafe-told, jump-lines-told}
@@ -54,15 +55,10 @@ module _ (model index second regions : List ℕ) where
   abbrev regionAt : ℕ → Condition
   regionAt = regionsOf model index second regions
 
-  -- the region of a location, by its place
-  pub region-at : (location : ℕ) → location < locationCount (componentsFrom model index) → regionAt location ≡ spanRows second (entry index 0) regions (2 * location)
-  unfolding regionsOf regionOf regionsFrom
-  region-at location h = counted-at (λ l. spanRows second (entry index 0) regions (2 * l)) (locationCount (componentsFrom model index)) location [] h
-
   -- the goals of a region's group
   region-goals : (location hypotheses shift : ℕ) → location < locationCount (componentsFrom model index) → goalsOf second (entry index 0) (regionGroup regions location hypotheses shift) ≡ map (λ r. onNext shift (r .row)) (regionAt location)
   unfolding goalsOf regionGroup spanRows
-  region-goals location hypotheses shift h = ap (map (λ r. onNext shift (r .row))) (sym (region-at location h))
+  region-goals location hypotheses shift h = ap (map (λ r. onNext shift (r .row))) (sym (region-at model index second regions location h))
 
   -- the tasks of a table's lines
   pub line-tasks : (table : List ℕ) (g : Group) (lines : List Listed) → linesIn table (g .hypotheses) ≡ lines → tasksOf model second (entry index 0) table g ≡ tasksFrom (rowsOf (told model second (entry index 0) lines)) (g .zero) (goalsOf second (entry index 0) g)
@@ -112,7 +108,7 @@ module _ (model index second regions : List ℕ) where
     unfolding groupTasks flowObligations zeroOnly modelFrom
     flow-tasks table hypotheses e =
         region-tasks table location hypotheses (entry index 0) _ (flowHypotheses (entry index 0) (regionAt location) (modesIn m location)) afterFlow location (stands .below) refl e
-        (flow-told model second index regions modes location long (stands .known) ∙ ap₂ (flowHypotheses (entry index 0)) (sym (region-at location (stands .below))) present-here)
+        (flow-told model second index regions modes location long (stands .known) ∙ ap₂ (flowHypotheses (entry index 0)) (sym (region-at model index second regions location (stands .below))) present-here)
 
     -- unsafe conditions
     condition-at : (u : ℕ) → u < entry index 2 → groupTasks m regionAt location (2 + u) ≡ tasks (unsafeObligations m regionAt location 0 (unsafeFrom model (entry index 0) (entry index 1) index (unsafePlace u) ∷ []))
@@ -140,7 +136,7 @@ module _ (model index second regions : List ℕ) where
         line-tasks table (unsafeGroup hypotheses) _ e
         ∙ ap (λ (hs : List Hypothesis). tasksFrom (rowsOf hs) true (zeroRow ∷ []))
         (unsafe-told model second index regions modes location long (stands .known) u
-        ∙ ap₂ (λ (r : Condition) (ms : List Mode). unsafeHypotheses r ms (spanRows model (entry index 0) index (unsafePlace u + 4))) (sym (region-at location (stands .below))) present-here)
+        ∙ ap₂ (λ (r : Condition) (ms : List Mode). unsafeHypotheses r ms (spanRows model (entry index 0) index (unsafePlace u + 4))) (sym (region-at model index second regions location (stands .below))) present-here)
         ∙ sym (one-unsafe (unsafeFrom model (entry index 0) (entry index 1) index (unsafePlace u)) true fit)
         ∙ sym (condition-at u h)
 
@@ -157,7 +153,7 @@ module _ (model index second regions : List ℕ) where
     jump-tasks table hypotheses target targets switches l there w known g e =
         region-tasks table target hypotheses (entry index 0) _ (jumpHypotheses (entry index 0) (regionAt location) (modesIn m location) (modesIn m target) (movers (m .components) (perComponent index switches)) (stayingVariables m (perComponent index switches))) afterJump 0 (there .below) refl e
         (jump-lines-told model second index regions modes location long (stands .known) targets switches l (there .known) w known g
-        ∙ ap₂ (λ (r : Condition) (ms : List Mode). jumpHypotheses (entry index 0) r ms (present (componentsFrom model index) (perComponent index targets)) (movers (componentsFrom model index) (perComponent index switches)) (stayingVariables m (perComponent index switches))) (sym (region-at location (stands .below))) present-here
+        ∙ ap₂ (λ (r : Condition) (ms : List Mode). jumpHypotheses (entry index 0) r ms (present (componentsFrom model index) (perComponent index targets)) (movers (componentsFrom model index) (perComponent index switches)) (stayingVariables m (perComponent index switches))) (sym (region-at model index second regions location (stands .below))) present-here
         ∙ ap (λ (ms : List Mode). jumpHypotheses (entry index 0) (regionAt location) (modesIn m location) ms (movers (componentsFrom model index) (perComponent index switches)) (stayingVariables m (perComponent index switches))) (present-there target targets there))
 
 -- groups whose rows lie within their sheets
@@ -195,12 +191,3 @@ unsafe-good model index second table hypotheses lines e fine most =
       shift = omega arith;
       counted = omega arith;
     }
-
--- a test that was asked for its opposite
-pub said-no : (r : Bool) {b : Bool} → not r ≡ true → r ≡ b → b ≡ false
-said-no true n e = absurd (true-false (sym n))
-said-no false n e = sym e
-
-pub said-yes : (r : Bool) {b : Bool} → not r ≡ false → r ≡ b → b ≡ true
-said-yes true n e = sym e
-said-yes false n e = absurd (true-false n)

@@ -1,32 +1,29 @@
 -- What the lines of a table stand for: the hypotheses of the definitions, group by group. Assumes nothing.
-use mathlib.Core.Path.{_≡_, refl, sym, ap, ap₂, _∙_, subst}
+use mathlib.Core.Path.{_≡_, refl, sym, ap, ap₂, _∙_}
 use mathlib.Core.Bool.{Bool, true, false, cond}
-use mathlib.Core.List.{List, [], _∷_, _++_, map, append-assoc}
-use Prim.Native.Nat.{ℕ, zero, suc, _+_, _*_, _-_, _≤_, _<_}
-use native.Mathlib.Numerals.{add-one}
+use mathlib.Core.List.{List, [], _∷_, _++_, map, append-assoc, map-append}
+use Prim.Native.Nat.{ℕ, zero, suc, _+_, _*_, _≤_, _<_}
+use native.Mathlib.Nat.{zero-add}
 use native.Mathlib.Omega.{arith}
 use lib.Dec.{eqb}
-use lib.ListN.{length, getD, take, drop}
+use lib.ListN.{length, getD, drop}
 use lib.Seq.{getD-take}
 use Rattle.farkas.specs.declared.Row.{Row}
 use Rattle.sheets.specs.Rows.{SheetRow, Condition}
 use Rattle.sheets.specs.Places.{rowAt, rowsFrom}
-use Rattle.sheets.specs.Model.{Mode, Switch, Component, Model}
+use Rattle.sheets.specs.Model.{Mode, Switch, Component}
 use Rattle.sheets.specs.Locations.{modeOf}
 use Rattle.sheets.specs.Joint.{stays, switchOf, countUp, joinAll, numbersFrom}
 use Rattle.sheets.specs.Index.{entry, ownerPlace, componentPlace, modePlace, switchPlace, unsafePlace, spanRows, modeFrom, switchFrom, componentFrom, componentsFrom, modelFrom, GoodIndex}
 use Rattle.sheets.specs.Counts.{componentAt, perComponent, KnownSwitches}
-use Rattle.sheets.proofs.GoodIndexLaws.{counted-at, components-length, components-drop, components-end, switch-at}
+use Rattle.sheets.proofs.GoodIndexLaws.{counted-at, components-drop, components-end, switch-at}
 use Rattle.sheets.proofs.JointLoops.{componentsOn, numbersOn, per-component-drop}
 use Rattle.marking.specs.Runs.{present, movers, stayingVariables}
 use Rattle.marking.specs.Obligations.{Hypothesis, nowhere, standing, onX, onNext, onRates, timeRow, stayingRows, modeRows, startHypotheses, flowHypotheses, unsafeHypotheses, jumpHypotheses}
 use Rattle.marking.specs.Tables.{Listed, hypothesisIn, hypothesisOf, keepsUp, keepsDown}
 use Rattle.marking.specs.Listing.{line, spanLines, keptLines, modeLines, switchLine, switchLines, stayingLine, stayingLines, KnownModes, rowSize, hereLines, startLines, flowLines, unsafeLines, jumpLines}
+use Rattle.marking.proofs.ListFacts.{joined-told}
 use Rattle.marking.proofs.ModeLines.{modesOn, modes-next, modes-end, switchesOn, switches-next, switches-end, switch-stays, switch-moves, variable-stays, variable-moves}
-
-pub map-both : {A B : Type 0} (f : A → B) (xs ys : List A) → map f (xs ++ ys) ≡ map f xs ++ map f ys
-map-both f [] ys = refl
-map-both f (x ∷ xs) ys = ap (λ zs. f x ∷ zs) (map-both f xs ys)
 
 -- the present modes, by the numbers of an index
 pub mode-at : (s index : List ℕ) (k mode : ℕ) → mode < entry index (componentPlace k + 1) → modeOf (componentAt s index k) mode ≡ modeFrom s (entry index 0) index (modePlace (componentPlace k) mode)
@@ -83,17 +80,14 @@ module _ (model second index modes : List ℕ) (long : entry index 1 ≤ length 
         let place = modePlace (componentPlace k) (getD modes k 0) in
         let kept = keptLines form (4 * (n + 1)) index (place + offset) in
         ap (told model second n) (modes-next form (4 * (n + 1)) offset index modes long k l)
-        ∙ map-both (hypothesisOf model second n) kept (modesOn form (4 * (n + 1)) offset index modes (k + 1))
+        ∙ map-append (hypothesisOf model second n) kept (modesOn form (4 * (n + 1)) offset index modes (k + 1))
         ∙ ap₂ (λ (xs ys : List Hypothesis). xs ++ ys)
         (told-kept model second n model n form (standing 0 put) e index (place + offset) ∙ ap (map (standing 0 put)) (sym (o place)))
         (from d (k + 1) (omega (arith, h)))
         ∙ sym (ap (modeRows of put) (present-next model index modes long known k l))
 
     pub told-modes : told model second (entry index 0) (modesOn form (4 * (entry index 0 + 1)) offset index modes 0) ≡ modeRows of put (presentOn model index modes long 0)
-    told-modes = from (entry index 1) 0 (nothing (entry index 1))
-      where
-        nothing : (n : ℕ) → 0 + n ≡ n
-        nothing n = omega arith
+    told-modes = from (entry index 1) 0 (zero-add (entry index 1))
 
 -- rows of the switches by which components move
 module _ (model second index switches : List ℕ) (long : entry index 1 ≤ length switches) (known : KnownSwitches index switches) where
@@ -143,21 +137,13 @@ module _ (model second index switches : List ℕ) (long : entry index 1 ≤ leng
       let l : k < entry index 1 = omega (arith, h) in
       let size = 4 * (2 * entry index 0 + 1) in
       ap (told model second (entry index 0)) (switches-next size index switches long k l)
-      ∙ map-both (hypothesisOf model second (entry index 0)) (switchLine size index k (getD switches k 0)) (switchesOn size index switches (k + 1))
+      ∙ map-append (hypothesisOf model second (entry index 0)) (switchLine size index k (getD switches k 0)) (switchesOn size index switches (k + 1))
       ∙ switch-turn k l (told model second (entry index 0) (switchesOn size index switches (k + 1))) (from-switch d (k + 1) (omega (arith, h)))
 
   pub told-switches : told model second (entry index 0) (switchesOn (4 * (2 * entry index 0 + 1)) index switches 0) ≡ joinAll (λ w. map (standing 0 onX) (w .jump)) (movers (componentsFrom model index) (perComponent index switches))
-  told-switches = from-switch (entry index 1) 0 (nothing (entry index 1))
-    where
-      nothing : (n : ℕ) → 0 + n ≡ n
-      nothing n = omega arith
+  told-switches = from-switch (entry index 1) 0 (zero-add (entry index 1))
 
 -- rows of staying variables
-pub joined-told : {A B C : Type 0} (g : B → C) (f : A → List B) (xs : List A) → map g (joinAll f xs) ≡ joinAll (λ a. map g (f a)) xs
-unfolding joinAll
-joined-told g f [] = refl
-joined-told g f (x ∷ xs) = map-both g (f x) (joinAll f xs) ∙ ap (λ ys. map g (f x) ++ ys) (joined-told g f xs)
-
 chosen : {B : Type 0} (g : ℕ → List B) (b : Bool) (v : ℕ) (rest : List ℕ) → joinAll g (cond b (v ∷ rest) rest) ≡ cond b (g v) [] ++ joinAll g rest
 unfolding joinAll
 chosen g true v rest = refl
@@ -233,7 +219,7 @@ module _ (model second index regions modes : List ℕ) (location : ℕ) (long : 
   region-told = told-kept model second (entry index 0) second (entry index 0) 1 (standing 1 onX) (λ p. refl) regions (2 * location)
 
   both : (xs ys : List Listed) {hs ks : List Hypothesis} → told model second (entry index 0) xs ≡ hs → told model second (entry index 0) ys ≡ ks → told model second (entry index 0) (xs ++ ys) ≡ hs ++ ks
-  both xs ys p q = map-both (hypothesisOf model second (entry index 0)) xs ys ∙ ap₂ (λ (us vs : List Hypothesis). us ++ vs) p q
+  both xs ys p q = map-append (hypothesisOf model second (entry index 0)) xs ys ∙ ap₂ (λ (us vs : List Hypothesis). us ++ vs) p q
 
   pub start-told : told model second (entry index 0) (startLines index (perComponent index modes)) ≡ startHypotheses here
   unfolding startLines startHypotheses

@@ -1,7 +1,7 @@
 -- The loops over joint switches: what is still to come, and a part that was marked by itself. Assumes nothing.
 use mathlib.Core.Path.{_≡_, refl, sym, ap, ap₂, _∙_, subst}
-use mathlib.Core.List.{List, [], _∷_, _++_, map, append-assoc}
-use Prim.Native.Nat.{ℕ, zero, suc, _+_, _*_, _-_, _≤_, _<_}
+use mathlib.Core.List.{List, [], _∷_, _++_, map-append}
+use Prim.Native.Nat.{ℕ, suc, _+_, _≤_, _<_}
 use native.Mathlib.Numerals.{add-one}
 use native.Mathlib.Omega.{arith}
 use lib.ListN.{length, getD, drop, drop-of-length-le}
@@ -13,23 +13,21 @@ use Rattle.sheets.specs.Rows.{Condition}
 use Rattle.sheets.specs.Model.{Component, Model}
 use Rattle.sheets.specs.Locations.{locationCount, modesAt, locationOf}
 use Rattle.sheets.specs.Joint.{countUp, joinAll, switchesOf, modesAfter, JointSwitch, jointsOf, joints}
-use Rattle.sheets.specs.Index.{entry, componentsFrom, modelFrom, GoodIndex}
-use Rattle.sheets.specs.Counts.{perComponent, fourSwitches}
+use Rattle.sheets.specs.Index.{entry, componentsFrom, modelFrom}
 use Rattle.sheets.specs.CertificateAnswers.{regionsFrom}
 use Rattle.sheets.proofs.Joint.{jointFrom}
 use Rattle.sheets.proofs.JointCounts.{event-length}
-use Rattle.sheets.proofs.JointLoops.{record-at, four-first}
+use Rattle.sheets.proofs.JointLoops.{record-at}
 use Rattle.marking.specs.declared.Marking as declared
 use Rattle.marking.specs.Obligations.{Obligation, locationObligations, jumpObligations, jumpsObligations, obligationsOver, obligations, afterJump}
-use Rattle.marking.specs.Marking.{Marked, passed, stopped, markProofs}
+use Rattle.marking.specs.Marking.{Marked, passed, stopped}
 use Rattle.marking.specs.Tables.{heldNext}
 use Rattle.marking.specs.Listing.{Task, tasks, taskOf, locationTasks, jumpTasks, jointTasks, regionsOf, markTask, markTasks, standsAt}
-use Rattle.marking.proofs.HypothesisLines.{map-both, joined-told}
+use Rattle.marking.proofs.ListFacts.{joined-twice, joined-alike, joined-told}
 use Rattle.marking.proofs.GroupLaws.{row-tasks}
-use Rattle.marking.proofs.CountGoals.{found-known}
 use Rattle.marking.proofs.MarkedRanges.{Marks, proofs-mark}
-use Rattle.marking.proofs.MarkLaws.{mark-tasks, task-advances, parts-passed, parts-stopped, stands-passed, stands-stopped}
-use Rattle.marking.proofs.MarkLoops.{Comes, comes-same}
+use Rattle.marking.proofs.MarkLaws.{mark-tasks, task-advances, parts-passed, parts-stopped, stands-passed, stands-stopped, placeWhere, doneWhere, not-passed}
+use Rattle.marking.proofs.MarkLoops.{Comes}
 
 -- one joint switch; its number and its event do not matter
 module _ (m : Model) (regionAt : ℕ → Condition) where
@@ -44,28 +42,12 @@ module _ (m : Model) (regionAt : ℕ → Condition) where
   unfolding jumpsObligations joinAll tasks
   all-jumps number [] = refl
   all-jumps number (j ∷ rest) =
-      map-both taskOf (jumpObligations m regionAt number j) (jumpsObligations m regionAt (suc number) rest)
+      map-append taskOf (jumpObligations m regionAt number j) (jumpsObligations m regionAt (suc number) rest)
       ∙ ap₂ (λ (xs ys : List Task). xs ++ ys) (one-jump number j) (all-jumps (suc number) rest)
 
   pub joint-jumps : (js : List JointSwitch) → jointTasks m regionAt js ≡ joinAll jumpOf js
   unfolding jointTasks
   joint-jumps js = all-jumps 0 js
-
--- lists of lists
-joined-two : {A B : Type 0} (f : A → List B) (xs ys : List A) → joinAll f (xs ++ ys) ≡ joinAll f xs ++ joinAll f ys
-unfolding joinAll
-joined-two f [] ys = refl
-joined-two f (x ∷ xs) ys = ap (λ zs. f x ++ zs) (joined-two f xs ys) ∙ sym (append-assoc (f x) (joinAll f xs) (joinAll f ys))
-
-joined-inside : {A B C : Type 0} (f : B → List C) (g : A → List B) (xs : List A) → joinAll f (joinAll g xs) ≡ joinAll (λ a. joinAll f (g a)) xs
-unfolding joinAll
-joined-inside f g [] = refl
-joined-inside f g (x ∷ xs) = joined-two f (g x) (joinAll g xs) ∙ ap (λ zs. joinAll f (g x) ++ zs) (joined-inside f g xs)
-
-joined-alike : {A B : Type 0} (f g : A → List B) (xs : List A) → ((a : A) → f a ≡ g a) → joinAll f xs ≡ joinAll g xs
-unfolding joinAll
-joined-alike f g [] h = refl
-joined-alike f g (x ∷ xs) h = ap₂ (λ us vs. us ++ vs) (h x) (joined-alike f g xs h)
 
 -- all joint switches, by location and event
 module _ (m : Model) (regionAt : ℕ → Condition) (components : List Component) where
@@ -79,10 +61,10 @@ module _ (m : Model) (regionAt : ℕ → Condition) (components : List Component
   unfolding joints
   joints-parts =
       joint-jumps m regionAt (joints components)
-      ∙ joined-inside (jumpOf m regionAt) (λ location. joinAll (jointsOf components location) (countUp 0 16)) (countUp 0 (locationCount components))
+      ∙ joined-twice (jumpOf m regionAt) (λ location. joinAll (jointsOf components location) (countUp 0 16)) (countUp 0 (locationCount components))
       ∙ joined-alike _ fromLocation (countUp 0 (locationCount components))
       (λ location.
-      joined-inside (jumpOf m regionAt) (jointsOf components location) (countUp 0 16)
+      joined-twice (jumpOf m regionAt) (jointsOf components location) (countUp 0 16)
       ∙ joined-alike _ (eventTasks location) (countUp 0 16) (λ e. sym (joint-jumps m regionAt (jointsOf components location e))))
 
 -- the joint switches of an event, one by one: those from number x on, and the switches of number x
@@ -111,41 +93,19 @@ module _ (model index : List ℕ) (regionAt : ℕ → Condition) (location e : �
   unfolding joinAll
   jumps-end x h = ap (joinAll (jumpOf (modelFrom model index) regionAt)) (drop-of-length-le here {i = x} (omega (arith, h, event-length (componentsFrom model index) location e)))
 
-  -- the switches that the code found
-  pub found-first :
-      GoodIndex model index → (x : ℕ) (modes switches : List ℕ) → location < locationCount (componentsFrom model index) → perComponent index modes ≡ modesAt (componentsFrom model index) location → e ≤ 15
-      → x < length (switchesOf (componentsFrom model index) (modesAt (componentsFrom model index) location) e)
-      → switches ≡ fourSwitches (getD (switchesOf (componentsFrom model index) (perComponent index modes) e) x [])
-      → perComponent index switches ≡ foundAt model index location e x
-  found-first g x modes switches h p k l q =
-      ap (perComponent index) (q ∙ ap (λ (ms : List ℕ). fourSwitches (getD (switchesOf (componentsFrom model index) ms e) x [])) p)
-      ∙ four-first g (found-known g location e x modes h p k l)
-
 -- a part that was marked by itself: where it passed, the rest comes from there
-abbrev placeOf : Marked (Unit {0}) → ℕ
-placeOf (passed u place done) = place
-placeOf (stopped number place done) = place
-
-abbrev doneOf : Marked (Unit {0}) → ℕ
-doneOf (passed u place done) = done
-doneOf (stopped number place done) = done
-
-abbrev endOf : Marked (Unit {0}) → ℕ
-endOf (passed u place done) = 0
-endOf (stopped number place done) = 1
-
 passes-at : (t : Task) (s : List ℕ) (p : ℕ) (x : Proof) (after : ℕ) → markTask t s p ≡ got x after → heldNext (markTask t s p) ≡ next.At after
 unfolding heldNext
 passes-at t s p x after k = ap heldNext k
 
 marked-later : (ts : List Task) (s : List ℕ) (p d q e : ℕ) → markTasks ts s p d ≡ passed tt q e → d ≤ p → e ≤ q
 unfolding markTasks
-marked-later [] s p d q e h l = omega (arith, l, ap placeOf h, ap doneOf h)
+marked-later [] s p d q e h l = omega (arith, l, ap placeWhere h, ap doneWhere h)
 marked-later (t ∷ ts) s p d q e h l = go (markTask t s p) refl h (λ after. marked-later ts s after (suc d) q e)
   where
     go : (g : Got Proof) → markTask t s p ≡ g → _≡_ {A = Marked (Unit {0})} (elim g [ got x after ↦ markTasks ts s after (suc d) | refused number at ↦ stopped number at d ]) (passed tt q e) → ((after : ℕ) → markTasks ts s after (suc d) ≡ passed tt q e → suc d ≤ after → e ≤ q) → e ≤ q
     go (got x after) k h r = r after h (omega (arith, l, task-advances t s p after (passes-at t s p x after k) .0))
-    go (refused number at) k h r = let z : _≡_ {A = ℕ} 1 0 = ap endOf h in absurd (omega (arith, z))
+    go (refused number at) k h r = absurd (not-passed h)
 
 module _ (s : List ℕ) (whole : Marked (Unit {0})) (os : List Obligation) (rest : List Task) (p d : ℕ) (r : declared.Marking) (told : r ≡ standsAt (markTasks (tasks os) s p d)) (within : p ≤ length s) where
   marks : Marks s (d + length os) (markTasks (tasks os) s p d)
@@ -183,7 +143,7 @@ all-parts model index second regions locations e =
     let regionAt = regionsOf model index second regions in
     let components = componentsFrom model index in
     ap (λ (n : ℕ). tasks (obligations m (regionsFrom second (entry index 0) regions n))) e
-    ∙ map-both taskOf (joinAll (locationObligations m regionAt) (countUp 0 (locationCount components))) (jumpsObligations m regionAt 0 (joints components))
+    ∙ map-append taskOf (joinAll (locationObligations m regionAt) (countUp 0 (locationCount components))) (jumpsObligations m regionAt 0 (joints components))
     ∙ ap (λ (ts : List Task). ts ++ jointTasks m regionAt (joints components)) (joined-told taskOf (locationObligations m regionAt) (countUp 0 (locationCount components)))
     ∙ ap (λ (n : ℕ). joinAll (locationTasks m regionAt) (countUp 0 n) ++ jointTasks m regionAt (joints components)) (sym e)
 

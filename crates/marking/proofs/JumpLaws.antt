@@ -8,7 +8,7 @@ use lib.Count.{ones}
 use lib.Dec.{eqb}
 use lib.IntN.{ℤ}
 use lib.ListN.{length, getD, drop-of-length-le}
-use borrow.Author.Tests.{lt-ltb, le-ltb, eq-eqb, ne-eqb, not-true, not-false}
+use borrow.Author.Tests.{lt-ltb, le-ltb, eq-eqb, ne-eqb}
 use Rattle.sheets.specs.declared.Step as coded
 use Rattle.sheets.specs.declared.Step.the-variants as step
 use Rattle.sheets.specs.Model.{Component, Model, hasEvent}
@@ -18,14 +18,14 @@ use Rattle.sheets.specs.Index.{entry, componentsFrom, modelFrom, GoodIndex}
 use Rattle.sheets.specs.Counts.{componentAt, perComponent, KnownSwitches}
 use Rattle.sheets.specs.RunSheet.{Step, jump}
 use Rattle.sheets.specs.RunAnswers.{stepOf}
-use Rattle.farkas.proofs.All.{All, none, more}
-use Rattle.sheets.proofs.WellFormed.{GoodComponent}
-use Rattle.sheets.proofs.Locations.{HaveModes, modes-at, location-of}
+use Rattle.sheets.proofs.Locations.{modes-at, location-of}
 use Rattle.sheets.proofs.Joint.{Known, no-numbers, number-and, modes-after}
 use Rattle.sheets.proofs.GoodIndexLaws.{components-drop, components-end, switch-length, good-components}
 use Rattle.sheets.proofs.JointLoops.{componentsOn, numbersOn, per-component-length, per-component-drop, per-component-modes}
 use Rattle.marking.specs.Runs.{State, admissible, jumpRows, stayingKept, jumpRule, after, ruleMet, stepAllowed}
 use Rattle.marking.specs.Held.{perVariable, stateOf}
+use Rattle.marking.proofs.CountLaws.{have-modes}
+use Rattle.marking.proofs.ListFacts.{first-fails, first-passes}
 
 -- a component's part
 pub moves-past : (c : Component) (mode e i : ℕ) → length (c .switches) ≤ i → moves c mode e i ≡ false
@@ -144,25 +144,7 @@ module _ (components : List Component) (modes switches : List ℕ) where
   joint-members (suc e) mask h p q =
       ap (λ b. not b && membersMove components modes (suc e) switches) (ne-eqb (ones (scopeMask components (suc e))) 0 (λ r. q (ap ones p ∙ r)))
 
--- what a call that the code tests with `!` answered
-pub test-failed : (r : Bool) {b : Bool} → not r ≡ true → r ≡ b → false ≡ b
-test-failed r h e = sym (not-true r h) ∙ e
-
-pub test-passed : (r : Bool) {b : Bool} → not r ≡ false → r ≡ b → true ≡ b
-test-passed r h e = sym (not-false r h) ∙ e
-
--- tests in a row, by the first that fails
-pub first-fails : (a b : Bool) → false ≡ a → false ≡ (a && b)
-first-fails a b p = ap (λ x. x && b) p
-
-pub first-passes : (a b : Bool) {r : Bool} → true ≡ a → r ≡ b → r ≡ (a && b)
-first-passes a b p q = q ∙ ap (λ x. x && b) p
-
 -- Known switches lead from a location to a location
-have-modes : {n : ℕ} {components : List Component} → All (GoodComponent n) components → HaveModes components
-have-modes none = none
-have-modes (more g rest) = more (g .least) (have-modes rest)
-
 module _ (s index switches : List ℕ) (wide : entry index 1 ≤ length switches) (known : KnownSwitches index switches) where
   known-from : (n k : ℕ) → k + n ≡ entry index 1 → Known (componentsOn s index k) (numbersOn index switches k)
   known-from zero k h =

@@ -9,7 +9,7 @@ use native.Mathlib.Nat.{min-eq-left}
 use lib.Dec.{leb}
 use lib.ListN.{length}
 use borrow.Author.Tests.{leb-true, le-leb, lt-leb}
-use Rattle.sheets.specs.Reading.{got, refused, andThen, _>>=_, _>>_, give, expect, header, finished}
+use Rattle.sheets.specs.Reading.{got, refused, Reader, andThen, _>>=_, _>>_, expect, header, finished}
 use Rattle.sheets.specs.Model.{Component, Model}
 use Rattle.sheets.specs.Joint.{joints}
 use Rattle.sheets.specs.ModelSheet.{Limits, readModel}
@@ -20,10 +20,10 @@ use Rattle.marking.specs.Beside.{listAnswer}
 use Rattle.marking.specs.Lines.{listOf}
 
 -- a test that had to be passed was passed
-limited : (limits : Limits) (b : Bool) (place : ℕ) (m : Model) → (b ≡ true → length (joints (m .components)) ≤ limits .joints) → Gives (λ m. length (joints (m .components)) ≤ limits .joints) (expect b 8 place >> give m)
-unfolding expect _>>_ andThen give
-limited limits true place m f = gives-then (expect true 8 place) (gives-give m (f refl))
-limited limits false place m f = record { holds = λ s p a next e. let z : _≡_ {A = ℕ} 0 1 = cc in absurd (omega arith) }
+pub expected : {A : Type 0} {P : A → Type 0} (b : Bool) (number place : ℕ) (r : Reader A) → (b ≡ true → Gives P r) → Gives P (expect b number place >> r)
+unfolding expect _>>_ andThen
+expected true number place r f = gives-then (expect true number place) (f refl)
+expected false number place r f = record { holds = λ s p a next e. let z : _≡_ {A = ℕ} 0 1 = cc in absurd (omega arith) }
 
 -- a model that a sheet gives has at most as many joint switches as the limits allow
 pub few-joints : (limits : Limits) (s : List ℕ) (m : Model) (next : ℕ) → readModel limits s ≡ got m next → length (joints (m .components)) ≤ limits .joints
@@ -34,7 +34,7 @@ few-joints limits s m next e =
     gives-bind gives-any
     (λ place u.
     gives-bind gives-any
-    (λ m u. gives-then finished (gives-then _ (limited limits (leb (length (joints (m .components))) (limits .joints)) place m (λ t. leb-true (length (joints (m .components))) (limits .joints) t))))))
+    (λ (m : Model) u. gives-then finished (gives-then _ (expected (leb (length (joints (m .components))) (limits .joints)) 8 place _ (λ t. gives-give m (leb-true (length (joints (m .components))) (limits .joints) t)))))))
     .holds s 0 m next e
 
 -- its sheet is short

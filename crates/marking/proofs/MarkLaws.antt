@@ -1,13 +1,12 @@
 -- Marking, proof by proof: what one proof passed or failed does to the whole, and how far reading has come. Assumes nothing.
 use mathlib.Core.Path.{_≡_, refl, sym, ap, ap₂, _∙_, subst}
 use mathlib.Core.Bool.{Bool, true, false, cond}
-use mathlib.Core.List.{List, [], _∷_, _++_, map, append-assoc}
-use Prim.Native.Nat.{ℕ, zero, suc, _+_, _*_, _-_, _^_, _≤_, _<_}
+use mathlib.Core.List.{List, [], _∷_, _++_, map}
+use Prim.Native.Nat.{ℕ, zero, suc, _+_, _*_, _-_, _≤_, _<_}
 use native.Mathlib.Numerals.{add-one}
 use native.Mathlib.Omega.{arith}
 use lib.Dec.{leb}
 use lib.ListN.{length, getD, drop, take, replicate, length-map, length-replicate}
-use lib.Seq.{drop-cons}
 use borrow.Author.Tests.{leb-true}
 use Rattle.farkas.specs.declared.Row.{Row}
 use Rattle.farkas.specs.Rows.{zeroRow, noSums}
@@ -15,7 +14,7 @@ use Rattle.farkas.specs.Farkas.{Proof, farkasTest, summed}
 use Rattle.farkas.proofs.Alike.{alike-refl, alike-padded, alike-test}
 use Rattle.sheets.specs.declared.Next.{Next}
 use Rattle.sheets.specs.declared.Next.the-variants as next
-use Rattle.sheets.specs.Reading.{Got, got, refused, Reader, _>>=_, bigEndian, give, field, u8, u32, must, passing, within}
+use Rattle.sheets.specs.Reading.{Got, got, refused, _>>=_, bigEndian, give, field, u8, u32, must, within}
 use Rattle.sheets.specs.Rows.{SheetRow}
 use Rattle.sheets.specs.Places.{rowAt, rowsFrom}
 use Rattle.sheets.specs.Certificate.{readEntries, readProof}
@@ -26,6 +25,8 @@ use Rattle.marking.specs.Marking.{Marked, passed, stopped, testProof, ma
 use Rattle.marking.specs.Tables.{padded, hypothesesFrom, rowsOf, testWith, markWith, heldNext}
 use Rattle.marking.specs.Listing.{Task, noTask, taskOf, tasks, tasksFrom, tasksOf, goalsOf, markTask, markTasks, standsAt}
 use Rattle.marking.specs.declared.Group.{Group}
+use Rattle.sheets.proofs.JointCounts.{mapped-at}
+use Rattle.sheets.proofs.ConditionLaws.{length-rows}
 use Rattle.marking.proofs.MarkedRanges.{Marks}
 
 -- a goal as the code holds it
@@ -146,11 +147,11 @@ task-advances t s p q e =
     proof-advances (length (t .rows)) (t .zeroK) s p (w .value) q (test-kept (t .rows) (t .goal) p (readProof (length (t .rows)) (t .zeroK) s p) (w .value) q (w .here))
 
 -- tasks in two parts
-abbrev placeWhere : Marked (Unit {0}) → ℕ
+abbrev pub placeWhere : Marked (Unit {0}) → ℕ
 placeWhere (passed u place done) = place
 placeWhere (stopped number place done) = place
 
-abbrev doneWhere : Marked (Unit {0}) → ℕ
+abbrev pub doneWhere : Marked (Unit {0}) → ℕ
 doneWhere (passed u place done) = done
 doneWhere (stopped number place done) = done
 
@@ -158,7 +159,7 @@ abbrev endsWhere : Marked (Unit {0}) → ℕ
 endsWhere (passed u place done) = 0
 endsWhere (stopped number place done) = 1
 
-not-passed : {number place done p d : ℕ} → _≡_ {A = Marked (Unit {0})} (stopped number place done) (passed tt p d) → ⊥
+pub not-passed : {number place done p d : ℕ} → _≡_ {A = Marked (Unit {0})} (stopped number place done) (passed tt p d) → ⊥
 not-passed h = let z : _≡_ {A = ℕ} 1 0 = ap endsWhere h in omega (arith, z)
 
 pub parts-passed : (xs ys : List Task) (s : List ℕ) (p d q e : ℕ) → markTasks xs s p d ≡ passed tt q e → markTasks (xs ++ ys) s p d ≡ markTasks ys s q e
@@ -222,16 +223,6 @@ goal-at second n g goal e h =
     ∙ row-at (λ r. onNext (g .shift) (r .row)) second n (g .from) (g .goals) goal zeroRow h
 
 -- the tasks of a group, by their numbers
-mapped-at : {A B : Type 0} (f : A → B) (xs : List A) (i : ℕ) (a : A) (b : B) → i < length xs → getD (map f xs) i b ≡ f (getD xs i a)
-mapped-at f [] i a b h = absurd (omega (arith, h))
-mapped-at f (x ∷ xs) zero a b h = refl
-mapped-at f (x ∷ xs) (suc i) a b h = mapped-at f xs i a b (omega (arith, h))
-
-rows-length : (s : List ℕ) (n p count : ℕ) → length (rowsFrom s n p count) ≡ count
-unfolding rowsFrom
-rows-length s n p zero = refl
-rows-length s n p (suc count) = ap suc (rows-length s n (p + 4 * (n + 1)) count)
-
 zero-length : (second : List ℕ) (n : ℕ) (g : Group) → g .zero ≡ true → length (goalsOf second n g) ≡ g .goals
 unfolding goalsOf
 zero-length second n g e =
@@ -243,7 +234,7 @@ unfolding goalsOf
 row-length second n g e =
     ap (λ (b : Bool). length {A = Row} (elim b [ true ↦ replicate (g .goals) zeroRow | false ↦ map (λ r. onNext (g .shift) (r .row)) (rowsFrom second n (g .from) (g .goals)) ])) e
     ∙ length-map (rowsFrom second n (g .from) (g .goals)) _
-    ∙ rows-length second n (g .from) (g .goals)
+    ∙ length-rows second n (g .from) (g .goals)
 
 pub goals-length : (second : List ℕ) (n : ℕ) (g : Group) → length (goalsOf second n g) ≡ g .goals
 goals-length second n g = go (g .zero) refl

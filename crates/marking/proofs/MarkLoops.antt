@@ -1,9 +1,9 @@
 -- The loops of marking: what is still to come from here, marked, is the whole. Each level of loops puts what it has still to do in front
 -- of what the levels around it have. Assumes nothing.
-use mathlib.Core.Path.{_≡_, refl, sym, ap, ap₂, _∙_, subst}
+use mathlib.Core.Path.{_≡_, refl, sym, ap, ap₂, _∙_}
 use mathlib.Core.Bool.{Bool, true, false}
-use mathlib.Core.List.{List, [], _∷_, _++_, map, append-assoc}
-use Prim.Native.Nat.{ℕ, zero, suc, _+_, _*_, _-_, _≤_, _<_}
+use mathlib.Core.List.{List, [], _∷_, _++_, map, append-assoc, map-append}
+use Prim.Native.Nat.{ℕ, zero, suc, _+_, _-_, _≤_, _<_}
 use native.Mathlib.Numerals.{add-one}
 use native.Mathlib.Omega.{arith}
 use lib.ListN.{length, getD, drop, drop-of-length-le}
@@ -22,7 +22,6 @@ use Rattle.marking.specs.Obligations.{Obligation, clearOfUnsafe, unsafeH
 use Rattle.marking.specs.Marking.{Marked, passed, stopped}
 use Rattle.marking.specs.Tables.{heldNext}
 use Rattle.marking.specs.Listing.{Stands, Task, noTask, taskOf, tasks, groupTasks, noUnsafe, locationTasks, regionsOf, markTask, markTasks}
-use Rattle.marking.proofs.HypothesisLines.{map-both}
 use Rattle.marking.proofs.ModeLines.{joinedOn, joined-first, joined-none}
 use Rattle.marking.proofs.CountLaws.{known-modes}
 use Rattle.marking.proofs.MarkLaws.{task-passed, task-failed}
@@ -59,9 +58,9 @@ module _ (model index : List ℕ) (regionAt : ℕ → Condition) (location : ℕ
   unfolding locationTasks locationObligations joinAll countUp groupTasks tasks modelFrom
   location-parts =
       let m = modelFrom model index in
-      map-both taskOf (startObligations m regionAt location) (flowObligations m regionAt location ++ unsafeObligations m regionAt location 0 (m .unsafe))
+      map-append taskOf (startObligations m regionAt location) (flowObligations m regionAt location ++ unsafeObligations m regionAt location 0 (m .unsafe))
       ∙ ap (λ (xs : List Task). tasks (startObligations m regionAt location) ++ xs)
-      (map-both taskOf (flowObligations m regionAt location) (unsafeObligations m regionAt location 0 (m .unsafe))
+      (map-append taskOf (flowObligations m regionAt location) (unsafeObligations m regionAt location 0 (m .unsafe))
       ∙ ap (λ (xs : List Task). tasks (flowObligations m regionAt location) ++ xs) (sym (conditions-left 0 (entry index 2) 0 (none (entry index 2)))))
     where
       none : (n : ℕ) → 0 + n ≤ n

@@ -1,18 +1,19 @@
 -- Lines of modes and of switches, component by component: a turn of the loop that pushes them, and its end. Assumes nothing.
-use mathlib.Core.Path.{_≡_, refl, sym, ap, _∙_, subst}
+use mathlib.Core.Path.{_≡_, refl, sym, ap, _∙_}
 use mathlib.Core.Bool.{Bool, true, false}
-use mathlib.Core.List.{List, [], _∷_, _++_, map}
-use Prim.Native.Nat.{ℕ, zero, suc, _+_, _*_, _-_, _≤_, _<_}
+use mathlib.Core.List.{List, [], _∷_, _++_}
+use Prim.Native.Nat.{ℕ, suc, _+_, _*_, _-_, _≤_, _<_}
+use native.Mathlib.Nat.{sub-zero}
 use native.Mathlib.Numerals.{add-one}
 use native.Mathlib.Omega.{arith}
 use lib.Dec.{eqb}
-use lib.ListN.{length, getD, drop, drop-of-length-le, length-append}
+use lib.ListN.{length, getD, drop-of-length-le}
 use Rattle.sheets.specs.Joint.{stays, countUp, joinAll}
-use Rattle.sheets.specs.Index.{entry, ownerPlace, componentPlace, modePlace, switchPlace, GoodSpan, GoodIndex, GoodBlock, GoodSwitchAt}
-use Rattle.sheets.specs.Counts.{perComponent, KnownSwitches}
+use Rattle.sheets.specs.Index.{entry, ownerPlace, componentPlace, modePlace, switchPlace, GoodSpan, GoodIndex}
+use Rattle.sheets.specs.Counts.{perComponent}
 use Rattle.sheets.proofs.JointLoops.{numbersOn, per-component-length, per-component-drop}
 use Rattle.marking.specs.Tables.{Listed}
-use Rattle.marking.specs.Listing.{line, spanLines, keptLines, modeLines, switchLine, switchLines, stayingLine, stayingLines, Spaced, GoodModes}
+use Rattle.marking.specs.Listing.{line, keptLines, modeLines, switchLine, switchLines, stayingLine, Spaced}
 use Rattle.marking.proofs.TableLaws.{span-length}
 
 -- rows that lie within a sheet are spaced so that their places fit
@@ -121,7 +122,4 @@ joined-none f n i h = ap (λ (k : ℕ). joinAll f (countUp i k)) (nothing i n h)
     nothing i n h = omega arith
 
 pub joined-whole : {B : Type 0} (f : ℕ → List B) (n : ℕ) → joinedOn f n 0 ≡ joinAll f (countUp 0 n)
-joined-whole f n = ap (λ (k : ℕ). joinAll f (countUp 0 k)) (all n)
-  where
-    all : (n : ℕ) → n - 0 ≡ n
-    all n = omega arith
+joined-whole f n = ap (λ (k : ℕ). joinAll f (countUp 0 k)) (sub-zero n)

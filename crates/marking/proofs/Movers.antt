@@ -2,8 +2,9 @@
 -- as many as the mask's ones. Assumes nothing.
 use mathlib.Core.Path.{_≡_, refl, sym, ap, _∙_}
 use mathlib.Core.Bool.{Bool, true, false, not}
-use mathlib.Core.List.{List, [], _∷_}
-use Prim.Native.Nat.{ℕ, zero, suc, _+_, _≤_, _<_}
+use mathlib.Core.List.{List, _∷_}
+use Prim.Native.Nat.{ℕ, suc, _+_, _≤_, _<_}
+use native.Mathlib.Nat.{zero-add}
 use native.Mathlib.Omega.{arith}
 use lib.Dec.{T, ltb, eqb, ltb→lt}
 use lib.ListN.{length}
@@ -16,6 +17,7 @@ use Rattle.sheets.proofs.Gives.{and-left}
 use Rattle.sheets.proofs.JointCounts.{mask-members}
 use Rattle.sheets.proofs.JointList.{EachMoves, none-moves, member-moves, other-stays, all-members-move}
 use Rattle.marking.specs.Runs.{movers}
+use Rattle.marking.proofs.ListFacts.{is-true}
 
 -- a switch of a component that has at most 32 is not the number that stands for staying
 moving : (c : Component) (mode e i : ℕ) → length (c .switches) ≤ 32 → T (moves c mode e i) → eqb i stays ≡ false
@@ -23,10 +25,6 @@ unfolding moves stays
 moving c mode e i few t =
     let h : i < length (c .switches) = ltb→lt i (length (c .switches)) (and-left (ltb i (length (c .switches))) (leaves mode e (switchOf c i)) t) in
     ne-eqb i 255 (λ p. absurd (omega arith))
-
-yes : (b : Bool) → T b → b ≡ true
-yes true t = refl
-yes false t = absurd t
 
 no : (b : Bool) → T (not b) → b ≡ false
 no true t = absurd t
@@ -44,9 +42,6 @@ member-more c components e b h = ap (λ (x : Bool). bit x + memberCount componen
 counted : (n : ℕ) → suc n ≡ 1 + n
 counted n = omega arith
 
-uncounted : (n : ℕ) → n ≡ 0 + n
-uncounted n = omega arith
-
 count-moved : (e : ℕ) {components : List Component} {modes switches : List ℕ} → All (λ c. length (c .switches) ≤ 32) components → EachMoves e components modes switches → length (movers components switches) ≡ memberCount components e
 unfolding movers memberCount bit
 count-moved e none none-moves = refl
@@ -54,11 +49,11 @@ count-moved e (more f fs) (member-moves {c} {components} {mode} {i} {modes} {swi
     one-more c components i switches false (moving c mode e i f m)
     ∙ ap suc (count-moved e fs rest)
     ∙ counted (memberCount components e)
-    ∙ sym (member-more c components e true (yes (hasEvent (c .alphabet) e) t))
+    ∙ sym (member-more c components e true (is-true (hasEvent (c .alphabet) e) t))
 count-moved e (more f fs) (other-stays {c} {components} {mode} {i} {modes} {switches} t p rest) =
     one-more c components i switches true (eq-eqb i stays p)
     ∙ count-moved e fs rest
-    ∙ uncounted (memberCount components e)
+    ∙ sym (zero-add (memberCount components e))
     ∙ sym (member-more c components e false (no (hasEvent (c .alphabet) e) t))
 
 pub moved-together : (e : ℕ) (components : List Component) (modes switches : List ℕ) → All (λ c. length (c .switches) ≤ 32) components → T (isJoint components modes (suc e) switches) → length (movers components switches) ≡ moverCount components (suc e)

@@ -1,17 +1,15 @@
 -- Rows at the points that obligations speak of: p, then p', then δ. A row on x, on x', on rates, the time row and the staying rows
 -- hold at the joined point exactly by what they mean at its parts. Assumes nothing.
-use mathlib.Core.Path.{_≡_, refl, sym, ap, _∙_, subst}
-use mathlib.Core.Bool.{Bool, true, false, _&&_}
+use mathlib.Core.Path.{_≡_, refl, sym, ap, _∙_}
 use mathlib.Core.List.{List, [], _∷_, _++_, map, append-nil, append-assoc}
-use Prim.Native.Nat.{ℕ, zero, suc, _+_, _≤_, _<_}
+use Prim.Native.Nat.{ℕ, zero, suc, _+_, _<_}
 use native.Mathlib.Omega.{arith}
 use lib.Dec.{T}
-use lib.IntN.{ℤ, pos, negsuc, negℤ, _+ℤ_, _-ℤ_, _*ℤ_, +ℤ-idl, +ℤ-idr, zero-*ℤ}
-use lib.ListN.{length, getD, set, replicate, length-append, length-set}
-use lib.Signed.{leZ, _≤ℤ_}
+use lib.IntN.{ℤ, pos, negsuc, negℤ, _+ℤ_, _-ℤ_, _*ℤ_, +ℤ-idl, +ℤ-idr}
+use lib.ListN.{length, getD, set, replicate, length-append, length-set, length-map}
+use lib.Signed.{_≤ℤ_}
 use Rattle.farkas.specs.declared.Row.{Row}
 use Rattle.farkas.specs.Rows.{item, dot, rowHolds}
-use Rattle.farkas.specs.Farkas.{sameZ}
 use Rattle.farkas.proofs.All.{All, none, more}
 use Rattle.farkas.proofs.Integers.{split, by-parts}
 use Rattle.marking.specs.Runs.{difference}
@@ -69,18 +67,15 @@ dot-difference (a ∷ xs) (p ∷ ps) (q ∷ qs) h =
     both : (a p q c d : ℤ) → a *ℤ (p -ℤ q) +ℤ (c -ℤ d) ≡ (a *ℤ p +ℤ c) -ℤ (a *ℤ q +ℤ d)
     both a p q c d = rw (split a, split p, split q, split c, split d) (simp by-parts (omega arith))
 
+times-nothing : (a : ℤ) → pos 0 ≡ a *ℤ pos 0
+times-nothing a = rw (split a) (simp by-parts (omega arith))
+
 pub dot-unit : (n v : ℕ) (a : ℤ) (ps : List ℤ) → v < n → dot (set (replicate n (pos 0)) v a) ps ≡ a *ℤ item ps v
 unfolding dot item
 dot-unit zero v a ps h = absurd (omega arith)
 dot-unit (suc n) zero a [] h = times-nothing a
-  where
-    times-nothing : (a : ℤ) → pos 0 ≡ a *ℤ pos 0
-    times-nothing a = rw (split a) (simp by-parts (omega arith))
 dot-unit (suc n) zero a (p ∷ ps) h = ap (λ z. a *ℤ p +ℤ z) (dot-zeros n ps) ∙ +ℤ-idr (a *ℤ p)
 dot-unit (suc n) (suc v) a [] h = times-nothing a
-  where
-    times-nothing : (a : ℤ) → pos 0 ≡ a *ℤ pos 0
-    times-nothing a = rw (split a) (simp by-parts (omega arith))
 dot-unit (suc n) (suc v) a (p ∷ ps) h = ap (λ z. pos 0 *ℤ p +ℤ z) (dot-unit n v a ps (omega arith)) ∙ past p (a *ℤ getD ps v (pos 0))
   where
     past : (p z : ℤ) → pos 0 *ℤ p +ℤ z ≡ z
@@ -121,9 +116,6 @@ unfolding onNext
 from-next n q p next rest r h k t = holds-by q next r (rw (← dot-next n p next rest r h k) (holds-so q (p ++ (next ++ rest)) (onNext n r) t))
 
 -- on rates
-length-neg : (xs : List ℤ) → length (map negℤ xs) ≡ length xs
-length-neg xs = lib.ListN.length-map xs negℤ
-
 dot-one : (a p : ℤ) → dot (a ∷ []) (p ∷ []) ≡ a *ℤ p
 unfolding dot
 dot-one a p = +ℤ-idr (a *ℤ p)
@@ -131,7 +123,7 @@ dot-one a p = +ℤ-idr (a *ℤ p)
 dot-rates : (p next : List ℤ) (δ : ℕ) (r : Row) → length (r .coefficients) ≡ length p → length (r .coefficients) ≡ length next → dot (onRates r .coefficients) (p ++ (next ++ (pos δ ∷ []))) ≡ negℤ (dot (r .coefficients) p) +ℤ (dot (r .coefficients) next +ℤ negℤ (r .bound) *ℤ pos δ)
 unfolding onRates
 dot-rates p next δ r h k =
-    dot-append (map negℤ (r .coefficients)) (r .coefficients ++ (negℤ (r .bound) ∷ [])) p (next ++ (pos δ ∷ [])) (length-neg (r .coefficients) ∙ h)
+    dot-append (map negℤ (r .coefficients)) (r .coefficients ++ (negℤ (r .bound) ∷ [])) p (next ++ (pos δ ∷ [])) (length-map (r .coefficients) negℤ ∙ h)
     ∙ ap (λ z. z +ℤ dot (r .coefficients ++ (negℤ (r .bound) ∷ [])) (next ++ (pos δ ∷ []))) (dot-neg (r .coefficients) p)
     ∙ ap (λ z. negℤ (dot (r .coefficients) p) +ℤ z) (dot-append (r .coefficients) (negℤ (r .bound) ∷ []) next (pos δ ∷ []) k)
     ∙ ap (λ z. negℤ (dot (r .coefficients) p) +ℤ (dot (r .coefficients) next +ℤ z)) (dot-one (negℤ (r .bound)) (pos δ))

@@ -4,6 +4,7 @@ use mathlib.Core.Path.{_≡_, refl, sym, ap, ap₂, _∙_}
 use mathlib.Core.Bool.{Bool}
 use mathlib.Core.List.{List, [], _∷_, map}
 use Prim.Native.Nat.{ℕ, zero, suc, _+_, _*_, _-_, _^_, _≤_, _<_}
+use native.Mathlib.Nat.{zero-add}
 use native.Mathlib.Numerals.{add-one}
 use native.Mathlib.Omega.{arith}
 use lib.ListN.{length, getD, length-map}
@@ -28,6 +29,8 @@ use Rattle.sheets.proofs.Members.{all-in, in-map, in-count}
 use Rattle.sheets.proofs.CertificateLaws.{proof-reads}
 use Rattle.marking.specs.Tables.{Listed, linesIn, hypothesisIn, hypothesisOf, hypothesesFrom, rowsOf, padded, testWith, markWith, heldNext}
 use Rattle.marking.specs.Summing.{sumEntries, tested}
+use Rattle.sheets.proofs.JointCounts.{mapped-at}
+use Rattle.marking.proofs.ListFacts.{count-length}
 
 -- a line of the table
 pub line-has : {P : Listed → Type 0} (table : List ℕ) (count i : ℕ) → All P (linesIn table count) → i < count → P (record { form = entry table (2 * i); place = entry table (2 * i + 1) })
@@ -36,11 +39,6 @@ line-has table count i all h =
     all-in all (in-map (λ i. record { form = entry table (2 * i); place = entry table (2 * i + 1) }) (in-count 0 count i (omega arith) (omega arith)))
 
 -- The rows of the table, each by its line
-count-length : (k n : ℕ) → length (countUp k n) ≡ n
-unfolding countUp
-count-length k zero = refl
-count-length k (suc n) = ap suc (count-length (suc k) n)
-
 pub rows-count : (model second : List ℕ) (n : ℕ) (table : List ℕ) (count : ℕ) → length (rowsOf (hypothesesFrom model second n table count)) ≡ count
 unfolding rowsOf hypothesesFrom linesIn
 rows-count model second n table count =
@@ -49,11 +47,6 @@ rows-count model second n table count =
     ∙ length-map (map line (countUp 0 count)) (hypothesisOf model second n)
     ∙ length-map (countUp 0 count) line
     ∙ count-length 0 count
-
-mapped-at : {A B : Type 0} (f : A → B) (xs : List A) (i : ℕ) (d : A) (e : B) → i < length xs → getD (map f xs) i e ≡ f (getD xs i d)
-mapped-at f [] i d e h = absurd (omega arith)
-mapped-at f (x ∷ xs) zero d e h = refl
-mapped-at f (x ∷ xs) (suc i) d e h = mapped-at f xs i d e (omega arith)
 
 count-at : (k n i : ℕ) → i < n → getD (countUp k n) i 0 ≡ k + i
 unfolding countUp
@@ -75,10 +68,7 @@ row-listed model second n table count i h =
     let held : ℕ → Row = λ i. padded (hypothesisIn model second n (entry table (2 * i)) (entry table (2 * i + 1)) .row) in
     ap (λ xs. getD xs i zeroRow) (joined line (hypothesisOf model second n) (λ h. h .row) padded (countUp 0 count))
     ∙ mapped-at held (countUp 0 count) i 0 zeroRow (omega (arith, count-length 0 count))
-    ∙ ap held (count-at 0 count i h ∙ none i)
-  where
-    none : (i : ℕ) → 0 + i ≡ i
-    none i = omega arith
+    ∙ ap held (count-at 0 count i h ∙ zero-add i)
 
 -- What an entry has: a hypothesis below the count, and a multiplier below 2 ^ 24
 pub record EntryWithin (hypotheses : ℕ) (e : Entry) : Type 0 where

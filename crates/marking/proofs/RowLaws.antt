@@ -1,8 +1,9 @@
 -- Rows of hypotheses as the code builds them, in seventeen coefficients: numbers of a sheet put one after the other, and stores into
 -- zeros. Assumes nothing.
 use mathlib.Core.Path.{_≡_, refl, sym, ap, ap₂, _∙_}
-use mathlib.Core.List.{List, [], _∷_, _++_, map, append-assoc, append-nil}
+use mathlib.Core.List.{List, [], _∷_, _++_, map, append-assoc, append-nil, map-append}
 use Prim.Native.Nat.{ℕ, zero, suc, _+_, _*_, _-_, _≤_, _<_}
+use native.Mathlib.Nat.{zero-add}
 use native.Mathlib.Numerals.{add-one}
 use native.Mathlib.Omega.{arith}
 use lib.IntN.{ℤ, pos, negsuc, negℤ, _+ℤ_, _*ℤ_, +ℤ-idl}
@@ -66,10 +67,6 @@ unfolding numbersAt
 numbers-start s p xs = ap pad (sym (append-nil xs))
 
 -- and with the other sign
-map-snoc : (xs : List ℤ) (v : ℤ) → map negℤ (xs ++ (v ∷ [])) ≡ map negℤ xs ++ (negℤ v ∷ [])
-map-snoc [] v = refl
-map-snoc (x ∷ xs) v = ap (λ ys. negℤ x ∷ ys) (map-snoc xs v)
-
 abbrev pub negatives : List ℕ → ℕ → ℕ → List ℤ
 negatives s p i = map negℤ (numbersAt s p i)
 
@@ -83,7 +80,7 @@ negatives-length s p i = length-map (numbersAt s p i) negℤ ∙ numbers-length 
 pub negatives-put : (s : List ℕ) (p i : ℕ) → i < 17 → set (pad (negatives s p i)) i (negℤ (signedAt s (p + 4 * i))) ≡ pad (negatives s p (i + 1))
 negatives-put s p i h =
     pad-put (negatives s p i) (negℤ (signedAt s (p + 4 * i))) i (negatives-length s p i) h
-    ∙ ap pad (sym (map-snoc (numbersAt s p i) (signedAt s (p + 4 * i))) ∙ ap (λ xs. map negℤ xs) (sym (numbers-snoc s p i)))
+    ∙ ap pad (sym (map-append negℤ (numbersAt s p i) (signedAt s (p + 4 * i) ∷ [])) ∙ ap (λ xs. map negℤ xs) (sym (numbers-snoc s p i)))
 
 -- −1 times a number
 one-times : (n : ℕ) → 1 * n ≡ n
@@ -121,10 +118,7 @@ time-held n h =
 
 -- the row of a variable that stays
 set-right : (xs ys : List ℤ) (i : ℕ) (a : ℤ) → set (xs ++ ys) (length xs + i) a ≡ xs ++ set ys i a
-set-right [] ys i a = ap (λ (k : ℕ). set ys k a) (none i)
-  where
-    none : (i : ℕ) → 0 + i ≡ i
-    none i = omega arith
+set-right [] ys i a = ap (λ (k : ℕ). set ys k a) (zero-add i)
 set-right (x ∷ xs) ys i a = ap (λ (k : ℕ). set (x ∷ xs ++ ys) k a) (one-more (length xs) i) ∙ ap (λ zs. x ∷ zs) (set-right xs ys i a)
   where
     one-more : (l i : ℕ) → suc l + i ≡ suc (l + i)

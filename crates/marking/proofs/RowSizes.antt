@@ -46,7 +46,7 @@ unfolding signedAt
 signed-within s p b = signed-small (bigEndian (take 4 (drop p s))) (four-small (take 4 (drop p s)) (bytes-part s p b) (omega (arith, length-take 4 (drop p s))))
 
 -- Coefficients of which none is larger than a size
-abbrev Small : ℕ → List ℤ → Type 0
+abbrev pub Small : ℕ → List ℤ → Type 0
 Small size xs = (i : ℕ) → natAbs (item xs i) ≤ size
 
 small-none : (size : ℕ) → Small size []
@@ -58,16 +58,16 @@ unfolding item
 small-cons size a xs h f zero = h
 small-cons size a xs h f (suc i) = f i
 
-small-append : (size : ℕ) (xs ys : List ℤ) → Small size xs → Small size ys → Small size (xs ++ ys)
+pub small-append : (size : ℕ) (xs ys : List ℤ) → Small size xs → Small size ys → Small size (xs ++ ys)
 unfolding item
 small-append size [] ys f g i = g i
 small-append size (x ∷ xs) ys f g zero = f 0
 small-append size (x ∷ xs) ys f g (suc i) = small-append size xs ys (λ j. f (suc j)) g i
 
-small-zeros : (size n : ℕ) → Small size (replicate n (pos 0))
+pub small-zeros : (size n : ℕ) → Small size (replicate n (pos 0))
 small-zeros size n i = omega (arith, zeros-within n i)
 
-size-negated : (z : ℤ) → natAbs (negℤ z) ≡ natAbs z
+pub size-negated : (z : ℤ) → natAbs (negℤ z) ≡ natAbs z
 size-negated (pos zero) = refl
 size-negated (pos (suc n)) = refl
 size-negated (negsuc n) = refl

@@ -39,7 +39,6 @@ use Rattle.sheets.proofs.StepLaws.{eight-item}
 use Rattle.marking.specs.Runs.{after}
 use Rattle.marking.specs.Held.{perVariable, SmallValues}
 use Rattle.marking.specs.RunHeld.{KnownStep}
-use Rattle.marking.specs.Marking.{answer}
 
 -- Values that were read are small
 abbrev Small : ℤ → Type 0
@@ -247,25 +246,23 @@ right-short s e =
     let c = eqb (bigEndian (take 2 s) + 2) (length s) in
     leb→le (length s) 32768 (and-right a b (and-left (a && b) c (subst T (sym e) tt)))
 
-pub header-placed : (kind : ℕ) (s : List ℕ) (number place : ℕ) → header kind s 0 ≡ refused number place → place ≤ 32768
-header-placed kind s number place e = go (lengthRight s) refl
+refused-placed : {A : Type 0} (s : List ℕ) (g : Got A) (number place : ℕ) → Fine s 0 g → (lengthRight s ≡ false → g ≡ refused 1 0) → g ≡ refused number place → place ≤ 32768
+refused-placed s g number place w unsized e = go (lengthRight s) refl
   where
     go : (b : Bool) → lengthRight s ≡ b → place ≤ 32768
-    go true q = omega (arith, right-short s q, subst (λ x. Fine s 0 x) e (placed-header {least = 0} kind .fine s 0 (omega arith) (omega arith)) .2)
+    go true q = omega (arith, right-short s q, subst (λ x. Fine s 0 x) e w .2)
     go false q =
-        let w : refused 1 0 ≡ refused number place = sym (header-unsized s kind q) ∙ e in
+        let r : refused 1 0 ≡ refused number place = sym (unsized q) ∙ e in
         let z : 0 ≡ place = cc in
         omega arith
 
+pub header-placed : (kind : ℕ) (s : List ℕ) (number place : ℕ) → header kind s 0 ≡ refused number place → place ≤ 32768
+header-placed kind s number place e =
+    refused-placed s (header kind s 0) number place (placed-header {least = 0} kind .fine s 0 (omega arith) (omega arith)) (header-unsized s kind) e
+
 pub model-placed : (limits : Limits) (s : List ℕ) (number place : ℕ) → readModel limits s ≡ refused number place → place ≤ 32768
-model-placed limits s number place e = go (lengthRight s) refl
-  where
-    go : (b : Bool) → lengthRight s ≡ b → place ≤ 32768
-    go true q = omega (arith, right-short s q, subst (λ x. Fine s 0 x) e (model-fine limits s) .2)
-    go false q =
-        let w : refused 1 0 ≡ refused number place = sym (sheet-first limits s 1 0 (header-unsized s 1 q)) ∙ e in
-        let z : 0 ≡ place = cc in
-        omega arith
+model-placed limits s number place e =
+    refused-placed s (readModel limits s) number place (model-fine limits s) (λ q. sheet-first limits s 1 0 (header-unsized s 1 q)) e
 
 -- a header that was read leaves its body from byte 4 on, in a sheet of a right length
 pub header-body : (kind : ℕ) (s : List ℕ) (version place : ℕ) → header kind s 0 ≡ got version place → (4 ≤ length s) × (length s ≤ 32768)

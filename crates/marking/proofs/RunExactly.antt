@@ -19,6 +19,7 @@ use Rattle.marking.specs.declared.Answer.{Answer}
 use Rattle.marking.specs.Runs.{State, startAllowed, stepAllowed, stepsAllowed, after, Run, visited, endOf, isUnsafe}
 use Rattle.marking.specs.Marking.{answer, Marked, passed, stopped, withModel, testStep, markStep, markSteps, closeRun, firstState, markOpening, markRun}
 use Rattle.marking.specs.ReadWell.{RunSheet, readRunSheet, RunHolds}
+use Rattle.marking.proofs.ListFacts.{is-true}
 use Rattle.marking.proofs.MarkedRanges.{Marks, with-model, opening-fine, opening-gives, steps-mark}
 
 -- one reading, then the next, where the first gave a value
@@ -30,11 +31,6 @@ module _ {A B : Type 0} (r : Reader A) {s : List ℕ} {p : ℕ} {a : A} {next : 
   then-got : (t : Reader B) → (r >> t) s p ≡ t s next
   unfolding _>>_ andThen
   then-got t = ap (λ g. andThen g (λ a. t) s) e
-
--- a test that passed
-is-true : (b : Bool) → T b → b ≡ true
-is-true true t = refl
-is-true false t = absurd t
 
 -- a step passes where it reads well and is allowed
 step-tested : (m : Model) (q : ℕ) (v : State) (place : ℕ) (g : Got Step) → testStep m q v place g ≡ passing (stepAllowed m q v) 13 place g

@@ -1,10 +1,10 @@
 -- Lines pushed onto a table: what a push leaves, and spans of rows pushed one by one. Assumes nothing.
-use mathlib.Core.Path.{_≡_, refl, sym, ap, _∙_, subst}
-use mathlib.Core.List.{List, [], _∷_, _++_, map, append-nil, append-assoc}
+use mathlib.Core.Path.{_≡_, refl, sym, ap, _∙_}
+use mathlib.Core.List.{List, [], _∷_, _++_, append-nil, append-assoc}
 use Prim.Native.Nat.{ℕ, zero, suc, _+_, _*_, _-_, _≤_, _<_}
 use native.Mathlib.Numerals.{add-one}
 use native.Mathlib.Omega.{arith}
-use lib.ListN.{length, getD, set, length-set, length-append}
+use lib.ListN.{length, set, length-set, length-append}
 use Rattle.sheets.specs.Joint.{countUp}
 use Rattle.sheets.specs.Index.{entry}
 use Rattle.sheets.proofs.GoodIndexLaws.{counted-length}
@@ -76,12 +76,6 @@ span-length form size place (suc count) = ap suc (span-length form size (place +
 pub lines-after :
     (before after xs rest whole : List Listed) → after ≡ before ++ xs → before ++ (xs ++ rest) ≡ whole → after ++ rest ≡ whole
 lines-after before after xs rest whole e w = ap (λ (ys : List Listed). ys ++ rest) e ∙ append-assoc before xs rest ∙ w
-
--- an element that is there is the same whatever stands for a missing one
-pub there : {A : Type 0} (xs : List A) (i : ℕ) (d e : A) → i < length xs → getD xs i d ≡ getD xs i e
-there [] i d e h = absurd (omega arith)
-there (x ∷ xs) zero d e h = refl
-there (x ∷ xs) (suc i) d e h = there xs i d e (omega arith)
 
 -- an empty table, and lines after one another
 pub lines-none : (table : List ℕ) → linesIn table 0 ≡ []

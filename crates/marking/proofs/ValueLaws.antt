@@ -4,13 +4,13 @@ use mathlib.Core.Path.{_≡_, refl, sym, ap, _∙_, subst}
 use mathlib.Core.Bool.{Bool, true, false, not, _&&_, _||_}
 use mathlib.Core.List.{List, [], _∷_, _++_}
 use Prim.Native.Nat.{ℕ, zero, suc, _+_, _*_, _-_, _^_, _≤_, _<_}
-use native.Mathlib.Nat.{mul-add, mul-one, mul-le-mul, le-of-mul-le-mul-right}
+use native.Mathlib.Nat.{mul-add, mul-one, mul-le-mul, le-of-mul-le-mul-right, sub-zero}
 use native.Mathlib.Decide.{ℕ-discrete}
 use native.Mathlib.Numerals.{add-one}
 use native.Mathlib.Omega.{arith}
 use borrow.Author.Tests.{eq-eqb, ne-eqb}
 use lib.Dec.{T, eqb}
-use lib.IntN.{ℤ, pos, negsuc, negℤ, natAbs, _+ℤ_, _-ℤ_, _*ℤ_, +ℤ-assoc, +ℤ-comm, *ℤ-zero}
+use lib.IntN.{ℤ, pos, negℤ, natAbs, _+ℤ_, _-ℤ_, _*ℤ_, +ℤ-assoc, +ℤ-comm, *ℤ-zero}
 use lib.ListN.{length, getD, take, drop, replicate, length-append, List·getD-append}
 use lib.Seq.{take-at}
 use lib.Signed.{leZ}
@@ -26,14 +26,14 @@ use Rattle.sheets.specs.Places.{signedAt, numbersAt, rowAt, rowsFrom}
 use Rattle.sheets.specs.Joint.{stays}
 use Rattle.sheets.specs.Index.{entry, componentPlace, modePlace, switchPlace, unsafePlace, spanRows, GoodSpan, GoodIndex}
 use Rattle.marking.specs.Runs.{conditionHolds, difference}
-use Rattle.marking.specs.Held.{SmallPoint, GoodModes, modeHolds, moveHolds}
+use Rattle.marking.specs.Listing.{GoodModes}
+use Rattle.marking.specs.Held.{SmallPoint, modeHolds, moveHolds}
+use Rattle.marking.proofs.ListFacts.{is-true}
+use Rattle.marking.proofs.RowSizes.{size-negated}
+use Rattle.marking.proofs.Points.{dot-nothing}
+use Rattle.marking.proofs.ValueLoops.{left-less, left-none, one-less}
 
 -- the sum with one more coefficient
-dot-nil : (xs : List ℤ) → dot xs [] ≡ pos 0
-unfolding dot
-dot-nil [] = refl
-dot-nil (a ∷ xs) = refl
-
 dot-first : (a p : ℤ) → a *ℤ p +ℤ pos 0 ≡ pos 0 +ℤ a *ℤ p
 dot-first a p = +ℤ-comm (a *ℤ p) (pos 0)
 
@@ -42,7 +42,7 @@ dot-none d a e = rw (e, *ℤ-zero a) refl
 
 dot-next : (s : List ℕ) (at i : ℕ) (ps : List ℤ) → dot (numbersAt s at (suc i)) ps ≡ dot (numbersAt s at i) ps +ℤ signedAt s (at + 4 * i) *ℤ item ps i
 unfolding dot numbersAt item
-dot-next s at i [] = dot-none (dot (numbersAt s at i) []) (signedAt s (at + 4 * i)) (dot-nil (numbersAt s at i))
+dot-next s at i [] = dot-none (dot (numbersAt s at i) []) (signedAt s (at + 4 * i)) (dot-nothing (numbersAt s at i))
 dot-next s at zero (p ∷ ps) = dot-first (signedAt s at) p ∙ ap (λ (k : ℕ). pos 0 +ℤ signedAt s k *ℤ p) (nothing at)
   where
     nothing : (at : ℕ) → at ≡ at + 4 * 0
@@ -106,18 +106,12 @@ module _ (s : List ℕ) (n q : ℕ) (ps : List ℤ) (whole : Bool) where
   unfolding conditionHolds rowsFrom every
   rows-first at zero h = absurd (omega arith)
   rows-first at (suc left) h = ap (λ (k : ℕ). rowHolds q ps (rowAt s n at .row) && conditionHolds q ps (rowsFrom s n (at + 4 * (n + 1)) k)) (one-less left)
-    where
-      one-less : (left : ℕ) → left ≡ suc left - 1
-      one-less left = omega arith
 
   pub rows-pass : (at rows j : ℕ) (r : Bool) → j < rows → r ≡ rowHolds q ps (rowAt s n at .row) → r ≡ true → conditionHolds q ps (rowsFrom s n at (rows - j)) ≡ whole → conditionHolds q ps (rowsFrom s n (at + 4 * (n + 1)) (rows - (j + 1))) ≡ whole
   rows-pass at rows j r h p t e =
-      ap (λ (k : ℕ). conditionHolds q ps (rowsFrom s n (at + 4 * (n + 1)) k)) (one-less rows j h)
+      ap (λ (k : ℕ). conditionHolds q ps (rowsFrom s n (at + 4 * (n + 1)) k)) (left-less rows j h)
       ∙ ap (λ b. b && conditionHolds q ps (rowsFrom s n (at + 4 * (n + 1)) (rows - j - 1))) (sym t ∙ p)
       ∙ sym (rows-first at (rows - j) (omega arith)) ∙ e
-    where
-      one-less : (rows j : ℕ) → j < rows → rows - (j + 1) ≡ rows - j - 1
-      one-less rows j h = omega arith
 
   pub rows-fail : (at rows j : ℕ) (r : Bool) → j < rows → r ≡ rowHolds q ps (rowAt s n at .row) → r ≡ false → conditionHolds q ps (rowsFrom s n at (rows - j)) ≡ whole → false ≡ whole
   rows-fail at rows j r h p t e =
@@ -126,23 +120,13 @@ module _ (s : List ℕ) (n q : ℕ) (ps : List ℤ) (whole : Bool) where
 
   pub rows-none : (at rows j : ℕ) → rows ≤ j → conditionHolds q ps (rowsFrom s n at (rows - j)) ≡ whole → true ≡ whole
   unfolding conditionHolds rowsFrom every
-  rows-none at rows j h e = ap (λ (k : ℕ). conditionHolds q ps (rowsFrom s n at k)) (nothing rows j h) ∙ e
-    where
-      nothing : (rows j : ℕ) → rows ≤ j → 0 ≡ rows - j
-      nothing rows j h = omega arith
+  rows-none at rows j h e = ap (λ (k : ℕ). conditionHolds q ps (rowsFrom s n at k)) (left-none rows j h) ∙ e
 
 pub rows-start : (s : List ℕ) (n q : ℕ) (ps : List ℤ) (index : List ℕ) (place at rows : ℕ) → at ≡ entry index place → rows ≡ entry index (place + 1) → conditionHolds q ps (rowsFrom s n at (rows - 0)) ≡ conditionHolds q ps (spanRows s n index place)
 unfolding spanRows
-rows-start s n q ps index place at rows p r = rw (p, r) (ap (λ (k : ℕ). conditionHolds q ps (rowsFrom s n (entry index place) k)) (all (entry index (place + 1))))
-  where
-    all : (k : ℕ) → k - 0 ≡ k
-    all k = omega arith
+rows-start s n q ps index place at rows p r = rw (p, r) (ap (λ (k : ℕ). conditionHolds q ps (rowsFrom s n (entry index place) k)) (sub-zero (entry index (place + 1))))
 
 -- two values are the same where their bits are
-told-true : (b : Bool) → T b → b ≡ true
-told-true true t = refl
-told-true false t = absurd t
-
 told-false : (b : Bool) → (T b → ⊥) → b ≡ false
 told-false true f = absurd (f tt)
 told-false false f = refl
@@ -151,7 +135,7 @@ pub same-test : (a b : ℤ) → SFits w64 a → SFits w64 b → eqb (ofZ w64 a) 
 same-test a b f g = go (ℕ-discrete (ofZ w64 a) (ofZ w64 b))
   where
     go : Dec (ofZ w64 a ≡ ofZ w64 b) → eqb (ofZ w64 a) (ofZ w64 b) ≡ sameZ a b
-    go (yes e) = eq-eqb (ofZ w64 a) (ofZ w64 b) e ∙ sym (told-true (sameZ a b) (same-means a b .1 (same-bits a b f g e)))
+    go (yes e) = eq-eqb (ofZ w64 a) (ofZ w64 b) e ∙ sym (is-true (sameZ a b) (same-means a b .1 (same-bits a b f g e)))
     go (no d) = ne-eqb (ofZ w64 a) (ofZ w64 b) d ∙ sym (told-false (sameZ a b) (λ t. d (ap (ofZ w64) (same-means a b .0 t))))
 
 -- one of two tests, where the first is settled
@@ -172,52 +156,44 @@ kept-stays a b c e p = p ∙ ap (λ x. not x || b) (sym e)
 pub point-for : {n m : ℕ} {point : List ℤ} → n ≡ m → SmallPoint m point → SmallPoint n point
 point-for {point = point} e w = subst (λ (k : ℕ). SmallPoint k point) (sym e) w
 
-module _ {s index modes : List ℕ} {offset : ℕ} (g : GoodModes s index modes offset) (few : entry index 1 ≤ 4) (n k j : ℕ) (h : k < entry index 1) (p : n ≡ entry index 0) (q : j ≡ getD modes k 0) where
-  pub mode-place : 16 + 219 * k + 3 + 7 * j + offset + 1 < 988
-  mode-place = omega (arith, g .near, g .known k h)
-
-  pub mode-span : GoodSpan s n index (16 + 219 * k + 3 + 7 * j + offset)
+module _ {s index modes : List ℕ} {offset : ℕ} (g : (offset ≤ 5) × GoodModes s index modes offset) (few : entry index 1 ≤ 4) (n k place : ℕ) (h : k < entry index 1) (p : n ≡ entry index 0) (q : place ≡ modePlace (componentPlace k) (getD modes k 0) + offset) where
+  pub mode-place : place + 1 < 988
   unfolding modePlace componentPlace
-  mode-span =
-      subst (λ (i : ℕ). GoodSpan s i index (16 + 219 * k + 3 + 7 * j + offset)) (sym p)
-      (subst (λ (i : ℕ). GoodSpan s (entry index 0) index (16 + 219 * k + 3 + 7 * i + offset)) (sym q) (g .spans k h))
+  mode-place = omega (arith, q, g .0, g .1 .small k h)
 
-  pub mode-told : (t : ℕ) (point : List ℤ) (r : Bool) → r ≡ conditionHolds t (take n point) (spanRows s n index (16 + 219 * k + 3 + 7 * j + offset)) → r ≡ modeHolds s index modes offset t point k
-  unfolding modeHolds modePlace componentPlace
+  pub mode-span : GoodSpan s n index place
+  mode-span =
+      subst (λ (i : ℕ). GoodSpan s i index place) (sym p)
+      (subst (λ (i : ℕ). GoodSpan s (entry index 0) index i) (sym q) (g .1 .spans k h))
+
+  pub mode-told : (t : ℕ) (point : List ℤ) (r : Bool) → r ≡ conditionHolds t (take n point) (spanRows s n index place) → r ≡ modeHolds s index modes offset t point k
+  unfolding modeHolds
   mode-told t point r e =
       e
-      ∙ ap (λ (i : ℕ). conditionHolds t (take i point) (spanRows s i index (16 + 219 * k + 3 + 7 * j + offset))) p
-      ∙ ap (λ (i : ℕ). conditionHolds t (take (entry index 0) point) (spanRows s (entry index 0) index (16 + 219 * k + 3 + 7 * i + offset))) q
+      ∙ ap (λ (i : ℕ). conditionHolds t (take i point) (spanRows s i index place)) p
+      ∙ ap (λ (i : ℕ). conditionHolds t (take (entry index 0) point) (spanRows s (entry index 0) index i)) q
 
-module _ {s index : List ℕ} (g : GoodIndex s index) (n k i j : ℕ) (h : k < entry index 1) (l : i < entry index (componentPlace k + 2)) (p : n ≡ entry index 0) (q : j ≡ i) where
-  switch-small : i < 32
-  switch-small = omega (arith, g .blocks k h .few)
-
-  pub switch-place : 16 + 219 * k + 59 + 5 * j + 3 + 1 < 988
-  switch-place = omega (arith, g .few, switch-small)
-
-  pub switch-span : GoodSpan s (2 * n) index (16 + 219 * k + 59 + 5 * j + 3)
+module _ {s index : List ℕ} (g : GoodIndex s index) (n k i place : ℕ) (h : k < entry index 1) (l : i < entry index (componentPlace k + 2)) (p : n ≡ entry index 0) (q : place ≡ switchPlace (componentPlace k) i + 3) where
+  pub switch-place : place + 1 < 988
   unfolding switchPlace componentPlace
-  switch-span =
-      subst (λ (m : ℕ). GoodSpan s (2 * m) index (16 + 219 * k + 59 + 5 * j + 3)) (sym p)
-      (subst (λ (m : ℕ). GoodSpan s (2 * entry index 0) index (16 + 219 * k + 59 + 5 * m + 3)) (sym q) (g .blocks k h .switches i l .jump))
+  switch-place = omega (arith, q, g .few, g .blocks k h .few)
 
-  pub switch-told : (t : ℕ) (point : List ℤ) (r : Bool) → eqb i stays ≡ false → r ≡ conditionHolds t (take (2 * n) point) (spanRows s (2 * n) index (16 + 219 * k + 59 + 5 * j + 3)) → r ≡ moveHolds s index t point k i
-  unfolding moveHolds switchPlace componentPlace
+  pub switch-span : GoodSpan s (2 * n) index place
+  switch-span =
+      subst (λ (m : ℕ). GoodSpan s (2 * m) index place) (sym p)
+      (subst (λ (m : ℕ). GoodSpan s (2 * entry index 0) index m) (sym q) (g .blocks k h .switches i l .jump))
+
+  pub switch-told : (t : ℕ) (point : List ℤ) (r : Bool) → eqb i stays ≡ false → r ≡ conditionHolds t (take (2 * n) point) (spanRows s (2 * n) index place) → r ≡ moveHolds s index t point k i
+  unfolding moveHolds
   switch-told t point r f e =
-      first-false (eqb i stays) (conditionHolds t (take (2 * entry index 0) point) (spanRows s (2 * entry index 0) index (16 + 219 * k + 59 + 5 * i + 3))) r f
+      first-false (eqb i stays) (conditionHolds t (take (2 * entry index 0) point) (spanRows s (2 * entry index 0) index (switchPlace (componentPlace k) i + 3))) r f
       (e
-      ∙ ap (λ (m : ℕ). conditionHolds t (take (2 * m) point) (spanRows s (2 * m) index (16 + 219 * k + 59 + 5 * j + 3))) p
-      ∙ ap (λ (m : ℕ). conditionHolds t (take (2 * entry index 0) point) (spanRows s (2 * entry index 0) index (16 + 219 * k + 59 + 5 * m + 3))) q)
+      ∙ ap (λ (m : ℕ). conditionHolds t (take (2 * m) point) (spanRows s (2 * m) index place)) p
+      ∙ ap (λ (m : ℕ). conditionHolds t (take (2 * entry index 0) point) (spanRows s (2 * entry index 0) index m)) q)
 
 -- differences of values: how large they are, each of them, and all of them in an array
-size-neg : (y : ℤ) → natAbs (negℤ y) ≡ natAbs y
-size-neg (pos zero) = refl
-size-neg (pos (suc n)) = refl
-size-neg (negsuc n) = refl
-
 difference-size : (x y : ℤ) → natAbs (x -ℤ y) ≤ natAbs x + natAbs y
-difference-size x y = omega (arith, size-+ x (negℤ y), size-neg y)
+difference-size x y = omega (arith, size-+ x (negℤ y), size-negated y)
 
 module _ (x y : ℤ) (a : natAbs x ≤ 2 ^ 27) (b : natAbs y ≤ 2 ^ 27) where
   pub difference-small : natAbs (x -ℤ y) ≤ 2 ^ 28
@@ -273,13 +249,7 @@ module _ {s index : List ℕ} (g : GoodIndex s index) (n u : ℕ) (h : u < entry
   unfolding unsafePlace
   unsafe-span = subst (λ (m : ℕ). GoodSpan s m index (892 + 6 * u + 4)) (sym p) (g .unsafe u h)
 
--- both of two tests, where the first is settled
-pub both-fail : (a b r : Bool) → r ≡ a → r ≡ false → false ≡ (a && b)
-both-fail a b r p e = ap (λ x. x && b) (sym e ∙ p)
-
-pub both-pass : (a b r t : Bool) → r ≡ a → r ≡ true → t ≡ b → t ≡ (a && b)
-both-pass a b r t p e q = q ∙ ap (λ x. x && b) (sym e ∙ p)
-
+-- tests in a row, where the first are settled
 pub second-fails : (x a r : Bool) → a ≡ false → false ≡ (x && (a && r))
 second-fails true a r e = ap (λ y. y && r) (sym e)
 second-fails false a r e = refl

@@ -12,13 +12,13 @@ use Rattle.sheets.specs.Joint.{countUp, numbersFrom}
 left-all : (n m : ℕ) → n ≡ m → n - 0 ≡ m
 left-all n m e = omega arith
 
-left-less : (n k : ℕ) → k < n → n - (k + 1) ≡ n - k - 1
+pub left-less : (n k : ℕ) → k < n → n - (k + 1) ≡ n - k - 1
 left-less n k h = omega arith
 
-left-none : (n k : ℕ) → n ≤ k → 0 ≡ n - k
+pub left-none : (n k : ℕ) → n ≤ k → 0 ≡ n - k
 left-none n k h = omega arith
 
-one-less : (left : ℕ) → left ≡ suc left - 1
+pub one-less : (left : ℕ) → left ≡ suc left - 1
 one-less left = omega arith
 
 count-first : (k left : ℕ) → 0 < left → countUp k left ≡ k ∷ countUp (k + 1) (left - 1)

@@ -2,40 +2,38 @@
 -- Assumes nothing.
 use mathlib.Core.Path.{_≡_, refl, sym, ap, _∙_, subst}
 use mathlib.Core.Bool.{Bool, true, false, not, _&&_, _||_}
-use mathlib.Core.List.{List, [], _∷_, _++_, map}
+use mathlib.Core.List.{List, [], _∷_, _++_}
 use Prim.Native.Nat.{ℕ, zero, suc, _+_, _*_, _^_, _≤_, _<_}
-use native.Mathlib.Nat.{mul-le-mul}
+use native.Mathlib.Nat.{mul-le-mul, zero-add}
 use native.Mathlib.Numerals.{add-one}
 use native.Mathlib.Omega.{arith}
 use borrow.Author.Tests.{lt-ltb, eq-eqb}
 use lib.Dec.{ltb, eqb}
-use lib.IntN.{ℤ, pos, natAbs, _-ℤ_}
+use lib.IntN.{ℤ, pos, _-ℤ_}
 use lib.ListN.{length, getD, take, drop, replicate}
 use lib.Seq.{paste, take-paste, length-paste, length-take-le, take-take, take-at, take-append-le, drop-cons, getD-take}
 use Rattle.farkas.specs.Lists.{every, some}
 use Rattle.farkas.specs.Rows.{item}
 use Rattle.farkas.specs.Farkas.{sameZ}
-use Rattle.farkas.proofs.All.{All, none, more}
-use Rattle.farkas.proofs.Sizes.{zeros-within}
 use Rattle.sheets.specs.Model.{Mode, Switch, Component, Unsafe, Model}
 use Rattle.sheets.specs.Locations.{locationCount, modesAt, modeOf}
 use Rattle.sheets.specs.Joint.{stays, switchOf, countUp}
-use Rattle.sheets.specs.Index.{entry, ownerPlace, componentPlace, modePlace, switchPlace, unsafePlace, spanRows, modeFrom, switchFrom, unsafeFrom, componentFrom, componentsFrom, modelFrom, GoodIndex}
+use Rattle.sheets.specs.Index.{entry, ownerPlace, componentPlace, modePlace, switchPlace, unsafePlace, spanRows, modeFrom, switchFrom, unsafeFrom, componentsFrom, modelFrom, GoodIndex}
 use Rattle.sheets.specs.Counts.{componentAt, perComponent, KnownSwitches}
-use Rattle.sheets.proofs.WellFormed.{GoodComponent}
-use Rattle.sheets.proofs.Locations.{Modes, no-modes, mode-and, HaveModes, modes-at}
-use Rattle.sheets.proofs.GoodIndexLaws.{counted-at, components-length, component-at, components-drop, components-end, mode-length, switch-at, good-components}
+use Rattle.sheets.proofs.GoodIndexLaws.{components-drop, components-end, switch-at}
 use Rattle.sheets.proofs.JointLoops.{componentsOn, numbersOn, per-component-drop, per-component-modes}
 use Rattle.marking.specs.Runs as runs
 use Rattle.marking.specs.Runs.{conditionHolds, present, movers, difference, sameValues, modesFit}
-use Rattle.marking.specs.Held.{perVariable, stateOf, SmallValues, SmallPoint, GoodModes, modeHolds, startsAt, fitsAt, unsafeAt, moveHolds, moveAt, sameAt, keptAt, valueKept}
+use Rattle.marking.specs.Listing.{KnownModes}
+use Rattle.marking.specs.Held.{perVariable, stateOf, SmallValues, SmallPoint, modeHolds, unsafeAt, moveHolds, moveAt, sameAt, keptAt, valueKept}
+use Rattle.marking.proofs.RowSizes.{Small, small-append, small-zeros}
+use Rattle.marking.proofs.ListFacts.{there}
+use Rattle.marking.proofs.HypothesisLines.{mode-at}
+use Rattle.marking.proofs.CountLaws.{known-present}
 use Rattle.marking.proofs.ValueLoops.{each-agree, some-agree, some-map, each-picked}
 use Rattle.marking.proofs.ValueLaws.{difference-small, differences-length, second-fails}
 
 -- Values in an array: their sizes stay
-abbrev Small : ℕ → List ℤ → Type 0
-Small size xs = (i : ℕ) → natAbs (item xs i) ≤ size
-
 small-take : (size n : ℕ) (xs : List ℤ) → Small size xs → Small size (take n xs)
 unfolding item
 small-take size zero xs h i = omega arith
@@ -48,15 +46,6 @@ unfolding item
 small-drop size zero xs h i = h i
 small-drop size (suc n) [] h i = omega arith
 small-drop size (suc n) (x ∷ xs) h i = small-drop size n xs (λ j. h (suc j)) i
-
-small-append : (size : ℕ) (xs ys : List ℤ) → Small size xs → Small size ys → Small size (xs ++ ys)
-unfolding item
-small-append size [] ys h k i = k i
-small-append size (x ∷ xs) ys h k zero = h 0
-small-append size (x ∷ xs) ys h k (suc i) = small-append size xs ys (λ j. h (suc j)) k i
-
-small-zeros : (size n : ℕ) → Small size (replicate n (pos 0))
-small-zeros size n i = omega (arith, zeros-within n i)
 
 small-paste : (size : ℕ) (d : List ℤ) (at : ℕ) (xs : List ℤ) (n : ℕ) → Small size d → Small size xs → Small size (paste d at xs n)
 small-paste size d at xs n h k =
@@ -78,10 +67,7 @@ module _ (values next point : List ℤ) (n : ℕ) (p : length values ≡ 8) (q :
 
   first-taken : take n first ≡ take n values
   unfolding first
-  first-taken = ap (λ (k : ℕ). take k first) (from-zero n) ∙ take-paste (replicate 16 (pos 0)) 0 values n (omega arith) (omega arith)
-    where
-      from-zero : (n : ℕ) → n ≡ 0 + n
-      from-zero n = omega arith
+  first-taken = ap (λ (k : ℕ). take k first) (sym (zero-add n)) ∙ take-paste (replicate 16 (pos 0)) 0 values n (omega arith) (omega arith)
 
   pub both-taken : take (2 * n) point ≡ take n values ++ take n next
   unfolding first
@@ -159,14 +145,6 @@ same-from xs ys (suc n) k h l =
 same-all : (xs ys : List ℤ) (n : ℕ) → n ≤ length xs → n ≤ length ys → sameValues (take n xs) (take n ys) ≡ every (sameAt xs ys) (countUp 0 n)
 same-all xs ys n h l = same-from xs ys n 0 (omega arith) (omega arith)
 
--- modes that fit those asked for
-fit-from : (f : ℕ → ℕ) (modes : List ℕ) (n k : ℕ) → k + n ≤ length modes → modesFit (map f (countUp k n)) (take n (drop k modes)) ≡ every (λ i. eqb (f i) 255 || eqb (f i) (getD modes i 0)) (countUp k n)
-unfolding modesFit every countUp
-fit-from f modes zero k h = refl
-fit-from f modes (suc n) k h =
-    ap (λ zs. modesFit (f k ∷ map f (countUp (suc k) n)) (take (suc n) zs)) (drop-cons modes k 0 (omega arith))
-    ∙ ap (λ b. (eqb (f k) 255 || eqb (f k) (getD modes k 0)) && b) (fit-from f modes n (suc k) (omega arith))
-
 -- a test of all components, each with its number
 module _ (s index numbers : List ℕ) (long : entry index 1 ≤ length numbers) (f : List Component → List ℕ → Bool) (g : Component → ℕ → Bool) (last : (ms : List ℕ) → f [] ms ≡ true) (next : (c : Component) (cs : List Component) (m : ℕ) (ms : List ℕ) → f (c ∷ cs) (m ∷ ms) ≡ (g c m && f cs ms)) where
   over-from : (n k : ℕ) → k + n ≡ entry index 1 → f (componentsOn s index k) (numbersOn index numbers k) ≡ every (λ i. g (componentAt s index i) (getD numbers i 0)) (countUp k n)
@@ -186,45 +164,17 @@ module _ (s index numbers : List ℕ) (long : entry index 1 ≤ length numbers) 
   over-all : f (componentsFrom s index) (perComponent index numbers) ≡ every (λ i. g (componentAt s index i) (getD numbers i 0)) (countUp 0 (entry index 1))
   over-all = over-from (entry index 1) 0 (omega arith)
 
--- the modes of a location are modes of the components
-modes-below : {components : List Component} {modes : List ℕ} → Modes components modes → (k : ℕ) (d : Component) → k < length components → getD modes k 0 < length (getD components k d .modes)
-modes-below no-modes k d h = absurd (omega arith)
-modes-below (mode-and l rest) zero d h = l
-modes-below (mode-and l rest) (suc k) d h = modes-below rest k d (omega arith)
-
-some-modes : {n : ℕ} {components : List Component} → All (GoodComponent n) components → HaveModes components
-some-modes none = none
-some-modes (more h rest) = more (h .least) (some-modes rest)
-
+-- the present modes
 module _ {s index : List ℕ} (g : GoodIndex s index) (location : ℕ) (modes rest : List ℕ) (e : modes ≡ modesAt (componentsFrom s index) location ++ rest) (inside : location < locationCount (componentsFrom s index)) (long : entry index 1 ≤ length modes) where
   these : perComponent index modes ≡ modesAt (componentsFrom s index) location
   these = per-component-modes s index location modes rest e
 
-  known-mode : (k : ℕ) → k < entry index 1 → getD modes k 0 < entry index (componentPlace k + 1)
-  unfolding perComponent
-  known-mode k h =
-      let d = componentAt s index k in
-      let same : getD modes k 0 ≡ getD (modesAt (componentsFrom s index) location) k 0 = sym (getD-take (entry index 1) modes k 0 h) ∙ ap (λ ms. getD ms k 0) these in
-      let l = modes-below (modes-at (some-modes (good-components g)) location inside) k d (omega (arith, components-length s index)) in
-      omega (arith, same, l, ap (λ c. length (c .modes)) (component-at s index k d h), mode-length s index k)
-
-  pub modes-small : (k : ℕ) → k < entry index 1 → getD modes k 0 < 8
-  modes-small k h = omega (arith, known-mode k h, g .blocks k h .most)
-
-  pub good-initial : GoodModes s index modes 1
-  good-initial = record { near = omega arith; known = modes-small; spans = λ k h. g .blocks k h .modes (getD modes k 0) (known-mode k h) .initial }
-
-  pub good-invariant : GoodModes s index modes 3
-  good-invariant = record { near = omega arith; known = modes-small; spans = λ k h. g .blocks k h .modes (getD modes k 0) (known-mode k h) .invariant }
-
-  pub good-flow : GoodModes s index modes 5
-  good-flow = record { near = omega arith; known = modes-small; spans = λ k h. g .blocks k h .modes (getD modes k 0) (known-mode k h) .flow }
+  known : KnownModes index modes
+  known = known-present location modes g inside these
 
   -- a test of the present modes
   present-is : (k : ℕ) → k < entry index 1 → modeOf (componentAt s index k) (getD modes k 0) ≡ modeFrom s (entry index 0) index (modePlace (componentPlace k) (getD modes k 0))
-  unfolding componentAt componentFrom modeOf
-  present-is k h =
-      counted-at (λ j. modeFrom s (entry index 0) index (modePlace (componentPlace k) j)) (entry index (componentPlace k + 1)) (getD modes k 0) _ (known-mode k h)
+  present-is k h = mode-at s index k (getD modes k 0) (known .known k h)
 
   over-modes : (f : Mode → Bool) → every f (runs.modesIn (modelFrom s index) location) ≡ every (λ k. f (modeFrom s (entry index 0) index (modePlace (componentPlace k) (getD modes k 0)))) (countUp 0 (entry index 1))
   unfolding modelFrom runs.modesIn every present
@@ -239,9 +189,12 @@ module _ {s index : List ℕ} (g : GoodIndex s index) (location : ℕ) (modes re
       next : (c : Component) (cs : List Component) (m : ℕ) (ms : List ℕ) → every f (present (c ∷ cs) (m ∷ ms)) ≡ (f (modeOf c m) && every f (present cs ms))
       next c cs m ms = refl
 
-  starts-told : every (λ mode. eqb (mode .start) 1) (runs.modesIn (modelFrom s index) location) ≡ every (startsAt index modes) (countUp 0 (entry index 1))
-  unfolding startsAt modeFrom
-  starts-told = over-modes (λ mode. eqb (mode .start) 1)
+  starts : Bool
+  starts = every (λ mode. eqb (mode .start) 1) (present (componentsFrom s index) (perComponent index modes))
+
+  starts-told : starts ≡ every (λ mode. eqb (mode .start) 1) (runs.modesIn (modelFrom s index) location)
+  unfolding starts modelFrom runs.modesIn
+  starts-told = ap (λ ms. every (λ mode. eqb (mode .start) 1) (present (componentsFrom s index) ms)) these
 
   module _ (q : ℕ) (values point : List ℤ) (taken : take (entry index 0) point ≡ values) where
     rows-at : ℕ → List ℤ → ℕ → Bool
@@ -275,31 +228,29 @@ module _ {s index : List ℕ} (g : GoodIndex s index) (location : ℕ) (modes re
     begun : Bool → Bool → Bool → Bool
     begun a b c = ltb location (locationCount (componentsFrom s index)) && (a && (b && c))
 
-    start-is : begun (runs.admissible (modelFrom s index) q (stateOf index location values)) (every (startsAt index modes) (countUp 0 (entry index 1))) (every (modeHolds s index modes 1 q point) (countUp 0 (entry index 1))) ≡ runs.startAllowed (modelFrom s index) q (stateOf index location values)
+    start-is : begun (runs.admissible (modelFrom s index) q (stateOf index location values)) starts (every (modeHolds s index modes 1 q point) (countUp 0 (entry index 1))) ≡ runs.startAllowed (modelFrom s index) q (stateOf index location values)
     unfolding begun runs.startAllowed stateOf perVariable modelFrom
     start-is =
         let a = runs.admissible (modelFrom s index) q (stateOf index location values) in
-        ap (λ b. begun a b (every (modeHolds s index modes 1 q point) (countUp 0 (entry index 1)))) (sym starts-told)
+        ap (λ b. begun a b (every (modeHolds s index modes 1 q point) (countUp 0 (entry index 1)))) starts-told
         ∙ ap (begun a (every (λ mode. eqb (mode .start) 1) (runs.modesIn (modelFrom s index) location))) (sym (initials-told q (take (entry index 0) values) point taken))
 
-    pub start-told : (a b c : Bool) → a ≡ runs.admissible (modelFrom s index) q (stateOf index location values) → b ≡ every (startsAt index modes) (countUp 0 (entry index 1)) → c ≡ every (modeHolds s index modes 1 q point) (countUp 0 (entry index 1)) → (a && (b && c)) ≡ runs.startAllowed (modelFrom s index) q (stateOf index location values)
-    unfolding begun
+    pub start-told : (a b c : Bool) → a ≡ runs.admissible (modelFrom s index) q (stateOf index location values) → b ≡ every (λ mode. eqb (mode .start) 1) (present (componentsFrom s index) (perComponent index modes)) → c ≡ every (modeHolds s index modes 1 q point) (countUp 0 (entry index 1)) → (a && (b && c)) ≡ runs.startAllowed (modelFrom s index) q (stateOf index location values)
+    unfolding begun starts
     start-told a b c p r t =
         ap (λ x. x && (a && (b && c))) (sym (lt-ltb location (locationCount (componentsFrom s index)) inside))
         ∙ ap (λ x. begun x b c) p
         ∙ ap (λ x. begun (runs.admissible (modelFrom s index) q (stateOf index location values)) x c) r
-        ∙ ap (begun (runs.admissible (modelFrom s index) q (stateOf index location values)) (every (startsAt index modes) (countUp 0 (entry index 1)))) t
+        ∙ ap (begun (runs.admissible (modelFrom s index) q (stateOf index location values)) starts) t
         ∙ start-is
 
     -- an unsafe state
     unsafe-is : (u : ℕ) → (modesFit (unsafeFrom s (entry index 0) (entry index 1) index (unsafePlace u) .modes) (modesAt (componentsFrom s index) location) && conditionHolds q (take (entry index 0) values) (unsafeFrom s (entry index 0) (entry index 1) index (unsafePlace u) .rows)) ≡ unsafeAt s index modes q point u
-    unfolding unsafeFrom unsafeAt fitsAt perComponent
+    unfolding unsafeAt
     unsafe-is u =
-        let asked = map (λ k. entry index (unsafePlace u + k)) (countUp 0 (entry index 1)) in
-        let fit : modesFit asked (modesAt (componentsFrom s index) location) ≡ every (fitsAt index (unsafePlace u) modes) (countUp 0 (entry index 1)) =
-        ap (modesFit asked) (sym these) ∙ fit-from (λ k. entry index (unsafePlace u + k)) modes (entry index 1) 0 (omega arith) in
-        ap (λ b. b && conditionHolds q (take (entry index 0) values) (spanRows s (entry index 0) index (unsafePlace u + 4))) fit
-        ∙ ap (λ xs. every (fitsAt index (unsafePlace u) modes) (countUp 0 (entry index 1)) && conditionHolds q xs (spanRows s (entry index 0) index (unsafePlace u + 4))) (sym taken)
+        let asked = unsafeFrom s (entry index 0) (entry index 1) index (unsafePlace u) in
+        ap (λ ms. modesFit (asked .modes) ms && conditionHolds q (take (entry index 0) values) (asked .rows)) (sym these)
+        ∙ ap (λ xs. modesFit (asked .modes) (perComponent index modes) && conditionHolds q xs (asked .rows)) (sym taken)
 
     pub unsafe-told : some (unsafeAt s index modes q point) (countUp 0 (entry index 2)) ≡ runs.isUnsafe (modelFrom s index) q (stateOf index location values)
     unfolding runs.isUnsafe stateOf perVariable modelFrom
@@ -352,11 +303,6 @@ module _ {s index switches : List ℕ} (g : GoodIndex s index) (known : KnownSwi
           ∙ ap (λ xs. conditionHolds q xs (spanRows s (2 * entry index 0) index (switchPlace (componentPlace k) (getD switches k 0) + 3))) (sym taken))
 
 -- the variables of staying components
-any-default : (xs : List ℕ) (i a b : ℕ) → i < length xs → getD xs i a ≡ getD xs i b
-any-default [] i a b h = absurd (omega arith)
-any-default (x ∷ xs) zero a b h = refl
-any-default (x ∷ xs) (suc i) a b h = any-default xs i a b (omega arith)
-
 module _ {s index : List ℕ} (g : GoodIndex s index) (switches : List ℕ) (long : length switches ≡ 4) (location : ℕ) (values next : List ℤ) where
   kept-is : (v : ℕ) → v < entry index 0 → (not (eqb (getD (take (entry index 1) switches) (entry index (ownerPlace v)) stays) stays) || sameZ (item (take (entry index 0) next) v) (item (take (entry index 0) values) v)) ≡ valueKept index switches next values v
   unfolding valueKept keptAt item
@@ -364,7 +310,7 @@ module _ {s index : List ℕ} (g : GoodIndex s index) (switches : List ℕ) (lon
       let c = entry index 1 in
       let owner = entry index (ownerPlace v) in
       let mine : owner < length switches = omega (arith, g .owners v h, g .few) in
-      let switch : getD (take c switches) owner stays ≡ getD switches owner 0 = getD-take c switches owner stays (g .owners v h) ∙ any-default switches owner stays 0 mine in
+      let switch : getD (take c switches) owner stays ≡ getD switches owner 0 = getD-take c switches owner stays (g .owners v h) ∙ there switches owner stays 0 mine in
       ap (λ (i : ℕ). not (eqb i stays) || sameZ (getD (take (entry index 0) next) v (pos 0)) (getD (take (entry index 0) values) v (pos 0))) switch
       ∙ ap (λ x. not (eqb (getD switches owner 0) stays) || sameZ x (getD (take (entry index 0) values) v (pos 0))) (getD-take (entry index 0) next v (pos 0) h)
       ∙ ap (λ x. not (eqb (getD switches owner 0) stays) || sameZ (getD next v (pos 0)) x) (getD-take (entry index 0) values v (pos 0) h)

@@ -2,16 +2,16 @@
 -- and their sizes; and the tests of a state, one component, unsafe condition or variable at a time. Assumes nothing.
 use mathlib.Core.Bool.{Bool, not, _&&_, _||_}
 use mathlib.Core.List.{List}
-use Prim.Native.Nat.{ℕ, _+_, _*_, _^_, _≤_, _<_}
+use Prim.Native.Nat.{ℕ, _+_, _*_, _^_, _≤_}
 use lib.Dec.{eqb}
 use lib.IntN.{ℤ, natAbs}
 use lib.ListN.{getD, take}
-use Rattle.farkas.specs.Lists.{every}
 use Rattle.farkas.specs.Rows.{item}
 use Rattle.farkas.specs.Farkas.{sameZ}
-use Rattle.sheets.specs.Joint.{stays, countUp}
-use Rattle.sheets.specs.Index.{entry, ownerPlace, componentPlace, modePlace, switchPlace, unsafePlace, spanRows, GoodSpan}
-use Rattle.marking.specs.Runs.{State, conditionHolds}
+use Rattle.sheets.specs.Joint.{stays}
+use Rattle.sheets.specs.Index.{entry, ownerPlace, componentPlace, modePlace, switchPlace, unsafePlace, spanRows, unsafeFrom}
+use Rattle.sheets.specs.Counts.{perComponent}
+use Rattle.marking.specs.Runs.{State, conditionHolds, modesFit}
 
 -- the first of eight values, one per variable
 unfoldable pub perVariable : List ℕ → List ℤ → List ℤ
@@ -30,31 +30,17 @@ pub record SmallPoint (count : ℕ) (point : List ℤ) : Type 0 where
   pub few : count ≤ 16
   pub small : (i : ℕ) → natAbs (item point i) * count ≤ 2 ^ 31
 
--- a mode of each component, with rows of each that an index keeps at an offset from it: 1 initial, 3 invariant, 5 flow
-pub record GoodModes (s index modes : List ℕ) (offset : ℕ) : Type 0 where
-  pub near : offset ≤ 5
-  pub known : (k : ℕ) → k < entry index 1 → getD modes k 0 < 8
-  pub spans : (k : ℕ) → k < entry index 1 → GoodSpan s (entry index 0) index (modePlace (componentPlace k) (getD modes k 0) + offset)
-
 -- What the tests of a state ask of the k-th component, unsafe condition or variable, by the numbers of an index.
 -- The rows of its mode at an offset hold
 unfoldable pub modeHolds : List ℕ → List ℕ → List ℕ → ℕ → ℕ → List ℤ → ℕ → Bool
 modeHolds s index modes offset q point k =
     conditionHolds q (take (entry index 0) point) (spanRows s (entry index 0) index (modePlace (componentPlace k) (getD modes k 0) + offset))
 
--- its mode is a start mode
-unfoldable pub startsAt : List ℕ → List ℕ → ℕ → Bool
-startsAt index modes k = eqb (entry index (modePlace (componentPlace k) (getD modes k 0))) 1
-
--- its mode fits the one that stands from a place on, or any fits
-unfoldable pub fitsAt : List ℕ → ℕ → List ℕ → ℕ → Bool
-fitsAt index place modes k = eqb (entry index (place + k)) 255 || eqb (entry index (place + k)) (getD modes k 0)
-
 -- the modes and the rows of the unsafe condition fit
 unfoldable pub unsafeAt : List ℕ → List ℕ → List ℕ → ℕ → List ℤ → ℕ → Bool
 unsafeAt s index modes q point u =
-    every (fitsAt index (unsafePlace u) modes) (countUp 0 (entry index 1))
-    && conditionHolds q (take (entry index 0) point) (spanRows s (entry index 0) index (unsafePlace u + 4))
+    modesFit (unsafeFrom s (entry index 0) (entry index 1) index (unsafePlace u) .modes) (perComponent index modes)
+    && conditionHolds q (take (entry index 0) point) (unsafeFrom s (entry index 0) (entry index 1) index (unsafePlace u) .rows)
 
 -- it stays, or the rows of its switch hold at the values before and after
 unfoldable pub moveHolds : List ℕ → List ℕ → ℕ → List ℤ → ℕ → ℕ → Bool

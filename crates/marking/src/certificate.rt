@@ -1,6 +1,8 @@
 // Marking a certificate: its regions, the proofs of all obligations, and its end.
 use crate::Answer;
 use crate::Marking;
+use crate::answers::on_model;
+use crate::answers::on_second;
 use crate::counting::obligation_count;
 use crate::counting::refused_score;
 use crate::obligations::mark_obligations;
@@ -25,20 +27,6 @@ ghost use Rattle.marking.specs.Marking.{answer, refusedScore, passed, ma
 ghost use Rattle.marking.specs.Listing.{GoodPaper};
 ghost use Rattle.marking.specs.Closing.{Accepted, certificateRegions};
 
-// An answer on the certificate sheet.
-fn on_certificate(number: u32, place: usize, done: u32, score: u32) -> Answer
-    requires { ⌜ place ≤ 32768 ⌝ }
-    ensures { λ r. ⌜ r ≡ answer number 1 place done score ⌝ }
-{
-    Answer {
-        number,
-        sheet: 1,
-        place: place as u32,
-        done,
-        score,
-    }
-}
-
 // The answer where a proof was refused. Only then are the obligations counted, for the score.
 fn stop_certificate(
     model: &[u8],
@@ -55,7 +43,7 @@ fn stop_certificate(
 {
     let total = obligation_count(model, index, second, regions, locations);
     let score = refused_score(marked.done, total);
-    on_certificate(marked.number, marked.place, marked.done, score)
+    on_second(marked.number, marked.place, marked.done, score)
 }
 
 // The end of a certificate whose proofs have all passed: no bytes are left.
@@ -64,8 +52,8 @@ fn end_certificate(second: &[u8], place: usize, done: u32) -> Answer
     ensures { λ r. ⌜ r ≡ closeCertificate done (now (second .entry)) (passed tt place done) ⌝ }
 {
     match finished(second, place) {
-        Next::Refused(number, cut) => on_certificate(number, cut, done, 99),
-        Next::At(_) => on_certificate(0, second.len(), done, 100),
+        Next::Refused(number, cut) => on_second(number, cut, done, 99),
+        Next::At(_) => on_second(0, second.len(), done, 100),
     }
 }
 
@@ -99,7 +87,7 @@ fn mark_body(model: &[u8], index: &[u16; 988], second: &[u8]) -> Answer
     let locations = location_count(model, index);
     let mut regions = [0u16; 128];
     match read_regions(second, 4, index[0] as usize, locations, &mut regions) {
-        Next::Refused(number, place) => on_certificate(number, place, 0, 0),
+        Next::Refused(number, place) => on_second(number, place, 0, 0),
         Next::At(place) => mark_rest(model, index, second, &regions, locations, place),
     }
 }
@@ -110,7 +98,7 @@ fn mark_sheet(model: &[u8], index: &[u16; 988], second: &[u8]) -> Answer
     ensures { λ r. ⌜ r ≡ markRegions (modelFrom (now (model .entry)) (now (index .entry))) (now (second .entry)) (certificateRegions (modelFrom (now (model .entry)) (now (index .entry))) (now (second .entry)) 0) ⌝ }
 {
     match header(second, 2) {
-        Field::Refused(number, place) => on_certificate(number, place, 0, 0),
+        Field::Refused(number, place) => on_second(number, place, 0, 0),
         Field::Value(_, _) => mark_body(model, index, second),
     }
 }
@@ -123,13 +111,7 @@ pub fn mark_certificate(model: &[u8], second: &[u8]) -> Answer
     let index = read.index;
     let next = read.next;
     match next {
-        Next::Refused(number, place) => Answer {
-            number,
-            sheet: 0,
-            place: place as u32,
-            done: 0,
-            score: 0,
-        },
+        Next::Refused(number, place) => on_model(number, place),
         Next::At(_) => mark_sheet(model, &index, second),
     }
 }

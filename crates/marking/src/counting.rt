@@ -18,8 +18,8 @@ ghost use Rattle.sheets.specs.CertificateAnswers.{regionsFrom};
 ghost use Rattle.marking.specs.Runs.{present, modesFit};
 ghost use Rattle.marking.specs.Obligations.{locationObligations, obligations};
 ghost use Rattle.marking.specs.Marking.{refusedScore};
-ghost use Rattle.marking.specs.Listing.{KnownModes, GoodPaper};
-ghost use Rattle.marking.specs.Counting.{regionIn, targetRows};
+ghost use Rattle.marking.specs.Listing.{KnownModes, GoodPaper, regionsOf};
+ghost use Rattle.marking.specs.Counting.{targetRows};
 
 // Whether a component's mode is a start mode.
 fn is_start(model: &[u8], index: &[u16; 988], k: usize, mode: u8) -> bool
@@ -104,7 +104,7 @@ fn region_rows(
 ) -> u32
     requires { ⌜ GoodPaper (now model) (now index) (now second) (now regions) ⌝ }
     requires { ⌜ location < locationCount (componentsFrom (now model) (now index)) ⌝ }
-    ensures { λ r. ⌜ r ≡ length (regionIn (now (model .entry)) (now (index .entry)) (now (second .entry)) (now (regions .entry)) location) ⌝ }
+    ensures { λ r. ⌜ r ≡ length (regionsOf (now (model .entry)) (now (index .entry)) (now (second .entry)) (now (regions .entry)) location) ⌝ }
 {
     regions[2 * (location as usize) + 1] as u32
 }
@@ -120,7 +120,7 @@ fn location_goals(
 ) -> u32
     requires { ⌜ GoodPaper (now model) (now index) (now second) (now regions) ⌝ }
     requires { ⌜ location < locationCount (componentsFrom (now model) (now index)) ⌝ }
-    ensures { λ r. ⌜ r ≡ length (locationObligations (modelFrom (now (model .entry)) (now (index .entry))) (regionIn (now (model .entry)) (now (index .entry)) (now (second .entry)) (now (regions .entry))) location) ⌝ }
+    ensures { λ r. ⌜ r ≡ length (locationObligations (modelFrom (now (model .entry)) (now (index .entry))) (regionsOf (now (model .entry)) (now (index .entry)) (now (second .entry)) (now (regions .entry))) location) ⌝ }
 {
     let modes = modes_at(model, index, location);
     let rows = region_rows(model, index, second, regions, location);
@@ -139,7 +139,7 @@ fn all_location_goals(
 ) -> u32
     requires { ⌜ GoodPaper (now model) (now index) (now second) (now regions) ⌝ }
     requires { ⌜ locations ≡ locationCount (componentsFrom (now model) (now index)) ⌝ }
-    ensures { λ r. ⌜ r ≡ length (joinAll (locationObligations (modelFrom (now (model .entry)) (now (index .entry))) (regionIn (now (model .entry)) (now (index .entry)) (now (second .entry)) (now (regions .entry)))) (countUp 0 locations)) ⌝ }
+    ensures { λ r. ⌜ r ≡ length (joinAll (locationObligations (modelFrom (now (model .entry)) (now (index .entry))) (regionsOf (now (model .entry)) (now (index .entry)) (now (second .entry)) (now (regions .entry)))) (countUp 0 locations)) ⌝ }
 {
     let mut count: u32 = 0;
     let mut location: u32 = 0;
@@ -164,7 +164,7 @@ fn target_goals(
     requires { ⌜ GoodPaper (now model) (now index) (now second) (now regions) ⌝ }
     requires { ⌜ (location < locationCount (componentsFrom (now model) (now index))) × (perComponent (now index) modes ≡ modesAt (componentsFrom (now model) (now index)) location) ⌝ }
     requires { ⌜ (e ≤ 15) × (x < length (switchesOf (componentsFrom (now model) (now index)) (modesAt (componentsFrom (now model) (now index)) location) e)) ⌝ }
-    ensures { λ r. ⌜ r ≡ length (regionIn (now (model .entry)) (now (index .entry)) (now (second .entry)) (now (regions .entry)) (locationOf (componentsFrom (now (model .entry)) (now (index .entry))) (modesAfter (componentsFrom (now (model .entry)) (now (index .entry))) (modesAt (componentsFrom (now (model .entry)) (now (index .entry))) location) (getD (switchesOf (componentsFrom (now (model .entry)) (now (index .entry))) (modesAt (componentsFrom (now (model .entry)) (now (index .entry))) location) e) x [])))) ⌝ }
+    ensures { λ r. ⌜ r ≡ length (regionsOf (now (model .entry)) (now (index .entry)) (now (second .entry)) (now (regions .entry)) (locationOf (componentsFrom (now (model .entry)) (now (index .entry))) (modesAfter (componentsFrom (now (model .entry)) (now (index .entry))) (modesAt (componentsFrom (now (model .entry)) (now (index .entry))) location) (getD (switchesOf (componentsFrom (now (model .entry)) (now (index .entry))) (modesAt (componentsFrom (now (model .entry)) (now (index .entry))) location) e) x [])))) ⌝ }
 {
     let target = target_of(model, index, modes, joint_at(model, index, modes, e, x));
     region_rows(model, index, second, regions, target)
@@ -183,7 +183,7 @@ fn event_goals(
     requires { ⌜ GoodPaper (now model) (now index) (now second) (now regions) ⌝ }
     requires { ⌜ (location < locationCount (componentsFrom (now model) (now index))) × (perComponent (now index) modes ≡ modesAt (componentsFrom (now model) (now index)) location) ⌝ }
     requires { ⌜ e ≤ 15 ⌝ }
-    ensures { λ r. ⌜ r ≡ length (targetRows (regionIn (now (model .entry)) (now (index .entry)) (now (second .entry)) (now (regions .entry))) (jointsOf (componentsFrom (now (model .entry)) (now (index .entry))) location e)) ⌝ }
+    ensures { λ r. ⌜ r ≡ length (targetRows (regionsOf (now (model .entry)) (now (index .entry)) (now (second .entry)) (now (regions .entry))) (jointsOf (componentsFrom (now (model .entry)) (now (index .entry))) location e)) ⌝ }
 {
     let switches = event_count(model, index, modes, e);
     let mut count: u32 = 0;
@@ -205,7 +205,7 @@ fn jump_goals(
 ) -> u32
     requires { ⌜ GoodPaper (now model) (now index) (now second) (now regions) ⌝ }
     requires { ⌜ location < locationCount (componentsFrom (now model) (now index)) ⌝ }
-    ensures { λ r. ⌜ r ≡ length (targetRows (regionIn (now (model .entry)) (now (index .entry)) (now (second .entry)) (now (regions .entry))) (joinAll (jointsOf (componentsFrom (now (model .entry)) (now (index .entry))) location) (countUp 0 16))) ⌝ }
+    ensures { λ r. ⌜ r ≡ length (targetRows (regionsOf (now (model .entry)) (now (index .entry)) (now (second .entry)) (now (regions .entry))) (joinAll (jointsOf (componentsFrom (now (model .entry)) (now (index .entry))) location) (countUp 0 16))) ⌝ }
 {
     let modes = modes_at(model, index, location);
     let mut count: u32 = 0;
@@ -227,7 +227,7 @@ fn all_jump_goals(
 ) -> u32
     requires { ⌜ GoodPaper (now model) (now index) (now second) (now regions) ⌝ }
     requires { ⌜ (locations ≡ locationCount (componentsFrom (now model) (now index))) × (length (joints (componentsFrom (now model) (now index))) ≤ 4096) ⌝ }
-    ensures { λ r. ⌜ r ≡ length (targetRows (regionIn (now (model .entry)) (now (index .entry)) (now (second .entry)) (now (regions .entry))) (joints (componentsFrom (now (model .entry)) (now (index .entry))))) ⌝ }
+    ensures { λ r. ⌜ r ≡ length (targetRows (regionsOf (now (model .entry)) (now (index .entry)) (now (second .entry)) (now (regions .entry))) (joints (componentsFrom (now (model .entry)) (now (index .entry))))) ⌝ }
 {
     let mut count: u32 = 0;
     let mut location: u32 = 0;

@@ -1,3 +1,4 @@
+pub mod answers;
 pub mod certificate;
 pub mod counting;
 pub mod groups;

@@ -1,5 +1,6 @@
 // The joint list's answer: whether a lent table has room for every joint switch of a model, and how many there are.
 use crate::Answer;
+use crate::answers::on_model;
 use sheets::Next;
 use sheets::joints::joint_count;
 use sheets::joints::location_count;
@@ -47,13 +48,7 @@ pub fn list_answer(model: &[u8], lent: u32) -> Answer
     let index = read.index;
     let next = read.next;
     match next {
-        Next::Refused(number, place) => Answer {
-            number,
-            sheet: 0,
-            place: place as u32,
-            done: 0,
-            score: 0,
-        },
+        Next::Refused(number, place) => on_model(number, place),
         Next::At(_) => count_answer(model, &index, lent),
     }
 }

@@ -1,6 +1,8 @@
 // Marking a run sheet: its opening, its steps one after the other, and its end.
 use crate::Answer;
 use crate::RunMarked;
+use crate::answers::on_model;
+use crate::answers::on_second;
 use crate::jumps::location_after;
 use crate::jumps::step_allowed;
 use crate::values::is_unsafe;
@@ -23,7 +25,7 @@ ghost use Rattle.sheets.specs.ModelSheet.{examLimits};
 ghost use Rattle.sheets.specs.RunSheet.{readOpening};
 ghost use Rattle.marking.specs.Held.{stateOf};
 ghost use Rattle.marking.specs.RunHeld.{runOpening, markedAs, RunStands};
-ghost use Rattle.marking.specs.Marking.{answer, markSteps, closeRun, markOpening, markRun};
+ghost use Rattle.marking.specs.Marking.{markSteps, closeRun, markOpening, markRun};
 
 // One step: it is read, then tested; 13 at its first byte.
 fn mark_step(model: &[u8], index: &[u16; 988], s: &[u8], q: u32, run: RunMarked) -> RunMarked
@@ -94,20 +96,6 @@ fn mark_steps(
     run
 }
 
-// An answer on the run sheet.
-fn on_run(number: u32, place: usize, done: u32, score: u32) -> Answer
-    requires { ⌜ place ≤ 32768 ⌝ }
-    ensures { λ r. ⌜ r ≡ answer number 1 place done score ⌝ }
-{
-    Answer {
-        number,
-        sheet: 1,
-        place: place as u32,
-        done,
-        score,
-    }
-}
-
 // The end of a run: its steps passed, no bytes are left, and the state reached is unsafe; 14 at the sheet's length.
 fn close_run(model: &[u8], index: &[u16; 988], s: &[u8], q: u32, run: RunMarked) -> Answer
     requires { ⌜ GoodIndex (now model) (now index) ⌝ }
@@ -116,16 +104,16 @@ fn close_run(model: &[u8], index: &[u16; 988], s: &[u8], q: u32, run: RunMarked)
     ensures { λ r. ⌜ r ≡ closeRun (modelFrom (now (model .entry)) (now (index .entry))) q (now (s .entry)) (markedAs (now (index .entry)) run) ⌝ }
 {
     if run.number != 0 {
-        return on_run(run.number, run.place, run.done, 0);
+        return on_second(run.number, run.place, run.done, 0);
     }
     match finished(s, run.place) {
-        Next::Refused(number, place) => on_run(number, place, run.done, 0),
+        Next::Refused(number, place) => on_second(number, place, run.done, 0),
         Next::At(_) => {
             let values = run.values;
             if is_unsafe(model, index, run.location, q, values) {
-                on_run(0, s.len(), run.done, 100)
+                on_second(0, s.len(), run.done, 100)
             } else {
-                on_run(14, s.len(), run.done, 0)
+                on_second(14, s.len(), run.done, 0)
             }
         }
     }
@@ -141,10 +129,10 @@ fn mark_body(model: &[u8], index: &[u16; 988], s: &[u8]) -> Answer
     let values = read.values;
     let told = read.read;
     match told {
-        OpeningRead::Refused(number, place) => on_run(number, place, 0, 0),
+        OpeningRead::Refused(number, place) => on_second(number, place, 0, 0),
         OpeningRead::Opening(q, steps, location, next) => {
             if !start_allowed(model, index, location, q, values) {
-                return on_run(12, 10, 0, 0);
+                return on_second(12, 10, 0, 0);
             }
             let first = RunMarked {
                 number: 0,
@@ -170,7 +158,7 @@ fn mark_sheet(model: &[u8], index: &[u16; 988], s: &[u8]) -> Answer
     ensures { λ r. ⌜ r ≡ markOpening (modelFrom (now (model .entry)) (now (index .entry))) (now (s .entry)) (runOpening (modelFrom (now (model .entry)) (now (index .entry))) (now (s .entry)) 0) ⌝ }
 {
     match header(s, 3) {
-        Field::Refused(number, place) => on_run(number, place, 0, 0),
+        Field::Refused(number, place) => on_second(number, place, 0, 0),
         Field::Value(_, _) => mark_body(model, index, s),
     }
 }
@@ -183,13 +171,7 @@ pub fn mark_run(model: &[u8], second: &[u8]) -> Answer
     let index = read.index;
     let next = read.next;
     match next {
-        Next::Refused(number, place) => Answer {
-            number,
-            sheet: 0,
-            place: place as u32,
-            done: 0,
-            score: 0,
-        },
+        Next::Refused(number, place) => on_model(number, place),
         Next::At(_) => mark_sheet(model, &index, second),
     }
 }

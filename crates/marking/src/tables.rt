@@ -71,7 +71,7 @@ pub fn push_kept(
 }
 
 // Where an index keeps a condition of a mode: so many numbers into the mode's place.
-fn mode_place(k: usize, mode: u8, offset: usize) -> usize
+pub fn mode_place(k: usize, mode: u8, offset: usize) -> usize
     requires { ⌜ (k < 4) × (offset ≤ 5) ⌝ }
     ensures { λ r. ⌜ r ≡ modePlace (componentPlace k) mode + offset ⌝ }
 {
@@ -111,7 +111,7 @@ pub fn push_modes(
 }
 
 // Where an index keeps the rows of a switch.
-fn switch_place(k: usize, i: u8) -> usize
+pub fn switch_place(k: usize, i: u8) -> usize
     requires { ⌜ k < 4 ⌝ }
     ensures { λ r. ⌜ r ≡ switchPlace (componentPlace k) i + 3 ⌝ }
 {

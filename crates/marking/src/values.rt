@@ -1,14 +1,18 @@
 // Tests on the values of states: rows that hold, invariants, how a run may begin, the rules of flows and jumps, unsafe states.
+use crate::counting::all_start;
+use crate::counting::modes_fit;
+use crate::tables::mode_place;
+use crate::tables::switch_place;
 use farkas::multiply_add;
 use sheets::fields::signed_at;
 use sheets::joints::modes_at;
 ghost use mathlib.Core.Path.{_≡_};
-ghost use mathlib.Core.Bool.{false, _||_};
+ghost use mathlib.Core.Bool.{false};
 ghost use mathlib.Core.List.{_++_};
-ghost use Prim.Native.Nat.{ℕ, _+_, _*_, _^_, _≤_, _<_};
+ghost use Prim.Native.Nat.{_+_, _*_, _^_, _≤_, _<_};
 ghost use lib.Dec.{eqb};
 ghost use lib.IntN.{pos};
-ghost use lib.ListN.{length, getD, take, replicate};
+ghost use lib.ListN.{length, take, replicate};
 ghost use lib.Seq.{paste};
 ghost use Rattle.farkas.specs.Lists.{every, some};
 ghost use Rattle.farkas.specs.Rows.{rowHolds};
@@ -19,7 +23,8 @@ ghost use Rattle.sheets.specs.Places.{rowAt};
 ghost use Rattle.sheets.specs.Index.{entry, ownerPlace, componentPlace, spanRows, componentsFrom, modelFrom, GoodSpan, GoodIndex};
 ghost use Rattle.sheets.specs.Counts.{perComponent, KnownSwitches};
 ghost use Rattle.marking.specs.Runs as runs;
-ghost use Rattle.marking.specs.Held.{perVariable, stateOf, SmallValues, SmallPoint, GoodModes, modeHolds, startsAt, fitsAt, unsafeAt, moveHolds, sameAt, keptAt};
+ghost use Rattle.marking.specs.Listing.{GoodModes};
+ghost use Rattle.marking.specs.Held.{perVariable, stateOf, SmallValues, SmallPoint, modeHolds, unsafeAt, moveHolds, sameAt, keptAt};
 
 // A number of an index, as places have it.
 fn wide(x: u16) -> usize
@@ -77,13 +82,6 @@ fn condition_holds(
     true
 }
 
-// A mode of a component or a switch of it, as places have it.
-fn byte_wide(x: u8) -> usize
-    ensures { λ r. ⌜ r ≡ x ⌝ }
-{
-    x as usize
-}
-
 // Whether the rows hold that an index keeps of the modes at an offset: 1 initial, 3 invariant, 5 flow.
 fn modes_hold(
     model: &[u8],
@@ -93,7 +91,7 @@ fn modes_hold(
     point: &[i64; 16],
     q: u32,
 ) -> bool
-    requires { ⌜ (entry (now index) 1 ≤ 4) × GoodModes (now model) (now index) modes offset ⌝ }
+    requires { ⌜ (entry (now index) 1 ≤ 4) × ((offset ≤ 5) × GoodModes (now model) (now index) modes offset) ⌝ }
     requires { ⌜ SmallPoint (entry (now index) 0) (now point) × (q < 2 ^ 24) ⌝ }
     ensures { λ r. ⌜ r ≡ every (modeHolds (now (model .entry)) (now (index .entry)) modes offset q (now (point .entry))) (countUp 0 (entry (now (index .entry)) 1)) ⌝ }
 {
@@ -101,25 +99,8 @@ fn modes_hold(
     let components = number_at(index, 1);
     let mut k: usize = 0;
     while k < components {
-        let place = 16 + 219 * k + 3 + 7 * byte_wide(modes[k]) + offset;
+        let place = mode_place(k, modes[k], offset);
         if !condition_holds(model, index, place, n, point, q) {
-            return false;
-        }
-        k += 1;
-    }
-    true
-}
-
-// Whether all modes are start modes.
-fn all_start(index: &[u16; 988], modes: [u8; 4]) -> bool
-    requires { ⌜ entry (now index) 1 ≤ 4 ⌝ }
-    requires { ⌜ ((k : ℕ) → k < entry (now index) 1 → getD modes k 0 < 8) ⌝ }
-    ensures { λ r. ⌜ r ≡ every (startsAt (now (index .entry)) modes) (countUp 0 (entry (now (index .entry)) 1)) ⌝ }
-{
-    let components = number_at(index, 1);
-    let mut k: usize = 0;
-    while k < components {
-        if number_at(index, 16 + 219 * k + 3 + 7 * byte_wide(modes[k])) != 1 {
             return false;
         }
         k += 1;
@@ -175,37 +156,11 @@ pub fn start_allowed(
         return false;
     }
     let modes = modes_at(model, index, location);
-    if !all_start(index, modes) {
+    if !all_start(model, index, modes) {
         return false;
     }
     let point = side_by_side(values, values, number_at(index, 0));
     modes_hold(model, index, modes, 1, &point, q)
-}
-
-// Whether a mode is the one asked for, or any is allowed.
-fn mode_fits(asked: usize, mode: u8) -> bool
-    ensures { λ r. ⌜ r ≡ eqb asked 255 || eqb asked mode ⌝ }
-{
-    if asked == 255 {
-        return true;
-    }
-    asked == byte_wide(mode)
-}
-
-// Whether modes fit those of an unsafe condition: each is the one asked for, or any is allowed.
-fn modes_fit(index: &[u16; 988], place: usize, modes: [u8; 4]) -> bool
-    requires { ⌜ (entry (now index) 1 ≤ 4) × (place + 4 < 988) ⌝ }
-    ensures { λ r. ⌜ r ≡ every (fitsAt (now (index .entry)) place modes) (countUp 0 (entry (now (index .entry)) 1)) ⌝ }
-{
-    let components = number_at(index, 1);
-    let mut k: usize = 0;
-    while k < components {
-        if !mode_fits(number_at(index, place + k), modes[k]) {
-            return false;
-        }
-        k += 1;
-    }
-    true
 }
 
 // Whether the modes and the rows of an unsafe condition fit.
@@ -222,11 +177,11 @@ fn unsafe_fits(
     requires { ⌜ SmallPoint (entry (now index) 0) (now point) × (q < 2 ^ 24) ⌝ }
     ensures { λ r. ⌜ r ≡ unsafeAt (now (model .entry)) (now (index .entry)) modes q (now (point .entry)) u ⌝ }
 {
-    let place = 892 + 6 * u;
-    if !modes_fit(index, place, modes) {
+    if !modes_fit(model, index, u, modes) {
         return false;
     }
-    condition_holds(model, index, place + 4, number_at(index, 0), point, q)
+    let place = 892 + 6 * u + 4;
+    condition_holds(model, index, place, number_at(index, 0), point, q)
 }
 
 // Whether some unsafe condition fits.
@@ -332,7 +287,7 @@ fn move_holds(model: &[u8], index: &[u16; 988], k: usize, i: u8, point: &[i64; 1
     if i == 255 {
         return true;
     }
-    let place = 16 + 219 * k + 59 + 5 * byte_wide(i) + 3;
+    let place = switch_place(k, i);
     condition_holds(model, index, place, 2 * number_at(index, 0), point, q)
 }
 

@@ -16,8 +16,8 @@ finished-requires c κs = search needs
 enum-known-number : tie.Need-enum-known-number
 enum-known-number c = search needs
 
-on-certificate-requires : tie.Need-on-certificate-requires
-on-certificate-requires c κs =
+on-second-requires : tie.Need-on-second-requires
+on-second-requires c κs =
     let a = c .before .before .before .before .before .args in
     let p = c .before .before .before .before .before .pre in
     let s = now (a .second) in
@@ -28,8 +28,8 @@ on-certificate-requires c κs =
 enum-told : tie.Need-enum-told
 enum-told c = search needs
 
-on-certificate-requires-2 : tie.Need-on-certificate-requires-2
-on-certificate-requires-2 c κs = search needs
+on-second-requires-2 : tie.Need-on-second-requires-2
+on-second-requires-2 c κs = search needs
 
 returns : tie.Need-returns
 returns c =
@@ -37,7 +37,7 @@ returns c =
     let s = now (a .second) in
     let told = c .before .before .number .given in
     let end : reading.finished s (a .place) ≡ refused (told .0 .0) (told .0 .1 .0) = told-refused tt (reading.finished s (a .place)) (c .before .before .before .before .finished .ensures) (told .1) in
-    c .on-certificate .ensures ∙ end-left s (a .place) (a .done) (told .0 .0) (told .0 .1 .0) end
+    c .on-second .ensures ∙ end-left s (a .place) (a .done) (told .0 .0) (told .0 .1 .0) end
 
 returns-2 : tie.Need-returns-2
 returns-2 c =
@@ -45,7 +45,7 @@ returns-2 c =
     let s = now (a .second) in
     let told = c .before .enum-told .given in
     let end : reading.finished s (a .place) ≡ got tt (told .0 .0) = told-at tt (reading.finished s (a .place)) (c .before .before .before .finished .ensures) (told .1) in
-    c .on-certificate2 .ensures ∙ end-whole s (a .place) (a .done) (told .0 .0) end
+    c .on-second2 .ensures ∙ end-whole s (a .place) (a .done) (told .0 .0) end
 
 pub end-certificate-spec : {M : Type 1} → statement M
 end-certificate-spec =
@@ -53,8 +53,8 @@ end-certificate-spec =
     (tie.spec
     finished-requires
     enum-known-number
-    on-certificate-requires
+    on-second-requires
     enum-told
-    on-certificate-requires-2
+    on-second-requires-2
     returns
     returns-2)

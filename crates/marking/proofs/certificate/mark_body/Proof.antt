@@ -31,9 +31,9 @@ read-regions-requires c κs =
 enum-known-number : tie.Need-enum-known-number
 enum-known-number c = search needs
 
-on-certificate-requires : tie.Need-on-certificate-requires
+on-second-requires : tie.Need-on-second-requires
 unfolding entry
-on-certificate-requires c κs =
+on-second-requires c κs =
     let a = c .before .before .before .before .before .before .before .before .before .args in
     let p = c .before .before .before .before .before .before .before .before .before .pre in
     let model = now (a .model) in
@@ -81,7 +81,7 @@ returns c =
     let regions = regionsFrom s (entry index 0) (read .last .1 .1 .1 .1 .0) (count .result) in
     let told = c .before .before .number .given in
     let e : readRegions m s 4 ≡ refused (told .0 .0) (told .0 .1 .0) = told-refused regions (readRegions m s 4) (read .ensures .0 ∙ regions-for model index s (count .result) 4 (count .ensures)) (told .1) in
-    c .on-certificate .ensures ∙ regions-stop m s (readRegions m s 4) (told .0 .0) (told .0 .1 .0) e
+    c .on-second .ensures ∙ regions-stop m s (readRegions m s 4) (told .0 .0) (told .0 .1 .0) e
 
 returns-2 : tie.Need-returns-2
 unfolding entry
@@ -109,7 +109,7 @@ mark-body-spec =
     cast-read-regions
     read-regions-requires
     enum-known-number
-    on-certificate-requires
+    on-second-requires
     enum-known-place
     mark-rest-requires
     returns

@@ -8,7 +8,6 @@ use Rattle.sheets.specs.Index.{modelFrom}
 use Rattle.sheets.specs.ModelSheet.{examLimits, readModel}
 use Rattle.sheets.proofs.ChainLaws.{told-at, told-refused}
 use Rattle.marking.specs.Closing.{certificateRegions}
-use Rattle.marking.specs.Marking.{answer}
 use Rattle.marking.proofs.RunCodeRead.{model-placed}
 use Rattle.marking.proofs.CloseLaws.{accepted, certificate-model, certificate-sheet}
 use Rattle.marking.proofs.certificate.mark_certificate.Statement.{statement}
@@ -20,8 +19,8 @@ read-model-requires c κs = search needs
 enum-known-next : tie.Need-enum-known-next
 enum-known-next c = search needs
 
-cast-t9 : tie.Need-cast-t9
-cast-t9 c =
+on-model-requires : tie.Need-on-model-requires
+on-model-requires c κs =
     let a = c .before .before .before .before .before .before .before .args in
     let s = now (a .model) in
     let read = c .before .before .before .before .read-model in
@@ -42,14 +41,13 @@ mark-sheet-requires c κs =
     accepted s (read .result .index) (told .0 .0) e
 
 returns : tie.Need-returns
-unfolding answer
 returns c =
-    let a = c .before .before .before .before .before .before .before .args in
+    let a = c .before .before .before .before .before .before .before .before .args in
     let s = now (a .model) in
-    let read = c .before .before .before .before .read-model in
-    let told = c .before .next .given in
+    let read = c .before .before .before .before .before .read-model in
+    let told = c .before .before .next .given in
     let e : readModel examLimits s ≡ refused (told .0 .0) (told .0 .1 .0) = told-refused (modelFrom s (read .result .index)) (readModel examLimits s) (read .ensures) (told .1) in
-    certificate-model examLimits s (now (a .second)) (told .0 .0) (told .0 .1 .0) e
+    c .on-model .ensures ∙ certificate-model examLimits s (now (a .second)) (told .0 .0) (told .0 .1 .0) e
 
 returns-2 : tie.Need-returns-2
 unfolding certificateRegions
@@ -68,7 +66,7 @@ mark-certificate-spec =
     (tie.spec
     read-model-requires
     enum-known-next
-    cast-t9
+    on-model-requires
     enum-told
     mark-sheet-requires
     returns

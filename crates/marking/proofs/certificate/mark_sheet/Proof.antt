@@ -20,8 +20,8 @@ header-requires c κs = search needs
 enum-known-number : tie.Need-enum-known-number
 enum-known-number c = search needs
 
-on-certificate-requires : tie.Need-on-certificate-requires
-on-certificate-requires c κs =
+on-second-requires : tie.Need-on-second-requires
+on-second-requires c κs =
     let a = c .before .before .before .before .before .before .args in
     let s = now (a .second) in
     let told = c .before .number .given in
@@ -47,7 +47,7 @@ returns c =
     let s = now (a .second) in
     let told = c .before .before .number .given in
     let e : reading.header 2 s 0 ≡ refused (told .0 .0) (told .0 .1 .0) = sym (c .before .before .before .before .header .ensures) ∙ field-refused (told .1) in
-    c .on-certificate .ensures ∙ regions-stop m s (certificateRegions m s 0) (told .0 .0) (told .0 .1 .0) (header-stops 2 (readRegions m) s (told .0 .0) (told .0 .1 .0) e)
+    c .on-second .ensures ∙ regions-stop m s (certificateRegions m s 0) (told .0 .0) (told .0 .1 .0) (header-stops 2 (readRegions m) s (told .0 .0) (told .0 .1 .0) e)
 
 returns-2 : tie.Need-returns-2
 unfolding certificateRegions
@@ -65,7 +65,7 @@ mark-sheet-spec =
     (tie.spec
     header-requires
     enum-known-number
-    on-certificate-requires
+    on-second-requires
     enum-told
     mark-body-requires
     returns

@@ -12,16 +12,16 @@ obligation-count-requires c κs = search needs
 refused-score-requires : tie.Need-refused-score-requires
 refused-score-requires c κs = search needs
 
-on-certificate-requires : tie.Need-on-certificate-requires
-on-certificate-requires c κs = search needs
+on-second-requires : tie.Need-on-second-requires
+on-second-requires c κs = search needs
 
 returns : tie.Need-returns
 returns c =
     let marked = c .before .before .before .before .before .args .marked in
-    c .on-certificate .ensures
+    c .on-second .ensures
     ∙ ap (λ (n : ℕ). answer (marked .number) 1 (marked .place) (marked .done) n)
     (c .before .refused-score .ensures ∙ ap (λ (n : ℕ). refusedScore (marked .done) n) (c .before .before .obligation-count .ensures))
 
 pub stop-certificate-spec : {M : Type 1} → statement M
 stop-certificate-spec =
-    tie.close (tie.spec obligation-count-requires refused-score-requires on-certificate-requires returns)
+    tie.close (tie.spec obligation-count-requires refused-score-requires on-second-requires returns)

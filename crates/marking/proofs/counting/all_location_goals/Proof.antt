@@ -8,14 +8,14 @@ use Rattle.sheets.specs.Joint.{joinAll, countUp}
 use Rattle.sheets.specs.Index.{modelFrom}
 use Rattle.sheets.proofs.JointCounts.{joined-next, joined-end}
 use Rattle.marking.specs.Obligations.{locationObligations}
-use Rattle.marking.specs.Counting.{regionIn}
+use Rattle.marking.specs.Listing.{regionsOf}
 use Rattle.marking.proofs.CountGoals.{locations-few, joined-start}
 use Rattle.marking.proofs.counting.all_location_goals.Statement.{statement}
 use Rattle.marking.proofs.counting.all_location_goals.Tie as tie
 
 abbrev Inv-loop : tie.InvT-loop
 Inv-loop model index second regions locations count₀ location₀ count location =
-    count + length (joinAll (locationObligations (modelFrom model index) (regionIn model index second regions)) (countUp location (locations - location))) ≡ length (joinAll (locationObligations (modelFrom model index) (regionIn model index second regions)) (countUp 0 locations))
+    count + length (joinAll (locationObligations (modelFrom model index) (regionsOf model index second regions)) (countUp location (locations - location))) ≡ length (joinAll (locationObligations (modelFrom model index) (regionsOf model index second regions)) (countUp 0 locations))
 
 abbrev μ-loop : tie.MeasureT-loop
 μ-loop model index second regions locations count₀ location₀ count location = locations - location
@@ -23,7 +23,7 @@ abbrev μ-loop : tie.MeasureT-loop
 loop-holds : tie.Need-loop-holds Inv-loop μ-loop
 loop-holds c =
     let a = c .before .before .args in
-    omega (arith, joined-start (locationObligations (modelFrom (now (a .model)) (now (a .index))) (regionIn (now (a .model)) (now (a .index)) (now (a .second)) (now (a .regions)))) (a .locations))
+    omega (arith, joined-start (locationObligations (modelFrom (now (a .model)) (now (a .index))) (regionsOf (now (a .model)) (now (a .index)) (now (a .second)) (now (a .regions)))) (a .locations))
 
 location-goals-requires : tie.Need-location-goals-requires Inv-loop μ-loop
 location-goals-requires c κs = (c .before .before .before .before .pre .0, omega (arith, c .loop-test .taken, c .before .before .before .before .pre .1))
@@ -32,7 +32,7 @@ add-count : tie.Need-add-count Inv-loop μ-loop
 add-count c =
     let a = c .before .before .before .before .before .args in
     let l = c .before .before .loop in
-    let goals = locationObligations (modelFrom (now (a .model)) (now (a .index))) (regionIn (now (a .model)) (now (a .index)) (now (a .second)) (now (a .regions))) in
+    let goals = locationObligations (modelFrom (now (a .model)) (now (a .index))) (regionsOf (now (a .model)) (now (a .index)) (now (a .second)) (now (a .regions))) in
     omega (arith, l .inv, c .location-goals .ensures, joined-next goals (l .location) (a .locations) (c .before .loop-test .taken), locations-few (c .before .before .before .before .before .pre .0) (a .locations) (c .before .before .before .before .before .pre .1))
 
 add-location : tie.Need-add-location Inv-loop μ-loop
@@ -45,14 +45,14 @@ loop-again : tie.Need-loop-again Inv-loop μ-loop
 loop-again c =
     let a = c .before .before .before .before .before .args in
     let l = c .before .before .loop in
-    let goals = locationObligations (modelFrom (now (a .model)) (now (a .index))) (regionIn (now (a .model)) (now (a .index)) (now (a .second)) (now (a .regions))) in
+    let goals = locationObligations (modelFrom (now (a .model)) (now (a .index))) (regionsOf (now (a .model)) (now (a .index)) (now (a .second)) (now (a .regions))) in
     omega (arith, l .inv, c .location-goals .ensures, joined-next goals (l .location) (a .locations) (c .before .loop-test .taken))
 
 returns : tie.Need-returns Inv-loop μ-loop
 returns c =
     let a = c .before .before .before .before .args in
     let l = c .before .loop in
-    let goals = locationObligations (modelFrom (now (a .model)) (now (a .index))) (regionIn (now (a .model)) (now (a .index)) (now (a .second)) (now (a .regions))) in
+    let goals = locationObligations (modelFrom (now (a .model)) (now (a .index))) (regionsOf (now (a .model)) (now (a .index)) (now (a .second)) (now (a .regions))) in
     omega (arith, l .inv, joined-end goals (l .location) (a .locations) (c .loop-test .left))
 
 pub all-location-goals-spec : {M : Type 1} → statement M

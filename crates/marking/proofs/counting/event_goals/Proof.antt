@@ -6,14 +6,15 @@ use denote.Ref.{now}
 use lib.ListN.{length, drop}
 use Rattle.sheets.specs.Joint.{jointsOf}
 use Rattle.sheets.specs.Index.{componentsFrom}
-use Rattle.marking.specs.Counting.{regionIn, targetRows}
+use Rattle.marking.specs.Counting.{targetRows}
+use Rattle.marking.specs.Listing.{regionsOf}
 use Rattle.marking.proofs.CountGoals.{event-turn, event-end, event-few, counted-switches}
 use Rattle.marking.proofs.counting.event_goals.Statement.{statement}
 use Rattle.marking.proofs.counting.event_goals.Tie as tie
 
 abbrev Inv-loop : tie.InvT-loop
 Inv-loop model index second regions location modes e switches count₀ x₀ count x =
-    count + length (targetRows (regionIn model index second regions) (drop x (jointsOf (componentsFrom model index) location e))) ≡ length (targetRows (regionIn model index second regions) (jointsOf (componentsFrom model index) location e))
+    count + length (targetRows (regionsOf model index second regions) (drop x (jointsOf (componentsFrom model index) location e))) ≡ length (targetRows (regionsOf model index second regions) (jointsOf (componentsFrom model index) location e))
 
 abbrev μ-loop : tie.MeasureT-loop
 μ-loop model index second regions location modes e switches count₀ x₀ count x = switches - x
@@ -38,7 +39,7 @@ add-count c =
     let l = c .before .before .loop in
     let components = componentsFrom (now (a .model)) (now (a .index)) in
     let all = counted-switches components (a .e) (c .before .before .before .event-count .ensures) (p .1 .0 .1) in
-    let turn = event-turn (regionIn (now (a .model)) (now (a .index)) (now (a .second)) (now (a .regions))) components (a .location) (a .e) (l .x) (omega (arith, c .before .loop-test .taken, all)) in
+    let turn = event-turn (regionsOf (now (a .model)) (now (a .index)) (now (a .second)) (now (a .regions))) components (a .location) (a .e) (l .x) (omega (arith, c .before .loop-test .taken, all)) in
     omega (arith, l .inv, turn, c .target-goals .ensures, event-few (p .0) (a .location) (a .e))
 
 add-x : tie.Need-add-x Inv-loop μ-loop
@@ -54,7 +55,7 @@ loop-again c =
     let l = c .before .before .loop in
     let components = componentsFrom (now (a .model)) (now (a .index)) in
     let all = counted-switches components (a .e) (c .before .before .before .event-count .ensures) (p .1 .0 .1) in
-    let turn = event-turn (regionIn (now (a .model)) (now (a .index)) (now (a .second)) (now (a .regions))) components (a .location) (a .e) (l .x) (omega (arith, c .before .loop-test .taken, all)) in
+    let turn = event-turn (regionsOf (now (a .model)) (now (a .index)) (now (a .second)) (now (a .regions))) components (a .location) (a .e) (l .x) (omega (arith, c .before .loop-test .taken, all)) in
     omega (arith, l .inv, turn, c .target-goals .ensures)
 
 returns : tie.Need-returns Inv-loop μ-loop
@@ -64,7 +65,7 @@ returns c =
     let l = c .before .loop in
     let components = componentsFrom (now (a .model)) (now (a .index)) in
     let all = counted-switches components (a .e) (c .before .before .event-count .ensures) (p .1 .0 .1) in
-    omega (arith, l .inv, event-end (regionIn (now (a .model)) (now (a .index)) (now (a .second)) (now (a .regions))) components (a .location) (a .e) (l .x) (omega (arith, c .loop-test .left, all)))
+    omega (arith, l .inv, event-end (regionsOf (now (a .model)) (now (a .index)) (now (a .second)) (now (a .regions))) components (a .location) (a .e) (l .x) (omega (arith, c .loop-test .left, all)))
 
 pub event-goals-spec : {M : Type 1} → statement M
 event-goals-spec =

@@ -8,14 +8,15 @@ use Rattle.sheets.specs.Joint.{jointsOf, joinAll, countUp}
 use Rattle.sheets.specs.Index.{componentsFrom}
 use Rattle.sheets.proofs.JointCounts.{joined-next, joined-end}
 use Rattle.sheets.proofs.JointLoops.{per-component-modes}
-use Rattle.marking.specs.Counting.{regionIn, targetRows}
+use Rattle.marking.specs.Counting.{targetRows}
+use Rattle.marking.specs.Listing.{regionsOf}
 use Rattle.marking.proofs.CountGoals.{rows-joined, events-few}
 use Rattle.marking.proofs.counting.jump_goals.Statement.{statement}
 use Rattle.marking.proofs.counting.jump_goals.Tie as tie
 
 abbrev Inv-loop : tie.InvT-loop
 Inv-loop model index second regions location modes count₀ e₀ count e =
-    count + length (joinAll (λ e. targetRows (regionIn model index second regions) (jointsOf (componentsFrom model index) location e)) (countUp e (16 - e))) ≡ length (targetRows (regionIn model index second regions) (joinAll (jointsOf (componentsFrom model index) location) (countUp 0 16)))
+    count + length (joinAll (λ e. targetRows (regionsOf model index second regions) (jointsOf (componentsFrom model index) location e)) (countUp e (16 - e))) ≡ length (targetRows (regionsOf model index second regions) (joinAll (jointsOf (componentsFrom model index) location) (countUp 0 16)))
 
 abbrev μ-loop : tie.MeasureT-loop
 μ-loop model index second regions location modes count₀ e₀ count e = 16 - e
@@ -26,7 +27,7 @@ modes-at-requires c κs = (c .before .before .pre .0 .good, c .before .before .p
 loop-holds : tie.Need-loop-holds Inv-loop μ-loop
 loop-holds c =
     let a = c .before .before .before .args in
-    omega (arith, rows-joined (regionIn (now (a .model)) (now (a .index)) (now (a .second)) (now (a .regions))) (jointsOf (componentsFrom (now (a .model)) (now (a .index))) (a .location)) (countUp 0 16))
+    omega (arith, rows-joined (regionsOf (now (a .model)) (now (a .index)) (now (a .second)) (now (a .regions))) (jointsOf (componentsFrom (now (a .model)) (now (a .index))) (a .location)) (countUp 0 16))
 
 event-goals-requires : tie.Need-event-goals-requires Inv-loop μ-loop
 event-goals-requires c κs =
@@ -38,7 +39,7 @@ add-count : tie.Need-add-count Inv-loop μ-loop
 add-count c =
     let a = c .before .before .before .before .before .before .args in
     let l = c .before .before .loop in
-    let rows : ℕ → _ = λ e. targetRows (regionIn (now (a .model)) (now (a .index)) (now (a .second)) (now (a .regions))) (jointsOf (componentsFrom (now (a .model)) (now (a .index))) (a .location) e) in
+    let rows : ℕ → _ = λ e. targetRows (regionsOf (now (a .model)) (now (a .index)) (now (a .second)) (now (a .regions))) (jointsOf (componentsFrom (now (a .model)) (now (a .index))) (a .location) e) in
     omega (arith, l .inv, c .event-goals .ensures, joined-next rows (l .e) 16 (c .before .loop-test .taken), events-few (c .before .before .before .before .before .before .pre .0) (a .location))
 
 add-e : tie.Need-add-e Inv-loop μ-loop
@@ -51,14 +52,14 @@ loop-again : tie.Need-loop-again Inv-loop μ-loop
 loop-again c =
     let a = c .before .before .before .before .before .before .args in
     let l = c .before .before .loop in
-    let rows : ℕ → _ = λ e. targetRows (regionIn (now (a .model)) (now (a .index)) (now (a .second)) (now (a .regions))) (jointsOf (componentsFrom (now (a .model)) (now (a .index))) (a .location) e) in
+    let rows : ℕ → _ = λ e. targetRows (regionsOf (now (a .model)) (now (a .index)) (now (a .second)) (now (a .regions))) (jointsOf (componentsFrom (now (a .model)) (now (a .index))) (a .location) e) in
     omega (arith, l .inv, c .event-goals .ensures, joined-next rows (l .e) 16 (c .before .loop-test .taken))
 
 returns : tie.Need-returns Inv-loop μ-loop
 returns c =
     let a = c .before .before .before .before .before .args in
     let l = c .before .loop in
-    let rows : ℕ → _ = λ e. targetRows (regionIn (now (a .model)) (now (a .index)) (now (a .second)) (now (a .regions))) (jointsOf (componentsFrom (now (a .model)) (now (a .index))) (a .location) e) in
+    let rows : ℕ → _ = λ e. targetRows (regionsOf (now (a .model)) (now (a .index)) (now (a .second)) (now (a .regions))) (jointsOf (componentsFrom (now (a .model)) (now (a .index))) (a .location) e) in
     omega (arith, l .inv, joined-end rows (l .e) 16 (c .loop-test .left))
 
 pub jump-goals-spec : {M : Type 1} → statement M

@@ -1,13 +1,13 @@
 -- The sum of the four counts is that of the definition. Assumes nothing.
 use mathlib.Core.Path.{_≡_}
-use Prim.Native.Nat.{_+_, _*_, _-_}
+use Prim.Native.Nat.{_+_, _*_}
 use native.Mathlib.Omega.{arith}
 use borrow.Author.Needs.{needs}
 use denote.Ref.{now}
 use lib.ListN.{length}
 use Rattle.sheets.specs.Index.{modelFrom}
 use Rattle.marking.specs.Obligations.{locationObligations}
-use Rattle.marking.specs.Counting.{regionIn}
+use Rattle.marking.specs.Listing.{regionsOf}
 use Rattle.marking.proofs.CountLaws.{known-modes}
 use Rattle.marking.proofs.CountGoals.{location-few, location-sum}
 use Rattle.marking.proofs.counting.location_goals.Statement.{statement}
@@ -31,7 +31,7 @@ one-if-requires : tie.Need-one-if-requires
 one-if-requires c κs = search needs
 
 -- the sum, and that it is small
-sum : (c : tie.After-one-if) → c .one-if .result * c .before .before .before .region-rows .result + (c .before .before .before .region-rows .result + c .before .before .fitting-count .result) ≡ length (locationObligations (modelFrom (now (c .before .before .before .before .before .before .before .args .model)) (now (c .before .before .before .before .before .before .before .args .index))) (regionIn (now (c .before .before .before .before .before .before .before .args .model)) (now (c .before .before .before .before .before .before .before .args .index)) (now (c .before .before .before .before .before .before .before .args .second)) (now (c .before .before .before .before .before .before .before .args .regions))) (c .before .before .before .before .before .before .before .args .location))
+sum : (c : tie.After-one-if) → c .one-if .result * c .before .before .before .region-rows .result + (c .before .before .before .region-rows .result + c .before .before .fitting-count .result) ≡ length (locationObligations (modelFrom (now (c .before .before .before .before .before .before .before .args .model)) (now (c .before .before .before .before .before .before .before .args .index))) (regionsOf (now (c .before .before .before .before .before .before .before .args .model)) (now (c .before .before .before .before .before .before .before .args .index)) (now (c .before .before .before .before .before .before .before .args .second)) (now (c .before .before .before .before .before .before .before .args .regions))) (c .before .before .before .before .before .before .before .args .location))
 sum c =
     let a = c .before .before .before .before .before .before .before .args in
     location-sum (now (a .model)) (now (a .index)) (now (a .second)) (now (a .regions)) (a .location) (c .before .before .before .before .modes-at .result) _ (c .before .before .before .before .modes-at .ensures) _ _ _ (c .before .all-start .ensures) (c .one-if .ensures) (c .before .before .before .region-rows .ensures) (c .before .before .fitting-count .ensures)

@@ -1,10 +1,10 @@
 -- The joint switch that is found is known, and its target is a location. Assumes nothing.
 use mathlib.Core.Path.{ap, _∙_}
-use Prim.Native.Nat.{ℕ, _-_}
+use Prim.Native.Nat.{ℕ}
 use native.Mathlib.Omega.{arith}
 use denote.Ref.{now}
 use lib.ListN.{length}
-use Rattle.marking.specs.Counting.{regionIn}
+use Rattle.marking.specs.Listing.{regionsOf}
 use Rattle.marking.proofs.CountGoals.{found-below, found-within, found-switches, found-target}
 use Rattle.marking.proofs.counting.target_goals.Statement.{statement}
 use Rattle.marking.proofs.counting.target_goals.Tie as tie
@@ -34,7 +34,7 @@ returns c =
     let a = c .before .before .before .before .before .args in
     let p = c .before .before .before .before .before .pre in
     let same = found-target (p .0 .good) (a .location) (a .e) (a .x) (a .modes) (p .1 .0 .0) (p .1 .0 .1) (p .1 .1 .0) (p .1 .1 .1) (c .before .before .joint-at .result) (c .before .before .joint-at .ensures) (c .before .target-of .result) (c .before .target-of .ensures) in
-    c .region-rows .ensures ∙ ap (λ (l : ℕ). length (regionIn (now (a .model)) (now (a .index)) (now (a .second)) (now (a .regions)) l)) same
+    c .region-rows .ensures ∙ ap (λ (l : ℕ). length (regionsOf (now (a .model)) (now (a .index)) (now (a .second)) (now (a .regions)) l)) same
 
 pub target-goals-spec : {M : Type 1} → statement M
 target-goals-spec =

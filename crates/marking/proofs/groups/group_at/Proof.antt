@@ -1,17 +1,11 @@
 -- By its number. Assumes nothing.
-use mathlib.Core.Path.{_≡_, refl, sym, ap, ap₂, _∙_, subst}
-use Prim.Native.Nat.{ℕ, _+_, _*_, _-_, _≤_, _<_}
+use mathlib.Core.Path.{_≡_, sym, ap, _∙_}
+use Prim.Native.Nat.{_+_, _-_}
 use native.Mathlib.Omega.{arith}
 use borrow.Author.Needs.{needs}
 use denote.Ref.{now}
-use lib.ListN.{length, getD}
-use Rattle.sheets.specs.Index.{entry, modelFrom}
-use Rattle.sheets.specs.Counts.{perComponent}
-use Rattle.marking.specs.declared.Group.{Group}
-use Rattle.marking.specs.Listing.{GoodGroup, tasksOf, groupTasks, jumpTasks, regionsOf, regionGroup, unsafeGroup, emptyGroup}
-use Rattle.marking.proofs.TableLaws.{lines-most}
-use Rattle.marking.proofs.GoodLines.{start-fine, flow-fine, unsafe-fine, jump-fine}
-use Rattle.marking.proofs.GroupLaws.{said-no, said-yes, start-tasks, start-none, flow-tasks, unsafe-tasks, unsafe-none, jump-tasks, empty-good, region-good, unsafe-good}
+use Rattle.sheets.specs.Index.{modelFrom}
+use Rattle.marking.specs.Listing.{groupTasks, regionsOf}
 use Rattle.marking.proofs.groups.group_at.Statement.{statement}
 use Rattle.marking.proofs.groups.group_at.Tie as tie
 

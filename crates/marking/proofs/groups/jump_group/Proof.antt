@@ -1,17 +1,16 @@
 -- The table's. Assumes nothing.
-use mathlib.Core.Path.{_≡_, refl, sym, ap, ap₂, _∙_, subst}
-use Prim.Native.Nat.{ℕ, _+_, _*_, _-_, _≤_, _<_}
+use mathlib.Core.Path.{_≡_, sym, ap, _∙_, subst}
+use Prim.Native.Nat.{_≤_}
 use native.Mathlib.Omega.{arith}
 use borrow.Author.Needs.{needs}
 use denote.Ref.{now}
-use lib.ListN.{length, getD}
-use Rattle.sheets.specs.Index.{entry, modelFrom}
-use Rattle.sheets.specs.Counts.{perComponent}
+use lib.ListN.{length}
+use Rattle.sheets.specs.Index.{entry}
 use Rattle.marking.specs.declared.Group.{Group}
-use Rattle.marking.specs.Listing.{GoodGroup, tasksOf, groupTasks, jumpTasks, regionsOf, regionGroup, unsafeGroup, emptyGroup}
+use Rattle.marking.specs.Listing.{GoodGroup, tasksOf, regionGroup}
 use Rattle.marking.proofs.TableLaws.{lines-most}
-use Rattle.marking.proofs.GoodLines.{start-fine, flow-fine, unsafe-fine, jump-fine}
-use Rattle.marking.proofs.GroupLaws.{said-no, said-yes, start-tasks, start-none, flow-tasks, unsafe-tasks, unsafe-none, jump-tasks, empty-good, region-good, unsafe-good}
+use Rattle.marking.proofs.GoodLines.{jump-fine}
+use Rattle.marking.proofs.GroupLaws.{jump-tasks, region-good}
 use Rattle.marking.proofs.groups.jump_group.Statement.{statement}
 use Rattle.marking.proofs.groups.jump_group.Tie as tie
 

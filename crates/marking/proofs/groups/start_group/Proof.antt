@@ -1,17 +1,17 @@
 -- None where a mode is no start mode, else the table's. Assumes nothing.
-use mathlib.Core.Path.{_≡_, refl, sym, ap, ap₂, _∙_, subst}
-use Prim.Native.Nat.{ℕ, _+_, _*_, _-_, _≤_, _<_}
+use mathlib.Core.Path.{_≡_, sym, ap, _∙_, subst}
+use Prim.Native.Nat.{_≤_}
 use native.Mathlib.Omega.{arith}
 use borrow.Author.Needs.{needs}
 use denote.Ref.{now}
-use lib.ListN.{length, getD}
-use Rattle.sheets.specs.Index.{entry, modelFrom}
-use Rattle.sheets.specs.Counts.{perComponent}
+use lib.ListN.{length}
+use Rattle.sheets.specs.Index.{entry}
 use Rattle.marking.specs.declared.Group.{Group}
-use Rattle.marking.specs.Listing.{GoodGroup, tasksOf, groupTasks, jumpTasks, regionsOf, regionGroup, unsafeGroup, emptyGroup}
+use Rattle.marking.specs.Listing.{GoodGroup, tasksOf, regionGroup, emptyGroup}
+use Rattle.marking.proofs.ListFacts.{test-failed, test-passed}
 use Rattle.marking.proofs.TableLaws.{lines-most}
-use Rattle.marking.proofs.GoodLines.{start-fine, flow-fine, unsafe-fine, jump-fine}
-use Rattle.marking.proofs.GroupLaws.{said-no, said-yes, start-tasks, start-none, flow-tasks, unsafe-tasks, unsafe-none, jump-tasks, empty-good, region-good, unsafe-good}
+use Rattle.marking.proofs.GoodLines.{start-fine}
+use Rattle.marking.proofs.GroupLaws.{start-tasks, start-none, empty-good, region-good}
 use Rattle.marking.proofs.groups.start_group.Statement.{statement}
 use Rattle.marking.proofs.groups.start_group.Tie as tie
 
@@ -32,7 +32,7 @@ returns c =
     let long : entry index 1 ≤ length (a .modes) = omega (arith, p .0 .good .few, c .before .before .before .before .before .before .good .1 .1 .1 .1 .1 .0 .1 .0 .1) in
     let table = now (a .table) in
     let same : c .no-group .result ≡ emptyGroup = c .no-group .ensures in
-    (ap (tasksOf model second (entry index 0) table) same ∙ start-none model index second regions (a .modes) (a .location) long (p .1 .0) table (said-no (c .before .before .all-start .result) (c .before .if1 .taken) (c .before .before .all-start .ensures)), subst (λ (g : Group). GoodGroup model second (entry index 0) table g) (sym same) (empty-good model second (entry index 0) table))
+    (ap (tasksOf model second (entry index 0) table) same ∙ start-none model index second regions (a .modes) (a .location) long (p .1 .0) table (sym (test-failed (c .before .before .all-start .result) (c .before .if1 .taken) (c .before .before .all-start .ensures))), subst (λ (g : Group). GoodGroup model second (entry index 0) table g) (sym same) (empty-good model second (entry index 0) table))
 
 start-table-requires : tie.Need-start-table-requires
 start-table-requires c κs = (c .before .before .before .before .before .before .pre .0, (c .before .before .before .before .before .before .pre .1 .0 .known, c .before .before .before .before .before .before .pre .1 .1))
@@ -65,7 +65,7 @@ returns-2 c =
     let fine = start-fine model index second regions (a .modes) (a .location) long (p .1 .0 .known) (p .0) in
     let table = c .before .before .before .before .start-table .last .1 .1 .1 .1 .1 .0 in
     let same : c .region-group .result ≡ regionGroup regions (a .location) (c .before .before .before .before .start-table .result) 0 = c .region-group .ensures in
-    (ap (tasksOf model second (entry index 0) table) same ∙ start-tasks model index second regions (a .modes) (a .location) long (p .1 .0) table (c .before .before .before .before .start-table .result) (c .before .before .before .before .start-table .ensures) (said-yes (c .before .before .before .before .before .before .before .all-start .result) (c .before .before .before .before .before .before .if1 .left) (c .before .before .before .before .before .before .before .all-start .ensures)), subst (λ (g : Group). GoodGroup model second (entry index 0) table g) (sym same) (region-good model index second regions table (a .location) (c .before .before .before .before .start-table .result) 0 _ (p .0) (p .1 .0 .below) (c .before .before .before .before .start-table .ensures) fine (omega arith) (omega arith)))
+    (ap (tasksOf model second (entry index 0) table) same ∙ start-tasks model index second regions (a .modes) (a .location) long (p .1 .0) table (c .before .before .before .before .start-table .result) (c .before .before .before .before .start-table .ensures) (sym (test-passed (c .before .before .before .before .before .before .before .all-start .result) (c .before .before .before .before .before .before .if1 .left) (c .before .before .before .before .before .before .before .all-start .ensures))), subst (λ (g : Group). GoodGroup model second (entry index 0) table g) (sym same) (region-good model index second regions table (a .location) (c .before .before .before .before .start-table .result) 0 _ (p .0) (p .1 .0 .below) (c .before .before .before .before .start-table .ensures) fine (omega arith) (omega arith)))
 
 pub start-group-spec : {M : Type 1} → statement M
 start-group-spec =

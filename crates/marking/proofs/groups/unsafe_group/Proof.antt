@@ -1,17 +1,17 @@
 -- None where the modes do not fit, else the table's. Assumes nothing.
-use mathlib.Core.Path.{_≡_, refl, sym, ap, ap₂, _∙_, subst}
-use Prim.Native.Nat.{ℕ, _+_, _*_, _-_, _≤_, _<_}
+use mathlib.Core.Path.{_≡_, sym, ap, _∙_, subst}
+use Prim.Native.Nat.{_≤_}
 use native.Mathlib.Omega.{arith}
 use borrow.Author.Needs.{needs}
 use denote.Ref.{now}
-use lib.ListN.{length, getD}
-use Rattle.sheets.specs.Index.{entry, modelFrom}
-use Rattle.sheets.specs.Counts.{perComponent}
+use lib.ListN.{length}
+use Rattle.sheets.specs.Index.{entry}
 use Rattle.marking.specs.declared.Group.{Group}
-use Rattle.marking.specs.Listing.{GoodGroup, tasksOf, groupTasks, jumpTasks, regionsOf, regionGroup, unsafeGroup, emptyGroup}
+use Rattle.marking.specs.Listing.{GoodGroup, tasksOf, unsafeGroup, emptyGroup}
+use Rattle.marking.proofs.ListFacts.{test-failed, test-passed}
 use Rattle.marking.proofs.TableLaws.{lines-most}
-use Rattle.marking.proofs.GoodLines.{start-fine, flow-fine, unsafe-fine, jump-fine}
-use Rattle.marking.proofs.GroupLaws.{said-no, said-yes, start-tasks, start-none, flow-tasks, unsafe-tasks, unsafe-none, jump-tasks, empty-good, region-good, unsafe-good}
+use Rattle.marking.proofs.GoodLines.{unsafe-fine}
+use Rattle.marking.proofs.GroupLaws.{unsafe-tasks, unsafe-none, empty-good, unsafe-good}
 use Rattle.marking.proofs.groups.unsafe_group.Statement.{statement}
 use Rattle.marking.proofs.groups.unsafe_group.Tie as tie
 
@@ -32,7 +32,7 @@ returns c =
     let long : entry index 1 ≤ length (a .modes) = omega (arith, p .0 .good .few, c .before .before .before .before .before .before .good .1 .1 .1 .1 .1 .0 .1 .0 .1) in
     let table = now (a .table) in
     let same : c .no-group .result ≡ emptyGroup = c .no-group .ensures in
-    (ap (tasksOf model second (entry index 0) table) same ∙ unsafe-none model index second regions (a .modes) (a .location) long (p .1 .0) table (a .u) (p .1 .1 .0) (said-no (c .before .before .modes-fit .result) (c .before .if1 .taken) (c .before .before .modes-fit .ensures)), subst (λ (g : Group). GoodGroup model second (entry index 0) table g) (sym same) (empty-good model second (entry index 0) table))
+    (ap (tasksOf model second (entry index 0) table) same ∙ unsafe-none model index second regions (a .modes) (a .location) long (p .1 .0) table (a .u) (p .1 .1 .0) (sym (test-failed (c .before .before .modes-fit .result) (c .before .if1 .taken) (c .before .before .modes-fit .ensures))), subst (λ (g : Group). GoodGroup model second (entry index 0) table g) (sym same) (empty-good model second (entry index 0) table))
 
 unsafe-table-requires : tie.Need-unsafe-table-requires
 unsafe-table-requires c κs = (c .before .before .before .before .before .before .pre .0, ((c .before .before .before .before .before .before .pre .1 .0 .below, c .before .before .before .before .before .before .pre .1 .0 .known), (c .before .before .before .before .before .before .pre .1 .1 .0, c .before .before .before .before .before .before .pre .1 .1 .1)))
@@ -66,7 +66,7 @@ returns-2 c =
     let fine = unsafe-fine model index second regions (a .modes) (a .location) long (p .1 .0 .known) (p .0) (p .1 .0 .below) (a .u) (p .1 .1 .0) in
     let table = c .before .before .unsafe-table .last .1 .1 .1 .1 .1 .1 .1 .0 in
     let h = c .before .before .unsafe-table .result in
-    (unsafe-tasks model index second regions (a .modes) (a .location) long (p .1 .0) table h (a .u) (p .1 .1 .0) (c .before .before .unsafe-table .ensures) (said-yes (c .before .before .before .before .before .modes-fit .result) (c .before .before .before .before .if1 .left) (c .before .before .before .before .before .modes-fit .ensures)), unsafe-good model index second table h _ (c .before .before .unsafe-table .ensures) fine (omega arith))
+    (unsafe-tasks model index second regions (a .modes) (a .location) long (p .1 .0) table h (a .u) (p .1 .1 .0) (c .before .before .unsafe-table .ensures) (sym (test-passed (c .before .before .before .before .before .modes-fit .result) (c .before .before .before .before .if1 .left) (c .before .before .before .before .before .modes-fit .ensures))), unsafe-good model index second table h _ (c .before .before .unsafe-table .ensures) fine (omega arith))
 
 pub unsafe-group-spec : {M : Type 1} → statement M
 unsafe-group-spec =

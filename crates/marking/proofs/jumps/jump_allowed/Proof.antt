@@ -11,7 +11,8 @@ use Rattle.sheets.specs.Counts.{perComponent}
 use Rattle.sheets.specs.RunSheet.{jump}
 use Rattle.marking.specs.Runs.{after, ruleMet}
 use Rattle.marking.specs.Held.{perVariable, stateOf}
-use Rattle.marking.proofs.JumpLaws.{target-located, jump-after, step-inadmissible, step-by-rule, test-failed, test-passed}
+use Rattle.marking.proofs.ListFacts.{test-failed, test-passed}
+use Rattle.marking.proofs.JumpLaws.{target-located, jump-after, step-inadmissible, step-by-rule}
 use Rattle.marking.proofs.jumps.jump_allowed.Statement.{statement}
 use Rattle.marking.proofs.jumps.jump_allowed.Tie as tie
 

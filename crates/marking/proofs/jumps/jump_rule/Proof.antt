@@ -4,7 +4,8 @@ use borrow.Author.Needs.{needs}
 use denote.Ref.{now}
 use lib.ListN.{replicate}
 use Rattle.sheets.specs.Index.{entry}
-use Rattle.marking.proofs.JumpLaws.{rule-joint, rule-rows, rule-kept, test-failed, test-passed}
+use Rattle.marking.proofs.ListFacts.{test-failed, test-passed}
+use Rattle.marking.proofs.JumpLaws.{rule-joint, rule-rows, rule-kept}
 use Rattle.marking.proofs.jumps.jump_rule.Statement.{statement}
 use Rattle.marking.proofs.jumps.jump_rule.Tie as tie
 

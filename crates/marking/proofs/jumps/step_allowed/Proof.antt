@@ -8,7 +8,8 @@ use Rattle.sheets.specs.RunSheet.{Step, flow, jump}
 use Rattle.sheets.specs.RunAnswers.{fourSwitches, stepOf}
 use Rattle.marking.specs.Runs.{after, ruleMet, stepAllowed}
 use Rattle.marking.specs.Held.{perVariable, stateOf}
-use Rattle.marking.proofs.JumpLaws.{step-inadmissible, step-by-rule, test-failed, test-passed}
+use Rattle.marking.proofs.ListFacts.{test-failed, test-passed}
+use Rattle.marking.proofs.JumpLaws.{step-inadmissible, step-by-rule}
 use Rattle.marking.proofs.jumps.step_allowed.Statement.{statement}
 use Rattle.marking.proofs.jumps.step_allowed.Tie as tie
 

@@ -1,25 +1,22 @@
 -- What is still to come, marked from here, is the whole; the goals of a joint switch come first. Assumes nothing.
 use mathlib.Core.Path.{_≡_, refl, sym, ap, ap₂, _∙_, subst}
-use mathlib.Core.List.{List, [], _++_, append-nil}
-use Prim.Native.Nat.{ℕ, _+_, _*_, _-_, _≤_, _<_}
+use mathlib.Core.List.{List, _++_}
+use Prim.Native.Nat.{ℕ, _+_, _-_, _≤_, _<_}
 use native.Mathlib.Omega.{arith}
 use borrow.Author.Needs.{needs}
 use denote.Ref.{now}
 use lib.ListN.{length, getD, drop}
-use Rattle.sheets.specs.declared.Next.{Next}
 use Rattle.sheets.specs.declared.Next.the-variants as next
 use Rattle.sheets.specs.Locations.{locationCount, modesAt, locationOf}
-use Rattle.sheets.specs.Joint.{switchesOf, modesAfter, jointsOf, joints}
+use Rattle.sheets.specs.Joint.{switchesOf, modesAfter, jointsOf}
 use Rattle.sheets.specs.Index.{entry, componentsFrom, modelFrom}
-use Rattle.sheets.specs.Counts.{perComponent}
-use Rattle.marking.specs.declared.Marking as declared
-use Rattle.marking.specs.Marking.{Marked, passed, stopped}
+use Rattle.marking.specs.Marking.{passed}
 use Rattle.marking.specs.Tables.{heldNext}
 use Rattle.marking.specs.Listing.{Task, noTask, tasksOf, jumpTasks, jointTasks, regionsOf, markTask, markTasks, standsAt}
-use Rattle.marking.proofs.CountGoals.{found-within, found-switches, found-target, found-below}
+use Rattle.marking.proofs.CountGoals.{found-within, found-switches, found-target, found-below, found-first}
 use Rattle.marking.proofs.MarkLaws.{tasks-length, task-advances}
 use Rattle.marking.proofs.MarkLoops.{Comes, comes-same, goals-out, goal-passed, goal-failed, comes-end, stands-at}
-use Rattle.marking.proofs.JointMarks.{jumpsLeft, foundAt, jumps-start, jumps-next, jumps-end, found-first}
+use Rattle.marking.proofs.JointMarks.{jumpsLeft, foundAt, jumps-start, jumps-next, jumps-end}
 use Rattle.marking.proofs.obligations.mark_event.Statement.{statement}
 use Rattle.marking.proofs.obligations.mark_event.Tie as tie
 
@@ -155,7 +152,7 @@ loop-holds c =
     let below : c .before .before .before .target-of .result < locationCount (componentsFrom model index) = subst (λ (t : ℕ). t < locationCount (componentsFrom model index)) (sym target) (found-below (p .0 .good) (a .location) (a .e) x (a .modes) (stands .below) (stands .here) (p .1 .1 .0) h) in
     let k = c .before .before .before .before .before .before .marking in
     let i = k .inv in
-    let ws = found-first model index regionAt (a .location) (a .e) (p .0 .good) x (a .modes) (c .before .before .before .before .joint-at .result) (stands .below) (stands .here) (p .1 .1 .0) h (c .before .before .before .before .joint-at .ensures) in
+    let ws = found-first (p .0 .good) (a .location) (a .e) x (a .modes) (stands .below) (stands .here) (p .1 .1 .0) h (c .before .before .before .before .joint-at .result) (c .before .before .before .before .joint-at .ensures) in
     let part = tasksOf model second (entry index 0) (c .jump-group .last .1 .1 .1 .1 .1 .1 .1 .1 .1 .0) (c .jump-group .result) in
     let same : jumpTasks m regionAt (a .location) (foundAt model index (a .location) (a .e) x) (locationOf (componentsFrom model index) (modesAfter (componentsFrom model index) (modesAt (componentsFrom model index) (a .location)) (foundAt model index (a .location) (a .e) x))) ≡ part = ap₂ (jumpTasks m regionAt (a .location)) (sym ws) (sym target) ∙ sym (c .jump-group .ensures .0) in
     (i .0, (omega arith, (i .1 .1 .0, (i .1 .1 .1 .0, comes-same second whole (k .place) (k .done) (jumps-next model index regionAt (a .location) (a .e) x h ∙ ap (λ (ts : List Task). ts ++ jumpsLeft model index regionAt (a .location) (a .e) (x + 1)) same) (i .1 .1 .1 .1)))))

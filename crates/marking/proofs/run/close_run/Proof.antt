@@ -11,14 +11,14 @@ use Rattle.marking.proofs.RunCode.{close-stopped, close-left, left-plac
 use Rattle.marking.proofs.run.close_run.Statement.{statement}
 use Rattle.marking.proofs.run.close_run.Tie as tie
 
-on-run-requires : tie.Need-on-run-requires
-on-run-requires c κs = search needs
+on-second-requires : tie.Need-on-second-requires
+on-second-requires c κs = search needs
 
 returns : tie.Need-returns
 returns c =
     let a = c .before .before .before .before .before .args in
     let index = now (a .index) in
-    c .on-run .ensures ∙ close-stopped (modelFrom (now (a .model)) index) index (a .q) (now (a .s)) (a .run) (c .before .if1 .taken)
+    c .on-second .ensures ∙ close-stopped (modelFrom (now (a .model)) index) index (a .q) (now (a .s)) (a .run) (c .before .if1 .taken)
 
 finished-requires : tie.Need-finished-requires
 finished-requires c κs = search needs
@@ -26,8 +26,8 @@ finished-requires c κs = search needs
 enum-known-number : tie.Need-enum-known-number
 enum-known-number c = search needs
 
-on-run-requires-2 : tie.Need-on-run-requires-2
-on-run-requires-2 c κs =
+on-second-requires-2 : tie.Need-on-second-requires-2
+on-second-requires-2 c κs =
     let a = c .before .before .before .before .before .before .before .before .args in
     let p = c .before .before .before .before .before .before .before .before .pre in
     let index = now (a .index) in
@@ -42,11 +42,11 @@ enum-told c = search needs
 is-unsafe-requires : tie.Need-is-unsafe-requires
 is-unsafe-requires c κs = search needs
 
-on-run-requires-3 : tie.Need-on-run-requires-3
-on-run-requires-3 c κs = search needs
+on-second-requires-3 : tie.Need-on-second-requires-3
+on-second-requires-3 c κs = search needs
 
-on-run-requires-4 : tie.Need-on-run-requires-4
-on-run-requires-4 c κs = search needs
+on-second-requires-4 : tie.Need-on-second-requires-4
+on-second-requires-4 c κs = search needs
 
 returns-2 : tie.Need-returns-2
 returns-2 c =
@@ -55,7 +55,7 @@ returns-2 c =
     let s = now (a .s) in
     let told = c .before .before .number .given in
     let end : reading.finished s (a .run .place) ≡ refused (told .0 .0) (told .0 .1 .0) = told-refused tt (reading.finished s (a .run .place)) (c .before .before .before .before .finished .ensures) (told .1) in
-    c .on-run2 .ensures ∙ close-left (modelFrom (now (a .model)) index) index (a .q) s (a .run) (c .before .before .before .before .before .if1 .left) (told .0 .0) (told .0 .1 .0) end
+    c .on-second2 .ensures ∙ close-left (modelFrom (now (a .model)) index) index (a .q) s (a .run) (c .before .before .before .before .before .if1 .left) (told .0 .0) (told .0 .1 .0) end
 
 returns-3 : tie.Need-returns-3
 returns-3 c =
@@ -64,7 +64,7 @@ returns-3 c =
     let s = now (a .s) in
     let told = c .before .before .before .before .enum-told .given in
     let end : reading.finished s (a .run .place) ≡ got tt (told .0 .0) = told-at tt (reading.finished s (a .run .place)) (c .before .before .before .before .before .before .finished .ensures) (told .1) in
-    c .on-run3 .ensures ∙ close-unsafe (modelFrom (now (a .model)) index) index (a .q) s (a .run) (c .before .before .before .before .before .before .before .if1 .left) (told .0 .0) end (sym (c .before .if2 .taken) ∙ c .before .before .is-unsafe .ensures)
+    c .on-second3 .ensures ∙ close-unsafe (modelFrom (now (a .model)) index) index (a .q) s (a .run) (c .before .before .before .before .before .before .before .if1 .left) (told .0 .0) end (sym (c .before .if2 .taken) ∙ c .before .before .is-unsafe .ensures)
 
 returns-4 : tie.Need-returns-4
 returns-4 c =
@@ -73,21 +73,21 @@ returns-4 c =
     let s = now (a .s) in
     let told = c .before .before .before .before .enum-told .given in
     let end : reading.finished s (a .run .place) ≡ got tt (told .0 .0) = told-at tt (reading.finished s (a .run .place)) (c .before .before .before .before .before .before .finished .ensures) (told .1) in
-    c .on-run4 .ensures ∙ close-safe (modelFrom (now (a .model)) index) index (a .q) s (a .run) (c .before .before .before .before .before .before .before .if1 .left) (told .0 .0) end (sym (c .before .if2 .left) ∙ c .before .before .is-unsafe .ensures)
+    c .on-second4 .ensures ∙ close-safe (modelFrom (now (a .model)) index) index (a .q) s (a .run) (c .before .before .before .before .before .before .before .if1 .left) (told .0 .0) end (sym (c .before .if2 .left) ∙ c .before .before .is-unsafe .ensures)
 
 pub close-run-spec : {M : Type 1} → statement M
 close-run-spec =
     tie.close
     (tie.spec
-    on-run-requires
+    on-second-requires
     returns
     finished-requires
     enum-known-number
-    on-run-requires-2
+    on-second-requires-2
     enum-told
     is-unsafe-requires
-    on-run-requires-3
-    on-run-requires-4
+    on-second-requires-3
+    on-second-requires-4
     returns-2
     returns-3
     returns-4)

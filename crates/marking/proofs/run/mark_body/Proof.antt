@@ -10,7 +10,7 @@ use Rattle.sheets.specs.RunSheet.{readOpening}
 use Rattle.marking.specs.Runs.{startAllowed}
 use Rattle.marking.specs.Held.{perVariable, stateOf}
 use Rattle.marking.specs.Marking.{closeRun}
-use Rattle.marking.proofs.JumpLaws.{test-failed, test-passed}
+use Rattle.marking.proofs.ListFacts.{test-failed, test-passed}
 use Rattle.marking.proofs.RunCodeRead.{opening-known, opening-placed, opening-read, opening-refused}
 use Rattle.marking.proofs.RunCode.{opening-stops, opening-fails, opening-runs}
 use Rattle.marking.proofs.run.mark_body.Statement.{statement}
@@ -25,8 +25,8 @@ opening-requires c κs = search needs
 enum-known-told : tie.Need-enum-known-told
 enum-known-told c = search needs
 
-on-run-requires : tie.Need-on-run-requires
-on-run-requires c κs =
+on-second-requires : tie.Need-on-second-requires
+on-second-requires c κs =
     let a = c .before .before .before .before .before .before .before .before .args in
     let p = c .before .before .before .before .before .before .before .before .pre in
     let call = c .before .before .before .before .opening in
@@ -49,8 +49,8 @@ start-allowed-requires c κs =
     let k = opening-known (now (a .model)) (now (a .index)) (now (a .s)) 4 (call .result) (told .0 .0) (told .0 .1 .0) (told .0 .1 .1 .0) (told .0 .1 .1 .1 .0) (p .1 .0) (call .ensures .1) (told .1) in
     (p .0, (k .located, (k .below, k .small)))
 
-on-run-requires-2 : tie.Need-on-run-requires-2
-on-run-requires-2 c κs = search needs
+on-second-requires-2 : tie.Need-on-second-requires-2
+on-second-requires-2 c κs = search needs
 
 returns : tie.Need-returns
 returns c =
@@ -66,7 +66,7 @@ returns c =
     let next = told .0 .1 .1 .1 .0 in
     let reads : readOpening m s 4 ≡ got (record { q = q; steps = steps; place = 10; location = location; values = perVariable index (call .result .values) }) next = opening-read index 4 (readOpening m s 4) (call .result) (call .ensures .0) q steps location next (told .1) in
     let fails : false ≡ startAllowed m q (stateOf index location (call .result .values)) = test-failed (c .before .before .start-allowed .result) (c .before .if1 .taken) (c .before .before .start-allowed .ensures) in
-    c .on-run2 .ensures ∙ opening-fails m s (readOpening m s 4) index (call .result .values) q steps 10 location next reads fails
+    c .on-second2 .ensures ∙ opening-fails m s (readOpening m s 4) index (call .result .values) q steps 10 location next reads fails
 
 mark-steps-requires : tie.Need-mark-steps-requires
 mark-steps-requires c κs =
@@ -95,7 +95,7 @@ returns-2 c =
     let m = modelFrom (now (a .model)) index in
     let s = now (a .s) in
     let reads : readOpening m s 4 ≡ refused (told .0 .0) (told .0 .1 .0) = opening-refused index 4 (readOpening m s 4) (call .result) (call .ensures .0) (told .0 .0) (told .0 .1 .0) (told .1) in
-    c .on-run .ensures ∙ opening-stops m s (readOpening m s 4) (told .0 .0) (told .0 .1 .0) reads
+    c .on-second .ensures ∙ opening-stops m s (readOpening m s 4) (told .0 .0) (told .0 .1 .0) reads
 
 returns-3 : tie.Need-returns-3
 returns-3 c =
@@ -122,10 +122,10 @@ mark-body-spec =
     location-count-requires
     opening-requires
     enum-known-told
-    on-run-requires
+    on-second-requires
     enum-known-told-2
     start-allowed-requires
-    on-run-requires-2
+    on-second-requires-2
     returns
     mark-steps-requires
     close-run-requires

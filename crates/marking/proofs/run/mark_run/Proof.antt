@@ -9,7 +9,6 @@ use Rattle.sheets.specs.ModelSheet.{examLimits, readModel}
 use Rattle.sheets.proofs.ChainLaws.{told-at, told-refused}
 use Rattle.sheets.proofs.GoodIndexLaws.{index-good}
 use Rattle.marking.specs.RunHeld.{runOpening}
-use Rattle.marking.specs.Marking.{answer}
 use Rattle.marking.proofs.RunCodeRead.{model-placed}
 use Rattle.marking.proofs.RunCode.{run-model, run-sheet}
 use Rattle.marking.proofs.run.mark_run.Statement.{statement}
@@ -21,8 +20,8 @@ read-model-requires c κs = search needs
 enum-known-next : tie.Need-enum-known-next
 enum-known-next c = search needs
 
-cast-t9 : tie.Need-cast-t9
-cast-t9 c =
+on-model-requires : tie.Need-on-model-requires
+on-model-requires c κs =
     let a = c .before .before .before .before .before .before .before .args in
     let s = now (a .model) in
     let read = c .before .before .before .before .read-model in
@@ -43,14 +42,13 @@ mark-sheet-requires c κs =
     index-good examLimits s (read .result .index) (told .0 .0) e
 
 returns : tie.Need-returns
-unfolding answer
 returns c =
-    let a = c .before .before .before .before .before .before .before .args in
+    let a = c .before .before .before .before .before .before .before .before .args in
     let s = now (a .model) in
-    let read = c .before .before .before .before .read-model in
-    let told = c .before .next .given in
+    let read = c .before .before .before .before .before .read-model in
+    let told = c .before .before .next .given in
     let e : readModel examLimits s ≡ refused (told .0 .0) (told .0 .1 .0) = told-refused (modelFrom s (read .result .index)) (readModel examLimits s) (read .ensures) (told .1) in
-    run-model examLimits s (now (a .second)) (told .0 .0) (told .0 .1 .0) e
+    c .on-model .ensures ∙ run-model examLimits s (now (a .second)) (told .0 .0) (told .0 .1 .0) e
 
 returns-2 : tie.Need-returns-2
 unfolding runOpening
@@ -69,7 +67,7 @@ mark-run-spec =
     (tie.spec
     read-model-requires
     enum-known-next
-    cast-t9
+    on-model-requires
     enum-told
     mark-sheet-requires
     returns

@@ -20,8 +20,8 @@ header-requires c κs = search needs
 enum-known-number : tie.Need-enum-known-number
 enum-known-number c = search needs
 
-on-run-requires : tie.Need-on-run-requires
-on-run-requires c κs =
+on-second-requires : tie.Need-on-second-requires
+on-second-requires c κs =
     let a = c .before .before .before .before .before .before .args in
     let s = now (a .s) in
     let told = c .before .number .given in
@@ -47,7 +47,7 @@ returns c =
     let s = now (a .s) in
     let told = c .before .before .number .given in
     let e : reading.header 3 s 0 ≡ refused (told .0 .0) (told .0 .1 .0) = sym (c .before .before .before .before .header .ensures) ∙ field-refused (told .1) in
-    c .on-run .ensures ∙ opening-stops m s (runOpening m s 0) (told .0 .0) (told .0 .1 .0) (header-stops 3 (readOpening m) s (told .0 .0) (told .0 .1 .0) e)
+    c .on-second .ensures ∙ opening-stops m s (runOpening m s 0) (told .0 .0) (told .0 .1 .0) (header-stops 3 (readOpening m) s (told .0 .0) (told .0 .1 .0) e)
 
 returns-2 : tie.Need-returns-2
 unfolding runOpening
@@ -65,7 +65,7 @@ mark-sheet-spec =
     (tie.spec
     header-requires
     enum-known-number
-    on-run-requires
+    on-second-requires
     enum-told
     mark-body-requires
     returns

@@ -9,7 +9,8 @@ use Rattle.sheets.specs.RunSheet.{Step, readStep}
 use Rattle.sheets.specs.RunAnswers.{stepOf}
 use Rattle.marking.specs.Runs.{stepAllowed}
 use Rattle.marking.specs.Held.{perVariable, stateOf}
-use Rattle.marking.proofs.JumpLaws.{step-after, test-failed, test-passed}
+use Rattle.marking.proofs.ListFacts.{test-failed, test-passed}
+use Rattle.marking.proofs.JumpLaws.{step-after}
 use Rattle.marking.proofs.RunCodeRead.{step-known, step-read, step-refused}
 use Rattle.marking.proofs.RunCode.{mark-refused, refused-placed, step-placed, mark-failed, mark-passed}
 use Rattle.marking.proofs.run.mark_step.Statement.{statement}

@@ -1,8 +1,8 @@
 -- Two rows, or none. Assumes nothing.
-use mathlib.Core.Path.{_≡_, refl, sym, ap, _∙_, subst}
+use mathlib.Core.Path.{_≡_, sym, ap, _∙_}
 use mathlib.Core.Bool.{true, false}
 use mathlib.Core.List.{List, [], _∷_, _++_, append-nil, append-assoc}
-use Prim.Native.Nat.{ℕ, _+_, _*_, _-_, _≤_, _<_}
+use Prim.Native.Nat.{ℕ, _<_}
 use native.Mathlib.Omega.{arith}
 use borrow.Author.Needs.{needs}
 use borrow.Author.Tests.{eq-eqb, ne-eqb}
@@ -10,10 +10,11 @@ use denote.Ref.{now}
 use lib.Dec.{eqb}
 use lib.ListN.{length, getD}
 use Rattle.sheets.specs.Joint.{stays}
-use Rattle.sheets.specs.Index.{entry, ownerPlace, componentPlace, switchPlace, GoodSpan}
+use Rattle.sheets.specs.Index.{entry, ownerPlace}
 use Rattle.marking.specs.Tables.{Listed, linesIn}
-use Rattle.marking.specs.Listing.{line, keptLines, switchLine, stayingLine}
-use Rattle.marking.proofs.TableLaws.{lines-count, there}
+use Rattle.marking.specs.Listing.{line}
+use Rattle.marking.proofs.ListFacts.{there}
+use Rattle.marking.proofs.TableLaws.{lines-count}
 use Rattle.marking.proofs.ModeLines.{variable-stays, variable-moves}
 use Rattle.marking.proofs.tables.push_variable.Statement.{statement}
 use Rattle.marking.proofs.tables.push_variable.Tie as tie

@@ -8,7 +8,9 @@ use lib.IntN.{pos}
 use lib.ListN.{length, replicate}
 use lib.Seq.{paste}
 use Rattle.sheets.specs.Index.{entry}
-use Rattle.marking.proofs.ValueStates.{side-for, values-taken, values-small, good-invariant, admissible-told}
+use Rattle.marking.proofs.CountLaws.{known-modes}
+use Rattle.marking.proofs.GoodLines.{invariant-good}
+use Rattle.marking.proofs.ValueStates.{side-for, values-taken, values-small, admissible-told}
 use Rattle.marking.proofs.values.admissible.Statement.{statement}
 use Rattle.marking.proofs.values.admissible.Tie as tie
 
@@ -40,9 +42,8 @@ modes-hold-requires c κs =
     let a = s .args in
     let g = s .pre .0 in
     let m = c .before .modes-at in
-    let w = s .pre .1 .1 .1 in
-    let long : entry (now (a .index)) 1 ≤ length (m .result) = omega (arith, modes-length (c .before), g .few) in (
-      (g .few, good-invariant g (a .location) (m .result) _ (m .ensures) (s .pre .1 .0) long),
+    let w = s .pre .1 .1 .1 in (
+      (g .few, (omega arith, invariant-good (now (a .model)) (now (a .index)) (m .result) g (known-modes (a .location) (m .result) _ g (s .pre .1 .0) (m .ensures)))),
       (values-small (a .values) (a .values) (c .before .before .side-by-side .result) (entry (now (a .index)) 0) (values-length s) (values-length s) (g .most) (point-is (c .before .before)) w w (g .least), s .pre .1 .1 .0),
     )
 

@@ -14,7 +14,9 @@ use Rattle.sheets.specs.Index.{modelFrom, entry}
 use Rattle.marking.specs.Runs as runs
 use Rattle.marking.specs.Held.{stateOf, perVariable, sameAt}
 use Rattle.marking.proofs.ValueLaws.{flow-fails, flow-lasts, flow-stands}
-use Rattle.marking.proofs.ValueStates.{changes-taken, changes-small, good-flow, flow-told}
+use Rattle.marking.proofs.CountLaws.{known-modes}
+use Rattle.marking.proofs.GoodLines.{flow-good}
+use Rattle.marking.proofs.ValueStates.{changes-taken, changes-small, flow-told}
 use Rattle.marking.proofs.values.flow_rule.Statement.{statement}
 use Rattle.marking.proofs.values.flow_rule.Tie as tie
 
@@ -55,9 +57,8 @@ modes-hold-requires c κs =
     let a = s .args in
     let g = s .pre .0 in
     let m = c .before .modes-at in
-    let point = c .before .before .differences in
-    let long : entry (now (a .index)) 1 ≤ length (m .result) = omega (arith, modes-length (c .before), g .few) in (
-      (g .few, good-flow g (a .location) (m .result) _ (m .ensures) (s .pre .1 .0) long),
+    let point = c .before .before .differences in (
+      (g .few, (omega arith, flow-good (now (a .model)) (now (a .index)) (m .result) g (known-modes (a .location) (m .result) _ g (s .pre .1 .0) (m .ensures)))),
       (changes-small (a .next) (a .values) (point .result) (entry (now (a .index)) 0) (next-length s) (values-length s) (g .most) (point .ensures) (s .pre .1 .1 .1 .1) (s .pre .1 .1 .1 .0) (g .least), s .pre .1 .1 .0),
     )
 

@@ -1,8 +1,7 @@
 -- The rows of the modes that are left hold exactly when those of all do. Assumes nothing.
 use mathlib.Core.Path.{_≡_}
-use Prim.Native.Nat.{_+_, _*_, _-_, _≤_, _<_}
+use Prim.Native.Nat.{_+_, _-_, _≤_, _<_}
 use native.Mathlib.Omega.{arith}
-use borrow.Author.Needs.{needs}
 use borrow.Author.Tests.{not-true, not-false}
 use denote.Ref.{now}
 use Rattle.farkas.specs.Lists.{every}
@@ -35,40 +34,22 @@ loop-holds c =
 below : (c : tie.In-loop Inv-loop μ-loop) → c .before .loop .k < entry (now (c .before .before .before .before .before .args .index)) 1
 below c = omega (arith, c .loop-test .taken, c .before .before .number-at2 .ensures)
 
-room : (c : tie.After-byte-wide Inv-loop μ-loop) → 16 + 219 * c .before .before .loop .k + 3 + 7 * c .byte-wide .result + c .before .before .before .before .before .before .args .offset + 1 < 988
+room : (c : tie.After-mode-place Inv-loop μ-loop) → c .mode-place .result + 1 < 988
 room c =
     let s = c .before .before .before .before .before .before in
-    mode-place (s .pre .0 .1) (s .pre .0 .0) (c .before .before .before .before .number-at .result) (c .before .before .loop .k) (c .byte-wide .result) (below (c .before)) (c .before .before .before .before .number-at .ensures) (c .byte-wide .ensures)
+    mode-place (s .pre .0 .1) (s .pre .0 .0) (c .before .before .before .before .number-at .result) (c .before .before .loop .k) (c .mode-place .result) (below (c .before)) (c .before .before .before .before .number-at .ensures) (c .mode-place .ensures)
 
-mul-place : tie.Need-mul-place Inv-loop μ-loop
-mul-place c = omega (arith, below c, c .before .before .before .before .before .pre .0 .0)
+array-read-mode-place : tie.Need-array-read-mode-place Inv-loop μ-loop
+array-read-mode-place c = omega (arith, below c, c .before .before .before .before .before .pre .0 .0)
 
-add-place : tie.Need-add-place Inv-loop μ-loop
-add-place c = omega (arith, below c, c .before .before .before .before .before .pre .0 .0)
-
-add-place-2 : tie.Need-add-place-2 Inv-loop μ-loop
-add-place-2 c = omega (arith, below c, c .before .before .before .before .before .pre .0 .0)
-
-array-read-byte-wide : tie.Need-array-read-byte-wide Inv-loop μ-loop
-array-read-byte-wide c = omega (arith, below c, c .before .before .before .before .before .pre .0 .0)
-
-byte-wide-requires : tie.Need-byte-wide-requires Inv-loop μ-loop
-byte-wide-requires c κs = search needs
-
-mul-place-2 : tie.Need-mul-place-2 Inv-loop μ-loop
-mul-place-2 c = omega (arith, room c)
-
-add-place-3 : tie.Need-add-place-3 Inv-loop μ-loop
-add-place-3 c = omega (arith, room c)
-
-add-place-4 : tie.Need-add-place-4 Inv-loop μ-loop
-add-place-4 c = omega (arith, room c)
+mode-place-requires : tie.Need-mode-place-requires Inv-loop μ-loop
+mode-place-requires c κs = (omega (arith, below c, c .before .before .before .before .before .pre .0 .0), c .before .before .before .before .before .pre .0 .1 .0)
 
 condition-holds-requires : tie.Need-condition-holds-requires Inv-loop μ-loop
 condition-holds-requires c κs =
     let s = c .before .before .before .before .before .before in
     let n = c .before .before .before .before .number-at in
-    ((room c, mode-span (s .pre .0 .1) (s .pre .0 .0) (n .result) (c .before .before .loop .k) (c .byte-wide .result) (below (c .before)) (n .ensures) (c .byte-wide .ensures)), (point-for (n .ensures) (s .pre .1 .0), s .pre .1 .1))
+    ((room c, mode-span (s .pre .0 .1) (s .pre .0 .0) (n .result) (c .before .before .loop .k) (c .mode-place .result) (below (c .before)) (n .ensures) (c .mode-place .ensures)), (point-for (n .ensures) (s .pre .1 .0), s .pre .1 .1))
 
 -- what a turn tells of its number
 told : (c : tie.After-condition-holds Inv-loop μ-loop)
@@ -77,7 +58,7 @@ told : (c : tie.After-condition-holds Inv-loop μ-loop)
 told c =
     let s = c .before .before .before .before .before .before .before in
     let n = c .before .before .before .before .before .number-at in
-    mode-told (s .pre .0 .1) (s .pre .0 .0) (n .result) (c .before .before .before .loop .k) (c .before .byte-wide .result) (below (c .before .before)) (n .ensures) (c .before .byte-wide .ensures) (s .args .q) (now (s .args .point)) (c .condition-holds .result) (c .condition-holds .ensures)
+    mode-told (s .pre .0 .1) (s .pre .0 .0) (n .result) (c .before .before .before .loop .k) (c .before .mode-place .result) (below (c .before .before)) (n .ensures) (c .before .mode-place .ensures) (s .args .q) (now (s .args .point)) (c .condition-holds .result) (c .condition-holds .ensures)
 
 returns : tie.Need-returns Inv-loop μ-loop
 returns c =
@@ -121,14 +102,8 @@ modes-hold-spec =
     number-at-requires
     number-at-requires-2
     loop-holds
-    mul-place
-    add-place
-    add-place-2
-    array-read-byte-wide
-    byte-wide-requires
-    mul-place-2
-    add-place-3
-    add-place-4
+    array-read-mode-place
+    mode-place-requires
     condition-holds-requires
     returns
     add-k

@@ -28,31 +28,13 @@ moves c = ne-eqb _ _ (c .if1 .left)
 known : (c : tie.Else1) → c .before .before .args .i < entry (now (c .before .before .args .index)) (componentPlace (c .before .before .args .k) + 2)
 known c = c .before .before .pre .1 .0 .1 (moves c)
 
-room : (c : tie.After-byte-wide) → 16 + 219 * c .before .before .before .args .k + 59 + 5 * c .byte-wide .result + 3 + 1 < 988
+room : (c : tie.After-switch-place) → c .switch-place .result + 1 < 988
 room c =
     let s = c .before .before .before in
-    switch-place (s .pre .0) (entry (now (s .args .index)) 0) (s .args .k) (s .args .i) (c .byte-wide .result) (s .pre .1 .0 .0) (known (c .before)) refl (c .byte-wide .ensures)
+    switch-place (s .pre .0) (entry (now (s .args .index)) 0) (s .args .k) (s .args .i) (c .switch-place .result) (s .pre .1 .0 .0) (known (c .before)) refl (c .switch-place .ensures)
 
-mul-place : tie.Need-mul-place
-mul-place c = omega (arith, c .before .before .pre .1 .0 .0, c .before .before .pre .0 .few)
-
-add-place : tie.Need-add-place
-add-place c = omega (arith, c .before .before .pre .1 .0 .0, c .before .before .pre .0 .few)
-
-add-place-2 : tie.Need-add-place-2
-add-place-2 c = omega (arith, c .before .before .pre .1 .0 .0, c .before .before .pre .0 .few)
-
-byte-wide-requires : tie.Need-byte-wide-requires
-byte-wide-requires c κs = search needs
-
-mul-place-2 : tie.Need-mul-place-2
-mul-place-2 c = omega (arith, room c)
-
-add-place-3 : tie.Need-add-place-3
-add-place-3 c = omega (arith, room c)
-
-add-place-4 : tie.Need-add-place-4
-add-place-4 c = omega (arith, room c)
+switch-place-requires : tie.Need-switch-place-requires
+switch-place-requires c κs = omega (arith, c .before .before .pre .1 .0 .0, c .before .before .pre .0 .few)
 
 number-at-requires : tie.Need-number-at-requires
 number-at-requires c κs = search needs
@@ -63,27 +45,21 @@ mul-condition-holds c = omega (arith, c .number-at .ensures, c .before .before .
 condition-holds-requires : tie.Need-condition-holds-requires
 condition-holds-requires c κs =
     let s = c .before .before .before .before in
-    let w = switch-span (s .pre .0) (c .number-at .result) (s .args .k) (s .args .i) (c .before .byte-wide .result) (s .pre .1 .0 .0) (known (c .before .before)) (c .number-at .ensures) (c .before .byte-wide .ensures) in
+    let w = switch-span (s .pre .0) (c .number-at .result) (s .args .k) (s .args .i) (c .before .switch-place .result) (s .pre .1 .0 .0) (known (c .before .before)) (c .number-at .ensures) (c .before .switch-place .ensures) in
     ((room (c .before), w), (point-for (ap (λ (m : ℕ). 2 * m) (c .number-at .ensures)) (s .pre .1 .1 .0), s .pre .1 .1 .1))
 
 returns-2 : tie.Need-returns-2
 returns-2 c =
     let s = c .before .before .before .before .before in
     let n = c .before .number-at in
-    switch-told (s .pre .0) (n .result) (s .args .k) (s .args .i) (c .before .before .byte-wide .result) (s .pre .1 .0 .0) (known (c .before .before .before)) (n .ensures) (c .before .before .byte-wide .ensures) (s .args .q) (now (s .args .point)) (c .condition-holds .result) (moves (c .before .before .before)) (c .condition-holds .ensures)
+    switch-told (s .pre .0) (n .result) (s .args .k) (s .args .i) (c .before .before .switch-place .result) (s .pre .1 .0 .0) (known (c .before .before .before)) (n .ensures) (c .before .before .switch-place .ensures) (s .args .q) (now (s .args .point)) (c .condition-holds .result) (moves (c .before .before .before)) (c .condition-holds .ensures)
 
 pub move-holds-spec : {M : Type 1} → statement M
 move-holds-spec =
     tie.close
     (tie.spec
     returns
-    mul-place
-    add-place
-    add-place-2
-    byte-wide-requires
-    mul-place-2
-    add-place-3
-    add-place-4
+    switch-place-requires
     number-at-requires
     mul-condition-holds
     condition-holds-requires

@@ -13,7 +13,9 @@ use Rattle.sheets.specs.Joint.{countUp}
 use Rattle.sheets.specs.Index.{modelFrom, entry}
 use Rattle.marking.specs.Held.{stateOf, modeHolds}
 use Rattle.marking.proofs.ValueLaws.{third-fails, third-left}
-use Rattle.marking.proofs.ValueStates.{side-for, values-taken, values-small, modes-small, good-initial, start-told, start-refused}
+use Rattle.marking.proofs.CountLaws.{known-modes}
+use Rattle.marking.proofs.GoodLines.{initial-good}
+use Rattle.marking.proofs.ValueStates.{side-for, values-taken, values-small, start-told, start-refused}
 use Rattle.marking.proofs.values.start_allowed.Statement.{statement}
 use Rattle.marking.proofs.values.start_allowed.Tie as tie
 
@@ -44,11 +46,8 @@ modes-at-requires c κs = search needs
 all-start-requires : tie.Need-all-start-requires
 all-start-requires c κs =
     let s = c .before .before .before .before in
-    let a = s .args in
-    let g = s .pre .0 in
     let m = c .modes-at in
-    let long : entry (now (a .index)) 1 ≤ length (m .result) = omega (arith, modes-length c, g .few) in
-    (g .few, modes-small g (a .location) (m .result) _ (m .ensures) (s .pre .1 .0) long)
+    (s .pre .0, known-modes (s .args .location) (m .result) _ (s .pre .0) (s .pre .1 .0) (m .ensures))
 
 returns-2 : tie.Need-returns-2
 returns-2 c =
@@ -74,9 +73,8 @@ modes-hold-requires c κs =
     let a = s .args in
     let g = s .pre .0 in
     let m = c .before .before .before .before .before .modes-at in
-    let w = s .pre .1 .1 .1 in
-    let long : entry (now (a .index)) 1 ≤ length (m .result) = omega (arith, modes-length (c .before .before .before .before .before), g .few) in (
-      (g .few, good-initial g (a .location) (m .result) _ (m .ensures) (s .pre .1 .0) long),
+    let w = s .pre .1 .1 .1 in (
+      (g .few, (omega arith, initial-good (now (a .model)) (now (a .index)) (m .result) g (known-modes (a .location) (m .result) _ g (s .pre .1 .0) (m .ensures)))),
       (values-small (a .values) (a .values) (c .before .side-by-side .result) (entry (now (a .index)) 0) (values-length s) (values-length s) (g .most) (point-is (c .before)) w w (g .least), s .pre .1 .1 .0),
     )
 
