@@ -34,7 +34,24 @@ struct silfoddra_answer {
     uint32_t score;
 };
 
-/* Both calls take two sheets as they were handed in: the bytes and how many there are. A pointer is never null, even where its
+/* Which obligation of a certificate has a number. */
+struct silfoddra_which {
+    /* 0, or why there is none: as in an answer, and 5 where the number is not below that of the obligations. */
+    uint32_t number;
+    /* Where the place is: 1 if number is 0, else as in an answer; 2, the call itself, for a number out of range. */
+    uint32_t sheet;
+    /* The length of the second sheet if number is 0, else the offset of what is refused; 0 for a number out of range. */
+    uint32_t place;
+    /* 0 start, 1 flow, 2 unsafe, 3 jump. This and the two fields below are 0 in a refusal. */
+    uint32_t kind;
+    /* The location; for a jump the number of the joint switch, from 0, in the order of the joint list. */
+    uint32_t subject;
+    /* The number, from 0, of the region row that is to be proved, in the region of the location or of the joint switch's
+       target; for an unsafe condition its number in the model. */
+    uint32_t line;
+};
+
+/* The calls take sheets as they were handed in: the bytes and how many there are. A pointer is never null, even where its
    length is 0. The bytes are only read, and nothing of them is kept. */
 
 /* Marks a certificate. Accepted: no run of the model, of any length and with any values, ever reaches an unsafe state. */
@@ -44,6 +61,39 @@ struct silfoddra_answer silfoddra_mark_certificate(const uint8_t *model, size_t 
 /* Marks a run sheet. Accepted: it is a run of the model, and it ends in an unsafe state. */
 struct silfoddra_answer silfoddra_mark_run(const uint8_t *model, size_t model_length,
                                            const uint8_t *second, size_t second_length);
+
+/* A joint switch of a model: what happens at once when an event occurs in a location. Seven bytes, with none between them. */
+struct silfoddra_joint {
+    /* The location that it leaves, and its event: 0 for a switch that moves one component alone. */
+    uint8_t source;
+    uint8_t event;
+    /* For each component the number of the switch by which it moves; 255 for a component that stays, or that the model has not. */
+    uint8_t switches[4];
+    /* The location that it leads to. */
+    uint8_t target;
+};
+
+/* Lists a model's joint switches in a table that the caller lends, by location, then event, then switch numbers. The answer has
+   number 0, sheet 0, the model's length as its place, and done, the records written: the first ones of the table, in order. Later
+   records keep their content. A refusal writes nothing: the model's own, or 15 at sheet 2, whose place is the count of records
+   needed. The table's pointer, too, is never null, even where its length is 0. */
+struct silfoddra_answer silfoddra_joint_list(const uint8_t *model, size_t model_length,
+                                             struct silfoddra_joint *table, size_t table_length);
+
+/* Beside the marking. Obligations, and hypotheses of an obligation, are numbered from 0 in the order of document 01. The model
+   is read, then the second sheet, a certificate, up to the end of its regions; its proofs are not read. */
+
+/* Where the row of one hypothesis stands: number 0, and its sheet and the offset of its first byte there, or 2 and 0 for a row
+   that no sheet holds; done and score are 0. A sheet is refused as in marking; then 5 at sheet 2, place 0, where there is no such
+   obligation or hypothesis. */
+struct silfoddra_answer silfoddra_show_row(const uint8_t *model, size_t model_length,
+                                           const uint8_t *second, size_t second_length,
+                                           uint32_t obligation, uint32_t hypothesis);
+
+/* Which obligation has a number: whether it is of a start, a flow, an unsafe condition or a jump, where, and which row. */
+struct silfoddra_which silfoddra_which(const uint8_t *model, size_t model_length,
+                                       const uint8_t *second, size_t second_length,
+                                       uint32_t obligation);
 
 #ifdef __cplusplus
 }

@@ -1,4 +1,7 @@
 // The marker's entries for the exam desk, a C program that hands over the sheets as bytes. include/marker.h has their prototypes.
+pub mod show;
+pub mod table;
+
 use marking::Answer;
 use marking::certificate::mark_certificate;
 use marking::run::mark_run;

@@ -32,3 +32,6 @@ pub mod JointMarks
 pub mod ListLaws
 pub mod CloseLaws
 pub mod ProgramLaws
+pub mod RecordLaws
+pub mod FindLaws
+pub mod ShowLaws

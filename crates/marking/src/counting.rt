@@ -73,7 +73,7 @@ pub fn modes_fit(model: &[u8], index: &[u16; 988], u: usize, modes: [u8; 4]) -> 
 }
 
 // 1 for yes, 0 for no.
-fn one_if(yes: bool) -> u32
+pub fn one_if(yes: bool) -> u32
     ensures { λ r. ⌜ r ≡ bit yes ⌝ }
 {
     if yes { 1 } else { 0 }
@@ -95,7 +95,7 @@ fn fitting_count(model: &[u8], index: &[u16; 988], modes: [u8; 4]) -> u32
 }
 
 // How many rows a location's region has.
-fn region_rows(
+pub fn region_rows(
     model: &[u8],
     index: &[u16; 988],
     second: &[u8],
@@ -111,7 +111,7 @@ fn region_rows(
 
 // How many goals a location has: its region's rows from the start, if all its modes are start modes; after a flow; and one for each unsafe
 // condition that fits.
-fn location_goals(
+pub fn location_goals(
     model: &[u8],
     index: &[u16; 988],
     second: &[u8],
@@ -151,7 +151,7 @@ fn all_location_goals(
 }
 
 // How many goals a joint switch has, found by its number: the rows of its target's region.
-fn target_goals(
+pub fn target_goals(
     model: &[u8],
     index: &[u16; 988],
     second: &[u8],
@@ -171,7 +171,7 @@ fn target_goals(
 }
 
 // How many goals the joint switches of an event have, from a location with these modes.
-fn event_goals(
+pub fn event_goals(
     model: &[u8],
     index: &[u16; 988],
     second: &[u8],
@@ -196,7 +196,7 @@ fn event_goals(
 }
 
 // How many goals the joint switches from a location have.
-fn jump_goals(
+pub fn jump_goals(
     model: &[u8],
     index: &[u16; 988],
     second: &[u8],

@@ -45,7 +45,7 @@ fn push_here(
 }
 
 // The table of a start: initial rows, invariants.
-fn start_table(
+pub fn start_table(
     model: &[u8],
     index: &[u16; 988],
     second: &[u8],
@@ -62,7 +62,7 @@ fn start_table(
 }
 
 // The table of a flow: region and invariants on x, invariants on x', flow rows, and the time.
-fn flow_table(
+pub fn flow_table(
     model: &[u8],
     index: &[u16; 988],
     second: &[u8],
@@ -83,7 +83,7 @@ fn flow_table(
 }
 
 // The table of an unsafe condition: region, invariants, unsafe rows.
-fn unsafe_table(
+pub fn unsafe_table(
     model: &[u8],
     index: &[u16; 988],
     second: &[u8],
@@ -104,7 +104,7 @@ fn unsafe_table(
 }
 
 // The table of a joint switch: source region and invariants on x, target invariants on x', jump rows, the rows of staying variables.
-fn jump_table(
+pub fn jump_table(
     model: &[u8],
     index: &[u16; 988],
     second: &[u8],

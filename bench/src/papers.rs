@@ -1,0 +1,83 @@
+//! The papers that are timed, and the number that each is answered with.
+
+use crate::measure::Call;
+use differential::papers::{Random, certificates, extremes, models};
+
+pub struct Case {
+    pub name: String,
+    pub call: Call,
+    pub model: Vec<u8>,
+    pub second: Vec<u8>,
+    pub number: u32,
+}
+
+fn case(name: &str, call: Call, number: u32, paper: extremes::Paper) -> Case {
+    Case { name: name.to_string(), call, model: paper.model.bytes, second: paper.second.bytes, number }
+}
+
+/// Different kinds of papers, from the smallest to those near the limits.
+pub fn cases() -> Vec<Case> {
+    let tank = extremes::all().swap_remove(0);
+    let cases = vec![
+        case("T with C", Call::Certificate, 0, tank),
+        medium_certificate(),
+        case("near all limits, 6,420 proofs", Call::Certificate, 0, extremes::near_limits()),
+        case("6,524 proofs of hardly any entries", Call::Certificate, 0, extremes::longest_certificate()),
+        products(&[16, 16, 12]),
+        case("48 proofs of 64 to 120 entries", Call::Certificate, 0, extremes::many_entries()),
+        case("4,095 steps, 1 variable", Call::Run, 0, extremes::long_run(4_095)),
+        case("870 steps, 8 variables, full conditions", Call::Run, 0, extremes::wide_run()),
+        case("2^20 joint switches, refused by 8", Call::Certificate, 8, extremes::joint_switches(&[32; 4], 0)),
+        case("4,096 joint switches, no regions", Call::Certificate, 0, extremes::joint_switches(&[16; 3], 0)),
+        case("64 locations, 15 events shared by all, no regions", Call::Certificate, 0, extremes::shared_events()),
+        case("model of 32,768 bytes", Call::Run, 0, extremes::longest_model()),
+    ];
+    #[cfg(feature = "beside")]
+    let cases = cases.into_iter().chain(cases_beside()).collect();
+    cases
+}
+
+#[cfg(feature = "beside")]
+fn cases_beside() -> Vec<Case> {
+    vec![
+        case("4,096 joint switches", Call::JointList, 0, extremes::joint_switches(&[16; 3], 0)),
+        case("near all limits", Call::ShowRow(0), 0, extremes::near_limits()),
+        case("near all limits", Call::ShowRow(6_419), 0, extremes::near_limits()),
+    ]
+}
+
+/// The first random certificate of 2,000 to 4,000 bytes from a fixed seed.
+fn medium_certificate() -> Case {
+    let found = (0..).find_map(|round| {
+        let random = &mut Random::new(1, round);
+        let plan = models::random_plan(random, 6);
+        certificates::random_certificate(random, plan).filter(|paper| (2_000..4_000).contains(&paper.second.bytes.len()))
+    });
+    let paper = found.expect("rounds go on until one is found");
+    Case { name: "medium".into(), call: Call::Certificate, model: paper.model.bytes, second: paper.second.bytes, number: 0 }
+}
+
+/// A certificate with one proof of one entry for each joint switch.
+fn products(switches: &[usize]) -> Case {
+    let count: usize = switches.iter().product();
+    Case {
+        name: format!("{count} joint switches, a proof of one entry for each"),
+        call: Call::Certificate,
+        model: extremes::products(switches).bytes,
+        second: extremes::products_certificate(switches).bytes,
+        number: 0,
+    }
+}
+
+/// Papers of doubling size.
+pub fn growing() -> Vec<(&'static str, Vec<Case>)> {
+    let certificates = [[2, 4, 4], [4, 4, 4], [4, 4, 8], [4, 8, 8], [8, 8, 8], [8, 8, 16], [8, 16, 16]];
+    let runs = [64, 128, 256, 512, 1_024, 2_048, 4_095];
+    vec![
+        ("Certificates of doubling size:", certificates.iter().map(|switches| products(switches)).collect()),
+        (
+            "Runs of doubling length:",
+            runs.iter().map(|&steps| case(&format!("{steps} steps"), Call::Run, 0, extremes::long_run(steps))).collect(),
+        ),
+    ]
+}

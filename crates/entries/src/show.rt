@@ -1,0 +1,30 @@
+// Beside the marking: where the row of a hypothesis stands, and which obligation has a number.
+use marking::Answer;
+use marking::Which;
+use marking::show::show_answer;
+use marking::show::which;
+ghost use mathlib.Core.Path.{_≡_};
+ghost use Rattle.marking.specs.Beside.{showAnswer};
+ghost use Rattle.marking.specs.Finding.{whichObligation};
+ghost use Rattle.sheets.specs.ModelSheet.{examLimits};
+
+// The sister of show row: the number, with the row's sheet and offset.
+#[no_mangle]
+pub extern "C" fn silfoddra_show_row(
+    model: &[u8],
+    second: &[u8],
+    obligation: u32,
+    hypothesis: u32,
+) -> Answer
+    ensures { λ r. ⌜ r ≡ showAnswer examLimits (now (model .entry)) (now (second .entry)) obligation hypothesis ⌝ }
+{
+    show_answer(model, second, obligation, hypothesis)
+}
+
+// Which obligation has a number: its kind, its location or joint switch, and its line.
+#[no_mangle]
+pub extern "C" fn silfoddra_which(model: &[u8], second: &[u8], obligation: u32) -> Which
+    ensures { λ r. ⌜ r ≡ whichObligation examLimits (now (model .entry)) (now (second .entry)) obligation ⌝ }
+{
+    which(model, second, obligation)
+}

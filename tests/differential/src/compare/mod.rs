@@ -1,0 +1,162 @@
+//! One comparison: every call of the library against the independent marker on two sheets.
+
+#[cfg(feature = "joint-list")]
+mod joint_list;
+#[cfg(feature = "show-row")]
+mod rows;
+
+use differential::fence::{Edge, Fence};
+use differential::papers::{Random, Sheet};
+use differential::{library, marker};
+use std::collections::BTreeMap;
+use std::fmt::Debug;
+use std::path::Path;
+
+/// What a call gave on both sides, and on which paper.
+pub struct Mismatch {
+    call: String,
+    origin: String,
+    kind: String,
+    library: String,
+    marker: String,
+    model: Vec<u8>,
+    second: Vec<u8>,
+}
+
+pub type Compared<T> = Result<T, Box<Mismatch>>;
+
+impl Mismatch {
+    /// Prints both answers and writes the sheets as hex files.
+    pub fn report(&self, folder: &Path) {
+        println!("MISMATCH in {}: {} ({})", self.call, self.origin, self.kind);
+        println!("  library: {}", self.library);
+        println!("  marker:  {}", self.marker);
+        for (name, bytes) in [("mismatch-model.hex", &self.model), ("mismatch-second.hex", &self.second)] {
+            let hex: String = bytes.iter().map(|byte| format!("{byte:02x}")).collect();
+            let path = folder.join(name);
+            match std::fs::write(&path, format!("{hex}\n")) {
+                Ok(()) => println!("  {} ({} bytes): {hex}", path.display(), bytes.len()),
+                Err(error) => println!("  {} cannot be written ({error}): {hex}", path.display()),
+            }
+        }
+    }
+}
+
+/// How many papers of a kind were compared and accepted, and how many proofs and steps the accepted ones have.
+#[derive(Default)]
+struct Count {
+    compared: u64,
+    accepted: u64,
+    passed: u64,
+}
+
+pub struct Comparison {
+    /// What to say of the paper at hand, should it show a mismatch.
+    pub origin: String,
+    counts: BTreeMap<String, Count>,
+    /// How often each number was the answer, by call.
+    certificate_numbers: [u64; 16],
+    run_numbers: [u64; 16],
+    other_calls: u64,
+    fences: Option<Fences>,
+}
+
+struct Fences {
+    model: Fence,
+    second: Fence,
+    #[cfg(feature = "joint-list")]
+    table: Fence,
+}
+
+impl Comparison {
+    pub fn new(guard: bool) -> Self {
+        let fences = || Fences {
+            model: Fence::new(40_000),
+            second: Fence::new(40_000),
+            #[cfg(feature = "joint-list")]
+            table: Fence::new(40_000),
+        };
+        Comparison {
+            origin: String::new(),
+            counts: BTreeMap::new(),
+            certificate_numbers: [0; 16],
+            run_numbers: [0; 16],
+            other_calls: 0,
+            fences: guard.then(fences),
+        }
+    }
+
+    pub fn papers(&self) -> u64 {
+        self.counts.values().map(|count| count.compared).sum()
+    }
+
+    pub fn print_counts(&self) {
+        println!("{:<32} {:>9} {:>9} {:>17}", "papers", "compared", "accepted", "proofs and steps");
+        let mut all = Count::default();
+        for (kind, count) in &self.counts {
+            println!("{kind:<32} {:>9} {:>9} {:>17}", count.compared, count.accepted, count.passed);
+            all.compared += count.compared;
+            all.accepted += count.accepted;
+            all.passed += count.passed;
+        }
+        println!("{:<32} {:>9} {:>9} {:>17}", "all", all.compared, all.accepted, all.passed);
+        for (call, numbers) in [("certificate", &self.certificate_numbers), ("run", &self.run_numbers)] {
+            let seen: Vec<String> =
+                numbers.iter().enumerate().filter(|seen| *seen.1 > 0).map(|(n, times)| format!("{n}: {times}")).collect();
+            println!("answers of the {call} call by number: {}", seen.join(", "));
+        }
+        println!("calls beside the marking: {}", self.other_calls);
+    }
+
+    /// Compares every call on this paper; the first that differs is given back.
+    #[cfg_attr(not(any(feature = "joint-list", feature = "show-row")), allow(unused_variables))]
+    pub fn compare(&mut self, kind: &str, model: &Sheet, second: &Sheet, random: &mut Random) -> Compared<()> {
+        let (model, second) = (&model.bytes[..], &second.bytes[..]);
+        let certificate = marker::mark_certificate(model, second);
+        let run = marker::mark_run(model, second);
+        self.certificate_numbers[certificate.number as usize] += 1;
+        self.run_numbers[run.number as usize] += 1;
+        let count = self.counts.entry(kind.to_string()).or_default();
+        count.compared += 1;
+        for answer in [certificate, run].iter().filter(|answer| answer.number == 0) {
+            count.accepted += 1;
+            count.passed += u64::from(answer.done);
+        }
+
+        let edges: &[Edge] = if self.fences.is_some() { &[Edge::Front, Edge::Back] } else { &[Edge::Back] };
+        for &edge in edges {
+            let answer = self.on_sheets(edge, model, second, library::mark_certificate);
+            self.same("silfoddra_mark_certificate", kind, model, second, answer, certificate)?;
+            let answer = self.on_sheets(edge, model, second, library::mark_run);
+            self.same("silfoddra_mark_run", kind, model, second, answer, run)?;
+            #[cfg(feature = "joint-list")]
+            self.compare_joint_list(edge, kind, model, second, random)?;
+            #[cfg(feature = "show-row")]
+            self.compare_rows(edge, kind, model, second, random)?;
+        }
+        Ok(())
+    }
+
+    /// Makes a call, on copies between closed pages where that is asked for.
+    fn on_sheets<T>(&mut self, edge: Edge, model: &[u8], second: &[u8], call: impl FnOnce(&[u8], &[u8]) -> T) -> T {
+        match &mut self.fences {
+            Some(fences) => call(fences.model.lend(model, edge), fences.second.lend(second, edge)),
+            None => call(model, second),
+        }
+    }
+
+    fn same<T: Debug + PartialEq>(&self, call: &str, kind: &str, model: &[u8], second: &[u8], library: T, marker: T) -> Compared<()> {
+        if library == marker {
+            return Ok(());
+        }
+        Err(Box::new(Mismatch {
+            call: call.to_string(),
+            origin: self.origin.clone(),
+            kind: kind.to_string(),
+            library: format!("{library:?}"),
+            marker: format!("{marker:?}"),
+            model: model.to_vec(),
+            second: second.to_vec(),
+        }))
+    }
+}

@@ -1,0 +1,160 @@
+//! Compares the library with the independent marker on many papers.
+//!
+//!     differential [--seed N] [--seconds N] [--rounds N] [--round R] [--guard] [--folder DIR]
+//!
+//! Without options it runs for about 60 seconds from a fixed seed, which DIFFERENTIAL_SEED may set too. A round makes papers from the
+//! seed and its own number, so `--round R` repeats one exactly. With `--guard` the sheets and the table lie between closed pages; that
+//! is slower, and goes on for 20 seconds. At the first mismatch the two sheets are written as hex files to the folder, and the exit
+//! status is 1.
+
+mod compare;
+
+use compare::{Compared, Comparison};
+use differential::papers::damage::{ALL, damaged, random_bytes};
+use differential::papers::{Random, Sheet, certificates, extremes, models, runs};
+use std::path::PathBuf;
+use std::process::ExitCode;
+use std::time::{Duration, Instant};
+
+struct Options {
+    seed: u64,
+    /// None for the default, which depends on `guard`.
+    seconds: Option<u64>,
+    rounds: u64,
+    only: Option<u64>,
+    guard: bool,
+    folder: PathBuf,
+}
+
+fn options() -> Result<Options, String> {
+    let seed = std::env::var("DIFFERENTIAL_SEED").ok();
+    let seed = seed.map_or(Ok(1), |text| text.parse()).map_err(|_| "DIFFERENTIAL_SEED is not a number")?;
+    let mut options = Options { seed, seconds: None, rounds: u64::MAX, only: None, guard: false, folder: ".".into() };
+    let mut words = std::env::args().skip(1);
+    while let Some(word) = words.next() {
+        let mut number = || -> Result<u64, String> {
+            let text = words.next().ok_or(format!("{word} needs a number"))?;
+            text.parse().map_err(|_| format!("{word} needs a number, not {text}"))
+        };
+        match word.as_str() {
+            "--seed" => options.seed = number()?,
+            "--seconds" => options.seconds = Some(number()?),
+            "--rounds" => options.rounds = number()?,
+            "--round" => options.only = Some(number()?),
+            "--guard" => options.guard = true,
+            "--folder" => options.folder = words.next().ok_or("--folder needs a folder")?.into(),
+            _ => return Err(format!("unknown option {word}")),
+        }
+    }
+    Ok(options)
+}
+
+fn main() -> ExitCode {
+    let options = match options() {
+        Ok(options) => options,
+        Err(problem) => {
+            eprintln!("differential: {problem}");
+            return ExitCode::from(2);
+        }
+    };
+    let mut comparison = Comparison::new(options.guard);
+    match compare_all(&options, &mut comparison) {
+        Ok(rounds) => {
+            comparison.print_counts();
+            println!("{rounds} rounds from seed {}: no mismatch", options.seed);
+            ExitCode::SUCCESS
+        }
+        Err(mismatch) => {
+            comparison.print_counts();
+            mismatch.report(&options.folder);
+            ExitCode::FAILURE
+        }
+    }
+}
+
+/// The fixed papers, then round after round until time is up; the number of rounds.
+fn compare_all(options: &Options, comparison: &mut Comparison) -> Compared<u64> {
+    let start = Instant::now();
+    let seconds = options.seconds.unwrap_or(if options.guard { 20 } else { 60 });
+    let limit = Duration::from_secs(seconds);
+    let mut random = Random::new(options.seed, u64::MAX);
+    for paper in extremes::all() {
+        comparison.origin = format!("fixed paper \"{}\"", paper.name);
+        comparison.compare("fixed", &paper.model, &paper.second, &mut random)?;
+    }
+    if let Some(round) = options.only {
+        compare_round(options.seed, round, comparison)?;
+        return Ok(1);
+    }
+    let mut shown = start;
+    let mut round = 0;
+    while round < options.rounds && start.elapsed() < limit {
+        compare_round(options.seed, round, comparison)?;
+        round += 1;
+        if shown.elapsed() > Duration::from_secs(10) {
+            shown = Instant::now();
+            println!("{} s of {seconds}: {round} rounds, {} papers", start.elapsed().as_secs(), comparison.papers());
+        }
+    }
+    Ok(round)
+}
+
+/// One model with a certificate, one with a run, what becomes of them by damage, and random bytes.
+fn compare_round(seed: u64, round: u64, comparison: &mut Comparison) -> Compared<()> {
+    let random = &mut Random::new(seed, round);
+    comparison.origin = format!("seed {seed}, round {round}");
+    let size = [1, 2, 2, 3, 3, 4, 5, 8][random.below(8)];
+
+    let plan = models::random_plan(random, size);
+    match certificates::random_certificate(random, plan.clone()) {
+        Some(paper) => compare_with_damage("certificate", &paper.model, &paper.second, random, comparison)?,
+        // Too much for a sheet, or over a limit: the model is still compared, with a certificate that has no regions.
+        None => compare_model("model", &plan, random, comparison)?,
+    }
+    if random.one_in(4) {
+        let plan = models::crowded_plan(random);
+        compare_model("crowded model", &plan, random, comparison)?;
+    }
+
+    let plan = models::random_plan(random, size);
+    let most_steps = if random.one_in(50) { 4_095 } else { 12 };
+    if let Some(paper) = runs::random_run(random, plan, most_steps) {
+        compare_with_damage("run", &paper.model, &paper.second, random, comparison)?;
+    }
+
+    let model = models::random_plan(random, 2).sheet();
+    let kind = 2 + random.below(2) as u8;
+    let second = random_bytes(random, kind);
+    comparison.compare("random second sheet", &model, &second, random)?;
+    let model = random_bytes(random, 1);
+    comparison.compare("random model", &model, &second, random)
+}
+
+fn compare_model(name: &str, plan: &models::Plan, random: &mut Random, comparison: &mut Comparison) -> Compared<()> {
+    let second = certificates::certificate_sheet(&vec![vec![]; plan.locations()], &[]);
+    comparison.compare(name, &plan.sheet(), &second, random)
+}
+
+fn compare_with_damage(
+    name: &'static str,
+    model: &Sheet,
+    second: &Sheet,
+    random: &mut Random,
+    comparison: &mut Comparison,
+) -> Compared<()> {
+    comparison.compare(name, model, second, random)?;
+    for damage in ALL {
+        for _ in 0..2 {
+            let worse = damaged(random, model, damage);
+            comparison.compare(&format!("{name}, model: {damage:?}"), &worse, second, random)?;
+            let worse = damaged(random, second, damage);
+            comparison.compare(&format!("{name}, second: {damage:?}"), model, &worse, random)?;
+            if worse.fields.len() > 3 {
+                let again = *random.pick(&ALL[..4]);
+                let worse = damaged(random, &worse, again);
+                comparison.compare(&format!("{name}, second: twice"), model, &worse, random)?;
+            }
+        }
+    }
+    Ok(())
+}

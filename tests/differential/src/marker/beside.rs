@@ -1,0 +1,94 @@
+//! The calls beside the marking (01, "Beside the marking").
+
+use super::answer::{Answer, Fault, Refusal, Sheet};
+use super::certificate::{Claim, Group, Hypotheses};
+use super::joint::{self, JointSwitch};
+use super::model::Model;
+use super::reader::Reader;
+
+/// Which obligation a number stands for. The layout is that of the C interface.
+#[derive(Clone, Copy, Debug, Default, PartialEq, Eq)]
+#[repr(C)]
+pub struct Which {
+    pub number: u32,
+    pub sheet: u32,
+    pub place: u32,
+    /// 0 start, 1 flow, 2 unsafe, 3 jump.
+    pub kind: u32,
+    /// The location, or the number of the joint switch.
+    pub subject: u32,
+    /// The region row, or the unsafe condition.
+    pub line: u32,
+}
+
+/// Fills the table with the joint switches in order. A refusal writes nothing, and later records keep their content.
+pub fn joint_list(model: &[u8], table: &mut [JointSwitch]) -> Answer {
+    let length = model.len();
+    let model = match Model::read(model) {
+        Ok(model) => model,
+        Err(refusal) => return Answer::refused(refusal, Sheet::Model, 0, 0),
+    };
+    match table.get_mut(..model.joint_count) {
+        Some(records) => {
+            records.copy_from_slice(&joint::list(&model));
+            Answer::accepted(Sheet::Model, length, model.joint_count, 0)
+        }
+        None => Answer::refused(Refusal::new(Fault::Table, model.joint_count), Sheet::Call, 0, 0),
+    }
+}
+
+/// The bytes of one hypothesis in the sheet that holds it, and the sister call's answer.
+pub fn show_row<'a>(model: &'a [u8], second: &'a [u8], obligation: u32, hypothesis: u32) -> (Answer, &'a [u8]) {
+    let sheets = [model, second];
+    let shown = with_claim(model, second, |claim| {
+        let (group, _) = find(claim, obligation)?;
+        let mut hypotheses = Hypotheses::default();
+        claim.list_hypotheses(&group, &mut hypotheses);
+        let hypothesis = hypotheses.get(hypothesis as usize).ok_or(ARGUMENT)?;
+        Ok((hypothesis.sheet, hypothesis.place, hypothesis.length))
+    });
+    match shown {
+        Ok((sheet, place, 0)) => (Answer::accepted(sheet, place, 0, 0), &[]),
+        Ok((sheet, place, length)) => (Answer::accepted(sheet, place, 0, 0), &sheets[sheet as usize][place..place + length]),
+        Err((sheet, refusal)) => (Answer::refused(refusal, sheet, 0, 0), &[]),
+    }
+}
+
+/// Tells which obligation a number stands for.
+pub fn which(model: &[u8], second: &[u8], obligation: u32) -> Which {
+    let found = with_claim(model, second, |claim| find(claim, obligation));
+    match found {
+        Ok((group, line)) => {
+            // As on every acceptance with two sheets: sheet 1 and its length.
+            let (sheet, place) = (Sheet::Second as u32, second.len() as u32);
+            Which { number: 0, sheet, place, kind: group.kind as u32, subject: group.subject as u32, line: line as u32 }
+        }
+        Err((sheet, refusal)) => {
+            Which { number: refusal.fault as u32, sheet: sheet as u32, place: refusal.place as u32, ..Which::default() }
+        }
+    }
+}
+
+/// An argument outside its range: 5, in the call itself.
+const ARGUMENT: (Sheet, Refusal) = (Sheet::Call, Refusal { fault: Fault::Range, place: 0 });
+
+/// Reads the model and the regions, but no proof, then asks.
+fn with_claim<T>(model: &[u8], second: &[u8], ask: impl FnOnce(&Claim) -> Result<T, (Sheet, Refusal)>) -> Result<T, (Sheet, Refusal)> {
+    let model = Model::read(model).map_err(|refusal| (Sheet::Model, refusal))?;
+    let mut reader = Reader::open(second, 2).map_err(|refusal| (Sheet::Second, refusal))?;
+    let claim = Claim::read(&mut reader, &model).map_err(|refusal| (Sheet::Second, refusal))?;
+    ask(&claim)
+}
+
+/// The group and the line of an obligation.
+fn find(claim: &Claim, obligation: u32) -> Result<(Group, usize), (Sheet, Refusal)> {
+    let mut left = obligation as usize;
+    for group in claim.groups() {
+        if left < group.lines.len() {
+            let line = group.lines.start + left;
+            return Ok((group, line));
+        }
+        left -= group.lines.len();
+    }
+    Err(ARGUMENT)
+}

@@ -1,0 +1,235 @@
+//! The certificate (01, "Certificate"): regions, obligations, hypotheses, and the marking of proofs.
+
+use super::answer::{Answer, Fault, Refusal, Sheet};
+use super::farkas::{Form, Row, Sum};
+use super::joint::{self, JointSwitch};
+use super::model::Model;
+use super::reader::{Condition, Reader};
+use std::ops::Range;
+
+const MOST_REGION_ROWS: u8 = 16;
+const MOST_ENTRIES: u8 = 128;
+/// k and multipliers are below this.
+const MULTIPLIER_LIMIT: u32 = 1 << 24;
+
+#[derive(Clone, Copy, Debug, PartialEq, Eq)]
+pub enum Kind {
+    Start = 0,
+    Flow = 1,
+    Unsafe = 2,
+    Jump = 3,
+}
+
+/// Obligations in a row that have the same hypotheses.
+pub struct Group {
+    pub kind: Kind,
+    /// The location, or the number of the joint switch.
+    pub subject: usize,
+    /// The region's rows (of the target's region after a jump), or the one unsafe condition.
+    pub lines: Range<usize>,
+}
+
+/// A hypothesis, and where its row stands.
+#[derive(Clone, Copy)]
+pub struct Hypothesis<'a> {
+    pub form: Form<'a>,
+    pub sheet: Sheet,
+    pub place: usize,
+    /// The row's bytes, 0 for a row in no sheet.
+    pub length: usize,
+}
+
+/// The hypotheses of a group, in order: conditions one after the other, then the rows that stand in no sheet.
+#[derive(Default)]
+pub struct Hypotheses<'a> {
+    parts: Vec<Part<'a>>,
+    /// For each row of the parts, the part that it is in.
+    part_of: Vec<u8>,
+    unwritten: Vec<Form<'a>>,
+}
+
+/// A condition among the hypotheses.
+struct Part<'a> {
+    /// The number of its first row.
+    first: usize,
+    condition: &'a Condition,
+    form: fn(Row<'a>) -> Form<'a>,
+    sheet: Sheet,
+}
+
+impl<'a> Hypotheses<'a> {
+    pub fn len(&self) -> usize {
+        self.part_of.len() + self.unwritten.len()
+    }
+
+    pub fn is_empty(&self) -> bool {
+        self.len() == 0
+    }
+
+    pub fn get(&self, number: usize) -> Option<Hypothesis<'a>> {
+        let Some(&part) = self.part_of.get(number) else {
+            let form = *self.unwritten.get(number - self.part_of.len())?;
+            return Some(Hypothesis { form, sheet: Sheet::Call, place: 0, length: 0 });
+        };
+        let part = &self.parts[usize::from(part)];
+        let line = number - part.first;
+        let form = (part.form)(part.condition.row(line));
+        Some(Hypothesis { form, sheet: part.sheet, place: part.condition.place_of(line), length: part.condition.row_length() })
+    }
+
+    fn clear(&mut self) {
+        self.parts.clear();
+        self.part_of.clear();
+        self.unwritten.clear();
+    }
+
+    fn push(&mut self, sheet: Sheet, condition: &'a Condition, form: fn(Row<'a>) -> Form<'a>) {
+        if !condition.is_empty() {
+            let (number, first) = (self.parts.len() as u8, self.part_of.len());
+            self.parts.push(Part { first, condition, form, sheet });
+            self.part_of.resize(first + condition.len(), number);
+        }
+    }
+}
+
+/// A model with a region for each location: what the obligations are made of.
+pub struct Claim<'a> {
+    pub model: &'a Model,
+    pub regions: Vec<Condition>,
+    pub joints: Vec<JointSwitch>,
+}
+
+impl<'a> Claim<'a> {
+    /// Reads the number of locations and the regions, and leaves the reader at the first proof.
+    pub fn read(reader: &mut Reader, model: &'a Model) -> Result<Self, Refusal> {
+        let locations = model.locations.len() as u8;
+        reader.u8(locations..=locations)?;
+        let regions = (0..locations).map(|_| reader.condition(MOST_REGION_ROWS, model.variables)).collect::<Result<_, _>>()?;
+        Ok(Claim { model, regions, joints: joint::list(model) })
+    }
+
+    /// All obligations in order; a group may be empty.
+    pub fn groups(&self) -> impl Iterator<Item = Group> {
+        let by_location = self.model.locations.iter().enumerate().flat_map(|(subject, location)| {
+            let rows = 0..self.regions[subject].len();
+            let start = self.model.starts_in(location).then(|| Group { kind: Kind::Start, subject, lines: rows.clone() });
+            let flow = Group { kind: Kind::Flow, subject, lines: rows };
+            let fitting = self.model.unsafe_conditions.iter().enumerate().filter(|(_, condition)| condition.fits(location));
+            let unsafes = fitting.map(move |(line, _)| Group { kind: Kind::Unsafe, subject, lines: line..line + 1 });
+            start.into_iter().chain([flow]).chain(unsafes)
+        });
+        let jumps = self.joints.iter().enumerate().map(|(subject, joint)| {
+            let lines = 0..self.regions[usize::from(joint.target)].len();
+            Group { kind: Kind::Jump, subject, lines }
+        });
+        by_location.chain(jumps)
+    }
+
+    /// The goal of an obligation; an unsafe one has no row.
+    pub fn goal(&self, group: &Group, line: usize) -> Option<Form<'_>> {
+        match group.kind {
+            Kind::Start => Some(Form::Before(self.regions[group.subject].row(line))),
+            Kind::Flow => Some(Form::After(self.regions[group.subject].row(line))),
+            Kind::Unsafe => None,
+            Kind::Jump => Some(Form::After(self.regions[usize::from(self.joints[group.subject].target)].row(line))),
+        }
+    }
+
+    /// Makes `hypotheses` those of a group.
+    pub fn list_hypotheses<'b>(&'b self, group: &Group, hypotheses: &mut Hypotheses<'b>) {
+        hypotheses.clear();
+        let model = self.model;
+        match group.kind {
+            Kind::Start => {
+                let location = &model.locations[group.subject];
+                model.modes(location).for_each(|mode| hypotheses.push(Sheet::Model, &mode.initial, Form::Before));
+                model.modes(location).for_each(|mode| hypotheses.push(Sheet::Model, &mode.invariant, Form::Before));
+            }
+            Kind::Flow => {
+                let location = &model.locations[group.subject];
+                hypotheses.push(Sheet::Second, &self.regions[group.subject], Form::Before);
+                model.modes(location).for_each(|mode| hypotheses.push(Sheet::Model, &mode.invariant, Form::Before));
+                model.modes(location).for_each(|mode| hypotheses.push(Sheet::Model, &mode.invariant, Form::After));
+                model.modes(location).for_each(|mode| hypotheses.push(Sheet::Model, &mode.flow, Form::Rate));
+                hypotheses.unwritten.push(Form::TimePasses);
+            }
+            Kind::Unsafe => {
+                let location = &model.locations[group.subject];
+                hypotheses.push(Sheet::Second, &self.regions[group.subject], Form::Before);
+                model.modes(location).for_each(|mode| hypotheses.push(Sheet::Model, &mode.invariant, Form::Before));
+                hypotheses.push(Sheet::Model, &model.unsafe_conditions[group.lines.start].rows, Form::Before);
+            }
+            Kind::Jump => {
+                let joint = &self.joints[group.subject];
+                let source = &model.locations[usize::from(joint.source)];
+                let target = &model.locations[usize::from(joint.target)];
+                hypotheses.push(Sheet::Second, &self.regions[usize::from(joint.source)], Form::Before);
+                model.modes(source).for_each(|mode| hypotheses.push(Sheet::Model, &mode.invariant, Form::Before));
+                model.modes(target).for_each(|mode| hypotheses.push(Sheet::Model, &mode.invariant, Form::After));
+                joint.moving(model).for_each(|switch| hypotheses.push(Sheet::Model, &switch.jump, Form::Both));
+                for (variable, &owner) in model.owners.iter().enumerate() {
+                    if joint.stays(owner) {
+                        hypotheses.unwritten.extend([Form::NotRaised(variable), Form::NotLowered(variable)]);
+                    }
+                }
+            }
+        }
+    }
+}
+
+/// Marks a certificate: the model, the regions, then proof by proof until one fails.
+pub fn mark_certificate(model: &[u8], second: &[u8]) -> Answer {
+    let model = match Model::read(model) {
+        Ok(model) => model,
+        Err(refusal) => return Answer::refused(refusal, Sheet::Model, 0, 0),
+    };
+    let opened = Reader::open(second, 2).and_then(|mut reader| Ok((Claim::read(&mut reader, &model)?, reader)));
+    let (claim, mut reader) = match opened {
+        Ok(opened) => opened,
+        Err(refusal) => return Answer::refused(refusal, Sheet::Second, 0, 0),
+    };
+    let obligations = claim.groups().map(|group| group.lines.len()).sum();
+    let mut done = 0;
+    match mark_proofs(&claim, &mut reader, &mut done) {
+        Ok(()) => Answer::accepted(Sheet::Second, second.len(), done, 100),
+        Err(refusal) => Answer::refused(refusal, Sheet::Second, done, score(done, obligations).min(99)),
+    }
+}
+
+fn score(done: usize, obligations: usize) -> u32 {
+    (100 * done).checked_div(obligations).unwrap_or(100) as u32
+}
+
+/// Counts in `done` the proofs that pass.
+fn mark_proofs(claim: &Claim, reader: &mut Reader, done: &mut usize) -> Result<(), Refusal> {
+    let mut hypotheses = Hypotheses::default();
+    for group in claim.groups().filter(|group| !group.lines.is_empty()) {
+        claim.list_hypotheses(&group, &mut hypotheses);
+        for line in group.lines.clone() {
+            mark_proof(reader, &hypotheses, claim.goal(&group, line))?;
+            *done += 1;
+        }
+    }
+    reader.finish()
+}
+
+/// Reads a proof whole, then tests it.
+fn mark_proof(reader: &mut Reader, hypotheses: &Hypotheses, goal: Option<Form>) -> Result<(), Refusal> {
+    let place = reader.place();
+    let k = reader.u32(..if goal.is_some() { MULTIPLIER_LIMIT } else { 1 })?;
+    let entries = reader.u8(..=MOST_ENTRIES)?;
+    let mut sum = Sum::new();
+    let mut least = 0;
+    for _ in 0..entries {
+        let place = reader.place();
+        let number = usize::from(reader.u8(..)?);
+        let hypothesis = hypotheses.get(number).ok_or(Refusal::new(Fault::Range, place))?;
+        if number < least {
+            return Err(Refusal::new(Fault::Order, place));
+        }
+        least = number + 1;
+        let multiplier = reader.u32(1..MULTIPLIER_LIMIT)?;
+        sum.add(i64::from(multiplier), hypothesis.form);
+    }
+    sum.proves(k, goal).map_err(|fault| Refusal::new(fault, place))
+}

@@ -1,0 +1,155 @@
+//! The model sheet (01, "Model").
+
+use super::answer::{Fault, Refusal};
+use super::joint;
+use super::reader::{Condition, Reader};
+
+pub const MOST_COMPONENTS: usize = 4;
+pub const EVENTS: usize = 16;
+const MOST_LOCATIONS: usize = 64;
+const MOST_JOINT_SWITCHES: usize = 4_096;
+const MOST_ROWS: u8 = 8;
+/// Where n stands, which is the place of 7 and 8.
+const PLACE_OF_N: usize = 4;
+
+pub struct Mode {
+    pub start: bool,
+    pub initial: Condition,
+    pub invariant: Condition,
+    pub flow: Condition,
+}
+
+pub struct Switch {
+    pub source: u8,
+    pub target: u8,
+    pub label: u8,
+    pub jump: Condition,
+}
+
+pub struct Component {
+    pub alphabet: u16,
+    pub modes: Vec<Mode>,
+    pub switches: Vec<Switch>,
+}
+
+pub struct UnsafeCondition {
+    /// One for each component; none means any mode.
+    modes: Vec<Option<u8>>,
+    pub rows: Condition,
+}
+
+/// One mode for each component; the places after the last component are 0.
+pub type Location = [u8; MOST_COMPONENTS];
+
+pub struct Model {
+    pub variables: usize,
+    /// Each variable's component.
+    pub owners: Vec<u8>,
+    pub components: Vec<Component>,
+    pub unsafe_conditions: Vec<UnsafeCondition>,
+    /// All locations, by number.
+    pub locations: Vec<Location>,
+    /// How many joint switches there are.
+    pub joint_count: usize,
+}
+
+impl Model {
+    /// Reads a model to its end, with bytes left, 7 and 8.
+    pub fn read(sheet: &[u8]) -> Result<Self, Refusal> {
+        let mut reader = Reader::open(sheet, 1)?;
+        let variables = usize::from(reader.u8(1..=8)?);
+        let component_count = reader.u8(1..=MOST_COMPONENTS as u8)?;
+        let unsafe_count = reader.u8(..=16)?;
+        let owners = (0..variables).map(|_| reader.u8(..component_count)).collect::<Result<_, _>>()?;
+        let components = (0..component_count).map(|_| read_component(&mut reader, variables)).collect::<Result<Vec<_>, _>>()?;
+        let unsafe_conditions =
+            (0..unsafe_count).map(|_| read_unsafe_condition(&mut reader, variables, &components)).collect::<Result<_, _>>()?;
+        reader.finish()?;
+
+        let location_count: usize = components.iter().map(|component| component.modes.len()).product();
+        if location_count > MOST_LOCATIONS {
+            return Err(Refusal::new(Fault::Locations, PLACE_OF_N));
+        }
+        let locations = (0..location_count).map(|number| location(&components, number)).collect();
+        let mut model = Model { variables, owners, components, unsafe_conditions, locations, joint_count: 0 };
+        model.joint_count = joint::count(&model);
+        if model.joint_count > MOST_JOINT_SWITCHES {
+            return Err(Refusal::new(Fault::JointSwitches, PLACE_OF_N));
+        }
+        Ok(model)
+    }
+
+    /// The number of a location.
+    pub fn number_of(&self, location: &Location) -> usize {
+        self.components.iter().zip(location).fold(0, |number, (component, &mode)| number * component.modes.len() + usize::from(mode))
+    }
+
+    /// The modes of a location, by component.
+    pub fn modes<'a>(&'a self, location: &'a Location) -> impl Iterator<Item = &'a Mode> {
+        self.components.iter().zip(location).map(|(component, &mode)| &component.modes[usize::from(mode)])
+    }
+
+    pub fn starts_in(&self, location: &Location) -> bool {
+        self.modes(location).all(|mode| mode.start)
+    }
+
+    /// The components whose alphabet has the event, as a mask with bit i for component i.
+    pub fn scope(&self, event: usize) -> u8 {
+        self.components.iter().enumerate().map(|(i, component)| u8::from(component.alphabet >> event & 1 == 1) << i).sum()
+    }
+}
+
+impl UnsafeCondition {
+    pub fn fits(&self, location: &Location) -> bool {
+        self.modes.iter().zip(location).all(|(fit, &mode)| fit.is_none_or(|fit| fit == mode))
+    }
+}
+
+fn read_component(reader: &mut Reader, variables: usize) -> Result<Component, Refusal> {
+    let place = reader.place();
+    let alphabet = reader.u16(..)?;
+    if alphabet & 1 == 1 {
+        return Err(Refusal::new(Fault::Range, place));
+    }
+    let mode_count = reader.u8(1..=8)?;
+    let switch_count = reader.u8(..=32)?;
+    let modes = (0..mode_count).map(|_| read_mode(reader, variables)).collect::<Result<_, _>>()?;
+    let switches = (0..switch_count).map(|_| read_switch(reader, variables, alphabet, mode_count)).collect::<Result<_, _>>()?;
+    Ok(Component { alphabet, modes, switches })
+}
+
+fn read_mode(reader: &mut Reader, variables: usize) -> Result<Mode, Refusal> {
+    let start = reader.u8(..=1)? == 1;
+    let initial = reader.condition(if start { MOST_ROWS } else { 0 }, variables)?;
+    let invariant = reader.condition(MOST_ROWS, variables)?;
+    let flow = reader.condition(MOST_ROWS, variables)?;
+    Ok(Mode { start, initial, invariant, flow })
+}
+
+fn read_switch(reader: &mut Reader, variables: usize, alphabet: u16, modes: u8) -> Result<Switch, Refusal> {
+    let source = reader.u8(..modes)?;
+    let target = reader.u8(..modes)?;
+    let place = reader.place();
+    let label = reader.u8(..EVENTS as u8)?;
+    if label > 0 && alphabet >> label & 1 == 0 {
+        return Err(Refusal::new(Fault::Label, place));
+    }
+    let jump = reader.condition(MOST_ROWS, 2 * variables)?;
+    Ok(Switch { source, target, label, jump })
+}
+
+fn read_unsafe_condition(reader: &mut Reader, variables: usize, components: &[Component]) -> Result<UnsafeCondition, Refusal> {
+    let modes = components.iter().map(|component| reader.u8_or_none(component.modes.len())).collect::<Result<_, _>>()?;
+    let rows = reader.condition(MOST_ROWS, variables)?;
+    Ok(UnsafeCondition { modes, rows })
+}
+
+/// Component 0 is the most significant digit of a location's number.
+fn location(components: &[Component], mut number: usize) -> Location {
+    let mut location = [0; MOST_COMPONENTS];
+    for (mode, component) in location.iter_mut().zip(components).rev() {
+        *mode = (number % component.modes.len()) as u8;
+        number /= component.modes.len();
+    }
+    location
+}

@@ -1,0 +1,12 @@
+//! Papers to compare the markers on.
+
+pub mod certificates;
+pub mod damage;
+pub mod extremes;
+pub mod models;
+pub mod random;
+pub mod runs;
+pub mod sheet;
+
+pub use random::Random;
+pub use sheet::Sheet;
