@@ -3,7 +3,6 @@
 use crate::papers::Case;
 use differential::marker::Answer;
 use differential::{library, marker};
-#[cfg(feature = "beside")]
 use std::cell::RefCell;
 use std::ffi::c_int;
 use std::fmt;
@@ -14,10 +13,8 @@ use std::hint::black_box;
 pub enum Call {
     Certificate,
     Run,
-    #[cfg(feature = "beside")]
     JointList,
     /// The sister of show row, for hypothesis 0 of this obligation.
-    #[cfg(feature = "beside")]
     ShowRow(u32),
 }
 
@@ -26,9 +23,7 @@ impl fmt::Display for Call {
         match self {
             Call::Certificate => write!(f, "certificate"),
             Call::Run => write!(f, "run"),
-            #[cfg(feature = "beside")]
             Call::JointList => write!(f, "joint list"),
-            #[cfg(feature = "beside")]
             Call::ShowRow(obligation) => write!(f, "show row of obligation {obligation}"),
         }
     }
@@ -78,7 +73,6 @@ fn calls(call: Call) -> (Mark, Mark) {
     match call {
         Call::Certificate => (Box::new(library::mark_certificate), Box::new(marker::mark_certificate)),
         Call::Run => (Box::new(library::mark_run), Box::new(marker::mark_run)),
-        #[cfg(feature = "beside")]
         Call::JointList => {
             let table = || RefCell::new(vec![marker::JointSwitch::default(); 4_096]);
             let (by_library, by_rust) = (table(), table());
@@ -87,7 +81,6 @@ fn calls(call: Call) -> (Mark, Mark) {
                 Box::new(move |model, _| marker::joint_list(model, &mut by_rust.borrow_mut())),
             )
         }
-        #[cfg(feature = "beside")]
         Call::ShowRow(obligation) => (
             Box::new(move |model, second| library::show_row(model, second, obligation, 0)),
             Box::new(move |model, second| marker::show_row(model, second, obligation, 0).0),

@@ -18,7 +18,7 @@ fn case(name: &str, call: Call, number: u32, paper: extremes::Paper) -> Case {
 /// Different kinds of papers, from the smallest to those near the limits.
 pub fn cases() -> Vec<Case> {
     let tank = extremes::all().swap_remove(0);
-    let cases = vec![
+    vec![
         case("T with C", Call::Certificate, 0, tank),
         medium_certificate(),
         case("near all limits, 6,420 proofs", Call::Certificate, 0, extremes::near_limits()),
@@ -31,15 +31,6 @@ pub fn cases() -> Vec<Case> {
         case("4,096 joint switches, no regions", Call::Certificate, 0, extremes::joint_switches(&[16; 3], 0)),
         case("64 locations, 15 events shared by all, no regions", Call::Certificate, 0, extremes::shared_events()),
         case("model of 32,768 bytes", Call::Run, 0, extremes::longest_model()),
-    ];
-    #[cfg(feature = "beside")]
-    let cases = cases.into_iter().chain(cases_beside()).collect();
-    cases
-}
-
-#[cfg(feature = "beside")]
-fn cases_beside() -> Vec<Case> {
-    vec![
         case("4,096 joint switches", Call::JointList, 0, extremes::joint_switches(&[16; 3], 0)),
         case("near all limits", Call::ShowRow(0), 0, extremes::near_limits()),
         case("near all limits", Call::ShowRow(6_419), 0, extremes::near_limits()),

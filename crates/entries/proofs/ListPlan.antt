@@ -18,9 +18,9 @@ use Rattle.marking.specs.declared.Answer.{Answer}
 use Rattle.marking.specs.declared.Joint.{Joint}
 use Rattle.marking.specs.Marking.{answer, withModel}
 use Rattle.marking.specs.Beside.{recordOf, listAnswer, filled, tableAfter}
-use Rattle.marking.specs.Records.{recordsFrom, Indexed}
+use Rattle.beside.specs.Records.{recordsFrom, Indexed}
 use Rattle.marking.proofs.CloseLaws.{accepted}
-use Rattle.marking.proofs.RecordLaws.{whole-list}
+use Rattle.beside.proofs.RecordLaws.{whole-list}
 
 -- how many records are written, which, and what the table is afterwards
 pub record Plan (model index : List ℕ) (count : ℕ) (table : List Joint) : Type 0 where

@@ -1,11 +1,11 @@
 // Beside the marking: where the row of a hypothesis stands, and which obligation has a number.
+use beside::Which;
+use beside::show::show_answer;
+use beside::show::which;
 use marking::Answer;
-use marking::Which;
-use marking::show::show_answer;
-use marking::show::which;
 ghost use mathlib.Core.Path.{_≡_};
 ghost use Rattle.marking.specs.Beside.{showAnswer};
-ghost use Rattle.marking.specs.Finding.{whichObligation};
+ghost use Rattle.beside.specs.Finding.{whichObligation};
 ghost use Rattle.sheets.specs.ModelSheet.{examLimits};
 
 // The sister of show row: the number, with the row's sheet and offset.

@@ -1,11 +1,11 @@
 // The joint list, written record after record into a table that the exam desk lends.
+use beside::joint_list::answer_for;
+use beside::joint_list::list_index;
+use beside::joint_list::list_start;
+use beside::joint_list::next_record;
+use beside::joint_list::record_count;
 use marking::Answer;
 use marking::Joint;
-use marking::joint_list::answer_for;
-use marking::joint_list::list_index;
-use marking::joint_list::list_start;
-use marking::joint_list::next_record;
-use marking::joint_list::record_count;
 ghost use mathlib.Core.Path.{_≡_};
 ghost use lib.ListN.{length};
 ghost use Rattle.marking.specs.Beside.{listAnswer, tableAfter};

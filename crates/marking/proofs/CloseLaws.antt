@@ -1,6 +1,7 @@
 -- A certificate's marking put together: a model that was read is within the exam's limits; regions that were read make a good paper; where
 -- all proofs have passed the score is 100; and how each part's answer makes that of the whole. Assumes nothing.
 use mathlib.Core.Path.{_≡_, refl, sym, ap, ap₂, _∙_, subst}
+use mathlib.Core.Bool.{Bool, true, false}
 use mathlib.Core.List.{List}
 use Prim.Native.Nat.{ℕ, zero, suc, _≤_, min}
 use native.Mathlib.Nat.{mul-div-cancel}
@@ -8,7 +9,7 @@ use native.Mathlib.Omega.{arith}
 use lib.Dec.{leb}
 use lib.ListN.{length}
 use borrow.Author.Tests.{leb-true}
-use Rattle.sheets.specs.Reading.{Got, got, refused, _>>_, header, finished}
+use Rattle.sheets.specs.Reading.{Got, got, refused, Reader, andThen, _>>=_, _>>_, expect, header, finished}
 use Rattle.sheets.specs.Rows.{Condition}
 use Rattle.sheets.specs.Model.{Model}
 use Rattle.sheets.specs.Locations.{locationCount}
@@ -17,7 +18,8 @@ use Rattle.sheets.specs.Index.{entry, componentsFrom, modelFrom}
 use Rattle.sheets.specs.ModelSheet.{Limits, examLimits, readModel}
 use Rattle.sheets.specs.Certificate.{readRegions}
 use Rattle.sheets.specs.CertificateAnswers.{regionsFrom, regionsFor, GoodRegions}
-use Rattle.sheets.proofs.Gives.{gives-bind, gives-then, gives-give, gives-any}
+use Rattle.sheets.proofs.Gives.{Gives, passes, gives-bind, gives-then, gives-give, gives-any}
+use Rattle.sheets.proofs.SheetLaws.{header-read}
 use Rattle.sheets.proofs.Placed.{Fine, placed-finished, placed-regions}
 use Rattle.sheets.proofs.GoodIndexLaws.{index-good}
 use Rattle.sheets.proofs.CertificateLaws.{regions-of, good-regions}
@@ -30,7 +32,31 @@ use Rattle.marking.specs.Closing.{Accepted}
 use Rattle.marking.proofs.MarkedRanges.{Marks, proofs-mark}
 use Rattle.marking.proofs.CountGoals.{obligations-length, locations-few, jumps-few}
 use Rattle.marking.proofs.MarkLaws.{stands-passed, stands-stopped}
-use Rattle.marking.proofs.ListLaws.{few-joints, model-short, expected}
+
+-- a test that had to be passed was passed
+expected : {A : Type 0} {P : A → Type 0} (b : Bool) (number place : ℕ) (r : Reader A) → (b ≡ true → Gives P r) → Gives P (expect b number place >> r)
+unfolding expect _>>_ andThen
+expected true number place r f = gives-then (expect true number place) (f refl)
+expected false number place r f = record { holds = λ s p a next e. let z : _≡_ {A = ℕ} 0 1 = cc in absurd (omega arith) }
+
+-- a model that a sheet gives has at most as many joint switches as the limits allow
+pub few-joints : (limits : Limits) (s : List ℕ) (m : Model) (next : ℕ) → readModel limits s ≡ got m next → length (joints (m .components)) ≤ limits .joints
+unfolding readModel
+few-joints limits s m next e =
+    gives-bind gives-any
+    (λ version u.
+    gives-bind gives-any
+    (λ place u.
+    gives-bind gives-any
+    (λ (m : Model) u. gives-then finished (gives-then _ (expected (leb (length (joints (m .components))) (limits .joints)) 8 place _ (λ t. gives-give m (leb-true (length (joints (m .components))) (limits .joints) t)))))))
+    .holds s 0 m next e
+
+-- its sheet is short
+pub model-short : (limits : Limits) (s : List ℕ) (m : Model) (next : ℕ) → readModel limits s ≡ got m next → length s ≤ 32768
+unfolding readModel _>>=_
+model-short limits s m next e =
+    let w = passes (header 1 s 0) _ s m next e in
+    header-read 1 s (w .value) (w .place) (w .first) .short
 
 -- a model that a sheet gives has at most as many locations as the limits allow
 few-locations : (limits : Limits) (s : List ℕ) (m : Model) (next : ℕ) → readModel limits s ≡ got m next → locationCount (m .components) ≤ limits .locations

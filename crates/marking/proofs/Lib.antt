@@ -29,9 +29,5 @@ pub mod GroupLaws
 pub mod MarkLaws
 pub mod MarkLoops
 pub mod JointMarks
-pub mod ListLaws
 pub mod CloseLaws
 pub mod ProgramLaws
-pub mod RecordLaws
-pub mod FindLaws
-pub mod ShowLaws

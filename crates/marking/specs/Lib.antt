@@ -13,5 +13,3 @@ pub mod Beside
 pub mod Program
 pub mod Lines
 pub mod Papers
-pub mod Records
-pub mod Finding

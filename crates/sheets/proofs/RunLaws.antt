@@ -3,7 +3,8 @@
 use mathlib.Core.Path.{_≡_, refl, sym, ap, _∙_}
 use mathlib.Core.Bool.{Bool, true, false, cond, not, _&&_, _||_}
 use mathlib.Core.List.{List, [], _∷_, _++_}
-use Prim.Native.Nat.{ℕ, zero, suc, _+_, _-_, _^_, _≤_, _<_}
+use Prim.Native.Nat.{ℕ, zero, suc, _+_, _-_, _^_, _%_, _≤_, _<_}
+use native.Mathlib.Nat.{mod-eq-of-lt}
 use native.Mathlib.Numerals.{add-one}
 use native.Mathlib.Decide.{decLe}
 use native.Mathlib.Omega.{arith}
@@ -30,24 +31,37 @@ use Rattle.sheets.proofs.FieldLaws.{byte-at, byte-read, numbered}
 use Rattle.sheets.proofs.ReadLoop.{upTo, up-to-snoc, Reading, reading-starts, reading-goes-on, reading-stops, reading-ends}
 use Rattle.sheets.proofs.EachLoop.{ReadingEach, each-starts, each-goes-on, each-stops, each-ends}
 
--- A number of 32 bits as a signed one
-pub signed-low : (n : ℕ) → n < 2147483648 → toZ w64 n ≡ signed n
-unfolding signed
-signed-low n h = toZ-pos w64 n (omega arith) ∙ sym (rw (lt-ltb n 2147483648 h) refl)
+-- A number of 32 bits as a signed one: half the range is added, the whole range taken off where it is passed, and the half taken away
+module _ (n t : ℕ) (f : Fits w32 n) (e : t ≡ (n + 2147483648) % 4294967296) where
+  low : n < 2147483648 → t ≡ n + 2147483648
+  low h = e ∙ mod-eq-of-lt (omega arith)
 
-difference : (n : ℕ) → n < 4294967296 → pos n -ℤ pos 4294967296 ≡ negsuc (4294967296 - suc n)
-difference n h = rw (lt-ltb n 4294967296 h) refl
+  high : 2147483648 ≤ n → t + 2147483648 ≡ n
+  high h = rw e (omega arith)
 
-module _ (n : ℕ) (h : 2147483648 ≤ n) (f : Fits w32 n) where
-  less : toZ w64 n -ℤ pos 4294967296 ≡ negsuc (4294967296 - suc n)
-  less = rw (toZ-pos w64 n (omega arith)) (difference n (omega arith))
-
-  pub less-fits : SFits w64 (toZ w64 n -ℤ pos 4294967296)
-  less-fits = rw less (record { sfits = omega arith })
-
-  pub signed-high : toZ w64 (ofZ w64 (toZ w64 n -ℤ pos 4294967296)) ≡ signed n
+  less : toZ w64 t -ℤ pos 2147483648 ≡ signed n
   unfolding signed
-  signed-high = toZ-ofZ less-fits ∙ less ∙ sym (rw (le-ltb n 2147483648 h) refl)
+  less = rw (toZ-pos w64 t (rw e (omega arith))) (go (decLe 2147483648 n))
+    where
+      go : Dec (2147483648 ≤ n) → pos t -ℤ pos 2147483648 ≡ signed n
+      go (yes h) = rw (lt-ltb t 2147483648 (omega (arith, high h))) (rw (le-ltb n 2147483648 h) (ap negsuc (omega (arith, high h))))
+      go (no g) =
+          let h : n < 2147483648 = omega arith in
+          rw (le-ltb t 2147483648 (omega (arith, low h))) (rw (lt-ltb n 2147483648 h) (ap pos (omega (arith, low h))))
+
+  signed-fits : SFits w64 (signed n)
+  unfolding signed
+  signed-fits = go (decLe 2147483648 n)
+    where
+      go : Dec (2147483648 ≤ n) → SFits w64 (signed n)
+      go (yes h) = rw (le-ltb n 2147483648 h) (record { sfits = omega arith })
+      go (no g) = let h : n < 2147483648 = omega arith in rw (lt-ltb n 2147483648 h) (record { sfits = omega arith })
+
+  pub turned-fits : SFits w64 (toZ w64 t -ℤ pos 2147483648)
+  turned-fits = rw less signed-fits
+
+  pub turned-signed : toZ w64 (ofZ w64 (toZ w64 t -ℤ pos 2147483648)) ≡ signed n
+  turned-signed = toZ-ofZ turned-fits ∙ less
 
 -- its size
 pub signed-small : (n : ℕ) → n < 2 ^ 32 → natAbs (signed n) ≤ 2 ^ 31

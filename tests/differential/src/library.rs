@@ -1,9 +1,7 @@
 //! The library under test, called as C calls it: slices as pointer and length, structs by value.
 
 use crate::marker::Answer;
-#[cfg(feature = "joint-list")]
 use crate::marker::JointSwitch;
-#[cfg(feature = "show-row")]
 use crate::marker::Which;
 
 mod entries {
@@ -14,12 +12,10 @@ mod entries {
         pub fn silfoddra_mark_run(model: *const u8, model_length: usize, second: *const u8, second_length: usize) -> Answer;
     }
 
-    #[cfg(feature = "joint-list")]
     unsafe extern "C" {
         pub fn silfoddra_joint_list(model: *const u8, model_length: usize, table: *mut JointSwitch, table_length: usize) -> Answer;
     }
 
-    #[cfg(feature = "show-row")]
     unsafe extern "C" {
         pub fn silfoddra_show_row(
             model: *const u8,
@@ -43,18 +39,15 @@ pub fn mark_run(model: &[u8], second: &[u8]) -> Answer {
     unsafe { entries::silfoddra_mark_run(model.as_ptr(), model.len(), second.as_ptr(), second.len()) }
 }
 
-#[cfg(feature = "joint-list")]
 pub fn joint_list(model: &[u8], table: &mut [JointSwitch]) -> Answer {
     unsafe { entries::silfoddra_joint_list(model.as_ptr(), model.len(), table.as_mut_ptr(), table.len()) }
 }
 
 /// The sister of show row: the answer without the bytes.
-#[cfg(feature = "show-row")]
 pub fn show_row(model: &[u8], second: &[u8], obligation: u32, hypothesis: u32) -> Answer {
     unsafe { entries::silfoddra_show_row(model.as_ptr(), model.len(), second.as_ptr(), second.len(), obligation, hypothesis) }
 }
 
-#[cfg(feature = "show-row")]
 pub fn which(model: &[u8], second: &[u8], obligation: u32) -> Which {
     unsafe { entries::silfoddra_which(model.as_ptr(), model.len(), second.as_ptr(), second.len(), obligation) }
 }

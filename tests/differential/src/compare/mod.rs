@@ -1,8 +1,6 @@
 //! One comparison: every call of the library against the independent marker on two sheets.
 
-#[cfg(feature = "joint-list")]
 mod joint_list;
-#[cfg(feature = "show-row")]
 mod rows;
 
 use differential::fence::{Edge, Fence};
@@ -64,7 +62,6 @@ pub struct Comparison {
 struct Fences {
     model: Fence,
     second: Fence,
-    #[cfg(feature = "joint-list")]
     table: Fence,
 }
 
@@ -73,7 +70,6 @@ impl Comparison {
         let fences = || Fences {
             model: Fence::new(40_000),
             second: Fence::new(40_000),
-            #[cfg(feature = "joint-list")]
             table: Fence::new(40_000),
         };
         Comparison {
@@ -109,7 +105,6 @@ impl Comparison {
     }
 
     /// Compares every call on this paper; the first that differs is given back.
-    #[cfg_attr(not(any(feature = "joint-list", feature = "show-row")), allow(unused_variables))]
     pub fn compare(&mut self, kind: &str, model: &Sheet, second: &Sheet, random: &mut Random) -> Compared<()> {
         let (model, second) = (&model.bytes[..], &second.bytes[..]);
         let certificate = marker::mark_certificate(model, second);
@@ -129,9 +124,7 @@ impl Comparison {
             self.same("silfoddra_mark_certificate", kind, model, second, answer, certificate)?;
             let answer = self.on_sheets(edge, model, second, library::mark_run);
             self.same("silfoddra_mark_run", kind, model, second, answer, run)?;
-            #[cfg(feature = "joint-list")]
             self.compare_joint_list(edge, kind, model, second, random)?;
-            #[cfg(feature = "show-row")]
             self.compare_rows(edge, kind, model, second, random)?;
         }
         Ok(())

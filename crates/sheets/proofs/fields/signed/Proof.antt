@@ -1,23 +1,22 @@
--- Below 2^31 the number itself, else 2^32 less. Assumes nothing.
+-- Half the range added, the whole taken off where it is passed, and the half taken away. Assumes nothing.
+use mathlib.Core.Path.{refl}
+use Prim.Native.Nat.{_+_, _%_}
 use borrow.Author.Needs.{needs}
-use Rattle.sheets.proofs.RunLaws.{signed-low, less-fits, signed-high}
+use Rattle.sheets.proofs.RunLaws.{turned-fits, turned-signed}
 use Rattle.sheets.proofs.fields.signed.Statement.{statement}
 use Rattle.sheets.proofs.fields.signed.Tie as tie
+
+add-turned : tie.Need-add-turned
+add-turned c = search needs
 
 cast-result : tie.Need-cast-result
 cast-result c = search needs
 
-cast-result-2 : tie.Need-cast-result-2
-cast-result-2 c = search needs
-
 sub-result : tie.Need-sub-result
-sub-result c = less-fits (c .before .args .number) (c .if1 .left) (c .before .fits .number)
+sub-result c = let n = c .args .number in turned-fits n ((n + 2147483648) % 4294967296) (c .fits .number) refl
 
 returns : tie.Need-returns
-returns c = signed-low (c .before .args .number) (c .if1 .taken)
-
-returns-2 : tie.Need-returns-2
-returns-2 c = signed-high (c .before .args .number) (c .if1 .left) (c .before .fits .number)
+returns c = let n = c .args .number in turned-signed n ((n + 2147483648) % 4294967296) (c .fits .number) refl
 
 pub signed-spec : {M : Type 1} → statement M
-signed-spec = tie.close (tie.spec cast-result cast-result-2 sub-result returns returns-2)
+signed-spec = tie.close (tie.spec add-turned cast-result sub-result returns)

@@ -1,0 +1,4 @@
+pub mod ListLaws
+pub mod RecordLaws
+pub mod FindLaws
+pub mod ShowLaws
