@@ -22,13 +22,14 @@ use Rattle.sheets.specs.Joint.{switchesOf, modesAfter, JointSwitch, jointsOf, j
 use Rattle.sheets.specs.Counts as counts
 use Rattle.sheets.specs.ModelSheet.{examLimits, readModel}
 use Rattle.sheets.specs.Index.{componentsFrom, modelFrom, GoodIndex}
+use Rattle.sheets.proofs.Gives.{got-value}
 use Rattle.sheets.proofs.Joint.{jointFrom}
 use Rattle.sheets.proofs.JointLoops.{switches-few, record-at}
 use Rattle.marking.specs.declared.Answer.{Answer}
 use Rattle.marking.specs.declared.Joint.{Joint}
 use Rattle.marking.specs.Marking.{answer, withModel}
 use Rattle.marking.specs.Beside.{fourSwitches, recordOf, listAnswer}
-use Rattle.beside.specs.Records.{slotJoints, jointsFrom, recordsFrom, noJoint, Indexed}
+use Rattle.beside.specs.Records.{slotJoints, jointsFrom, recordsFrom, noJoint, modelBy}
 use Rattle.marking.proofs.ModeLines.{joinedOn, joined-first, joined-none}
 use Rattle.marking.proofs.CloseLaws.{few-joints}
 
@@ -160,13 +161,23 @@ slot-record components slot x switches target h e t =
     ∙ ap recordOf (sym (record-at components (slot / 16) (slot % 16) x noJoint (omega (arith, h, slot-length components slot))))
 
 -- The index of a model sheet
-both-got : (m : Model) (x : Next) (g : Got Model) → gotAs m x ≡ g → (m' : Model) (next : ℕ) → g ≡ got m' next → m' ≡ m
+by-index : (m : Model) (x : Next) → elim (gotAs m x) [ got m' next ↦ got m next | refused number at ↦ refused number at ] ≡ gotAs m x
 unfolding gotAs
-both-got m (next.At p) g e m' q h = cc
-both-got m (next.Refused number place) g e m' q h = cc
+by-index m (next.At p) = refl
+by-index m (next.Refused number place) = refl
 
-pub index-has : (model index : List ℕ) (x : Next) → gotAs (modelFrom model index) x ≡ readModel examLimits model → Indexed model index
-index-has model index x e = record { has = both-got (modelFrom model index) x (readModel examLimits model) e }
+pub index-has : (model index : List ℕ) (x : Next) → gotAs (modelFrom model index) x ≡ readModel examLimits model → modelBy model index ≡ readModel examLimits model
+unfolding modelBy
+index-has model index x e =
+    ap (λ (g : Got Model). elim g [ got m next ↦ got (modelFrom model index) next | refused number at ↦ refused number at ]) (sym e)
+    ∙ by-index (modelFrom model index) x
+    ∙ e
+
+pub index-model : (model index : List ℕ) → modelBy model index ≡ readModel examLimits model → (m : Model) (next : ℕ) → readModel examLimits model ≡ got m next → m ≡ modelFrom model index
+unfolding modelBy
+index-model model index same m next e =
+    let put : modelBy model index ≡ got (modelFrom model index) next = ap (λ (g : Got Model). elim g [ got m next ↦ got (modelFrom model index) next | refused number at ↦ refused number at ]) e in
+    got-value (sym e ∙ sym same ∙ put)
 
 -- The answer: a table with more room than any list needs has room enough
 room-same : (n k : ℕ) → n ≤ 4096 → leb n (min k 4097) ≡ leb n k

@@ -1,12 +1,11 @@
 -- What the joint list's contracts name besides the definitions of 01: the answer on a model that was read; the list by its slots, a slot
 -- being an event in a location; what is left of it from a place on; and an index that was read. Assumes nothing.
-use mathlib.Core.Path.{_≡_}
 use mathlib.Core.Bool.{cond}
 use mathlib.Core.List.{List, [], map}
 use Prim.Native.Nat.{ℕ, _*_, _-_, _/_, _%_, _<_}
 use lib.Dec.{leb}
 use lib.ListN.{length, drop}
-use Rattle.sheets.specs.Reading.{got}
+use Rattle.sheets.specs.Reading.{Got, got, refused}
 use Rattle.sheets.specs.Model.{Component, Model}
 use Rattle.sheets.specs.Locations.{locationCount}
 use Rattle.sheets.specs.Joint.{JointSwitch, jointsOf, joints, countUp, joinAll}
@@ -44,6 +43,10 @@ pub record Stands (components : List Component) (slot x : ℕ) : Type 0 where
   pub below : slot < 16 * locationCount components
   pub here : x < length (slotJoints components slot)
 
--- an index of a model sheet: where the sheet reads well, the index has the model
-pub record Indexed (model index : List ℕ) : Type 0 where
-  pub has : (m : Model) (next : ℕ) → readModel examLimits model ≡ got m next → m ≡ modelFrom model index
+-- what a sheet gives, with the model that an index has in place of the sheet's: an index of the sheet changes nothing
+unfoldable pub modelBy : List ℕ → List ℕ → Got Model
+modelBy model index =
+    elim (readModel examLimits model) [
+      | got m next ↦ got (modelFrom model index) next
+      | refused number at ↦ refused number at
+    ]

@@ -16,9 +16,9 @@ ghost use Prim.Native.Nat.{_*_, _<_, _≤_, min};
 ghost use lib.ListN.{length, getD};
 ghost use Rattle.sheets.specs.Locations.{locationCount};
 ghost use Rattle.sheets.specs.Index.{componentsFrom, GoodIndex};
-ghost use Rattle.sheets.specs.ModelSheet.{examLimits};
+ghost use Rattle.sheets.specs.ModelSheet.{examLimits, readModel};
 ghost use Rattle.marking.specs.Beside.{recordOf, listAnswer};
-ghost use Rattle.beside.specs.Records.{slotJoints, recordsFrom, noJoint, Indexed, Stands};
+ghost use Rattle.beside.specs.Records.{slotJoints, recordsFrom, noJoint, modelBy, Stands};
 
 // How many records a table has room for; of a long one, more than any list has.
 fn lent_count(records: usize) -> u32
@@ -46,7 +46,7 @@ pub fn record_count(answer: Answer) -> usize
 
 // The index of a model; of no use where the sheet is no model.
 pub fn list_index(model: &[u8]) -> [u16; 988]
-    ensures { λ r. ⌜ Indexed (now (model .entry)) r ⌝ }
+    ensures { λ r. ⌜ modelBy (now (model .entry)) r ≡ readModel examLimits (now (model .entry)) ⌝ }
 {
     let read = read_model(model);
     read.index

@@ -18,9 +18,9 @@ use Rattle.marking.specs.declared.Answer.{Answer}
 use Rattle.marking.specs.declared.Joint.{Joint}
 use Rattle.marking.specs.Marking.{answer, withModel}
 use Rattle.marking.specs.Beside.{recordOf, listAnswer, filled, tableAfter}
-use Rattle.beside.specs.Records.{recordsFrom, Indexed}
+use Rattle.beside.specs.Records.{recordsFrom, modelBy}
 use Rattle.marking.proofs.CloseLaws.{accepted}
-use Rattle.beside.proofs.RecordLaws.{whole-list}
+use Rattle.beside.proofs.RecordLaws.{whole-list, index-model}
 
 -- how many records are written, which, and what the table is afterwards
 pub record Plan (model index : List ℕ) (count : ℕ) (table : List Joint) : Type 0 where
@@ -32,7 +32,7 @@ pub record Plan (model index : List ℕ) (count : ℕ) (table : List Joint) : Ty
   pub starts : 0 < count → recordsFrom model index 0 0 ≡ records
   pub after : tableAfter examLimits model table ≡ records ++ drop count table
 
-module _ (model index : List ℕ) (table : List Joint) (indexed : Indexed model index) where
+module _ (model index : List ℕ) (table : List Joint) (indexed : modelBy model index ≡ readModel examLimits model) where
   nothing : tableAfter examLimits model table ≡ table → Plan model index 0 table
   nothing e =
       record { records = []; whole = refl; fits = omega arith; good = λ h. absurd (omega arith); few = λ h. absurd (omega arith); starts = λ h. absurd (omega arith); after = e }
@@ -40,10 +40,10 @@ module _ (model index : List ℕ) (table : List Joint) (indexed : Indexed model 
   module _ (m : Model) (next : ℕ) (e : readModel examLimits model ≡ got m next) where
     same : m .components ≡ componentsFrom model index
     unfolding modelFrom
-    same = ap (λ (n : Model). n .components) (indexed .has m next e)
+    same = ap (λ (n : Model). n .components) (index-model model index indexed m next e)
 
     read : readModel examLimits model ≡ got (modelFrom model index) next
-    read = e ∙ ap (λ (n : Model). got n next) (indexed .has m next e)
+    read = e ∙ ap (λ (n : Model). got n next) (index-model model index indexed m next e)
 
     after-read : tableAfter examLimits model table ≡ filled (joints (m .components)) table
     unfolding tableAfter
