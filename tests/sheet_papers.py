@@ -3,8 +3,8 @@
 
 usage: sheet_papers.py FOLDER      writes FOLDER/stdin and FOLDER/stdout
 
-A sheet is a list of named fields, so that the place of each is known without reading it back. Every expected number and place is
-stated here by the clause that gives it; nothing is computed by a reader of sheets.
+Sheets are built from named fields (sheet.py), so that the place of each is known without reading it back. Every expected number and
+place is stated here by the clause that gives it; nothing is computed by a reader of sheets.
 
 A record on standard input: label length (1 byte), label, kind (1), three arguments (1 each), sheet length (2 bytes), sheet. Kinds:
 0 takes the sheet as the model for later records, 1 reads a model, 2 a certificate's header and regions, 3 a proof's head at place
@@ -12,78 +12,41 @@ A record on standard input: label length (1 byte), label, kind (1), three argume
 """
 import sys
 
-class Sheet:
-    def __init__(self, kind, version=1):
-        self.fields = [('L', 2, 0), ('version', 1, version), ('kind', 1, kind)]
-    def add(self, name, size, value):
-        self.fields.append((name, size, value)); return self
-    def row(self, name, *numbers):
-        for i, v in enumerate(numbers): self.add(f'{name}.{i}', 4, v)
-        return self
-    def place(self, name):
-        at = 0
-        for n, size, _ in self.fields:
-            if n == name: return at
-            at += size
-        raise KeyError(name)
-    def set(self, name, value):
-        s = Sheet(0); s.fields = [(n, z, value if n == name else v) for n, z, v in self.fields]; return s
-    def bytes(self):
-        length = sum(z for _, z, _ in self.fields)
-        out = b''
-        for n, z, v in self.fields:
-            if n == 'L' and v == 0: v = (length - 2) % 65536
-            out += (v % 256 ** z).to_bytes(z, 'big')
-        return out
+import sheet
+from sheet import certificate, component, fixed, flow, jump, mode, run, switch
+from tank import C, T
 
-def fixed(data):
-    """The same bytes with L made right."""
-    return ((len(data) - 2) % 65536).to_bytes(2, 'big') + data[2:] if len(data) >= 2 else data
 
-def model(n=1, c=1, unsafe=1, owners=None, alphabets=None, modes=None, switches=None, starts=1, initial=None, invariant=1, flow=0, jump=0, label=0, rows=1, fit=255):
-    """A model with rows of zeros; every component has the same counts unless a list is given."""
-    s = Sheet(1).add('n', 1, n).add('c', 1, c).add('unsafe', 1, unsafe)
-    for v in range(n): s.add(f'owner{v}', 1, (owners or [0] * n)[v])
-    for k in range(c):
-        nm = (modes or [1] * c)[k]; ns = (switches or [0] * c)[k]
-        s.add(f'alphabet{k}', 2, (alphabets or [0] * c)[k]).add(f'modes{k}', 1, nm).add(f'switches{k}', 1, ns)
-        for j in range(nm):
-            count = (initial if initial is not None else 0)
-            s.add(f'start{k}.{j}', 1, starts).add(f'initial{k}.{j}', 1, count)
-            for r in range(count): s.row(f'initialrow{k}.{j}.{r}', *([0] * (n + 1)))
-            s.add(f'invariant{k}.{j}', 1, invariant)
-            for r in range(invariant): s.row(f'invariantrow{k}.{j}.{r}', *([0] * (n + 1)))
-            s.add(f'flow{k}.{j}', 1, flow)
-            for r in range(flow): s.row(f'flowrow{k}.{j}.{r}', *([0] * (n + 1)))
-        for i in range(ns):
-            s.add(f'source{k}.{i}', 1, 0).add(f'target{k}.{i}', 1, 0).add(f'label{k}.{i}', 1, label).add(f'jump{k}.{i}', 1, jump)
-            for r in range(jump): s.row(f'jumprow{k}.{i}.{r}', *([0] * (2 * n + 1)))
-    for u in range(unsafe):
-        for k in range(c): s.add(f'mode{u}.{k}', 1, fit)
-        s.add(f'rows{u}', 1, rows)
-        for r in range(rows): s.row(f'unsaferow{u}.{r}', *([0] * (n + 1)))
-    return s
+def model(n=1, c=1, unsafe=1, owners=None, alphabets=None, modes=None, switches=None, starts=1, initial=0, invariant=1, flow=0, jump=0, label=0, rows=1):
+    """A model with rows of zeros; every component has the same counts unless a list is given. Unsafe conditions fit any mode."""
+    def zeros(count, numbers=n + 1):
+        return [(0,) * numbers] * count
 
-# T and C of document 01
-T = Sheet(1).add('n', 1, 1).add('c', 1, 1).add('unsafe', 1, 1).add('owner0', 1, 0).add('alphabet0', 2, 0).add('modes0', 1, 1).add('switches0', 1, 0)
-T.add('start', 1, 1).add('initial', 1, 2).row('a', 1, 5).row('b', -1, -5).add('invariant', 1, 1).row('i', 1, 10).add('flow', 1, 2).row('f', 1, 2).row('g', -1, 0)
-T.add('mode', 1, 0).add('rows', 1, 1).row('u', -1, -11)
-C = Sheet(2).add('locations', 1, 1).add('region', 1, 1).row('r', 1, 10)
-C.add('k0', 4, 1).add('e0', 1, 1).add('h0', 1, 2).add('m0', 4, 1)
-C.add('k1', 4, 1).add('e1', 1, 1).add('h1', 1, 2).add('m1', 4, 1)
-C.add('k2', 4, 0).add('e2', 1, 2).add('h2', 1, 0).add('m2', 4, 1).add('h3', 1, 2).add('m3', 4, 1)
-assert len(T.bytes()) == 66 and len(C.bytes()) == 49 and C.place('k0') == 14 and C.place('k1') == 24 and C.place('k2') == 34
+    def part(k):
+        only = mode(starts, zeros(initial), zeros(invariant), zeros(flow))
+        by = switch(0, 0, label, zeros(jump, 2 * n + 1))
+        return component([only] * (modes or [1] * c)[k], [by] * (switches or [0] * c)[k], (alphabets or [0] * c)[k])
+
+    return sheet.model(owners or [0] * n, [part(k) for k in range(c)], [([255] * c, zeros(rows))] * unsafe)
+
 
 records, lines = [], []
+
+
 def case(label, kind, data, number, place, args=(0, 0, 0)):
     name = label.encode()
     records.append(bytes([len(name)]) + name + bytes([kind, *args]) + (len(data) % 65536).to_bytes(2, 'big') + data)
     if kind: lines.append(f'{label}: {number} {place}')
 
-def field(label, kind, sheet, name, value, number, args=(0, 0, 0)):
-    case(f'{label} {value}', kind, sheet.set(name, value).bytes(), number, sheet.place(name), args)
 
-def accepted(label, sheet): case(label, 1, sheet.bytes(), 0, len(sheet.bytes()))
+def field(label, kind, paper, name, value, number, args=(0, 0, 0)):
+    case(f'{label} {value}', kind, paper.set(name, value).bytes(), number, paper.place(name), args)
+
+
+def accepted(label, paper):
+    case(label, 1, paper.bytes(), 0, paper.length())
+
+
 
 # "1: under 4 or over 32,768 bytes, or L wrong", place 0
 t = T.bytes()
@@ -121,14 +84,14 @@ for v in (0, 9, 255): field('modes', 1, T, 'modes0', v, 5)
 accepted('modes 8', model(modes=[8]))
 for v in (33, 255): field('switches', 1, T, 'switches0', v, 5)
 accepted('switches 32', model(switches=[32]))
-for v in (2, 255): field('start', 1, T, 'start', v, 5)
+for v in (2, 255): field('start', 1, T, 'start0.0', v, 5)
 accepted('start 0', model(starts=0))
-case('start 0 with initial rows', 1, T.set('start', 0).bytes(), 5, T.place('initial'))
-for v in (9, 255): field('initial rows', 1, T, 'initial', v, 5)
+case('start 0 with initial rows', 1, T.set('start0.0', 0).bytes(), 5, T.place('initial0.0'))
+for v in (9, 255): field('initial rows', 1, T, 'initial0.0', v, 5)
 accepted('initial rows 8', model(initial=8))
-for v in (9, 255): field('invariant rows', 1, T, 'invariant', v, 5)
+for v in (9, 255): field('invariant rows', 1, T, 'invariant0.0', v, 5)
 accepted('invariant rows 8', model(invariant=8)); accepted('invariant rows 0', model(invariant=0))
-for v in (9, 255): field('flow rows', 1, T, 'flow', v, 5)
+for v in (9, 255): field('flow rows', 1, T, 'flow0.0', v, 5)
 accepted('flow rows 8', model(flow=8))
 case('label outside', 1, model(switches=[1], label=1).bytes(), 6, model(switches=[1], label=1).place('label0.0'))
 w = model(modes=[3], switches=[2], alphabets=[32768 + 2], label=1)
@@ -142,11 +105,11 @@ accepted('jump rows 8', model(switches=[1], jump=8))
 for v in (9, 255): field('jump rows', 1, w, 'jump0.1', v, 5)
 case('label outside, nine jump rows', 1, w.set('label0.1', 2).set('jump0.1', 9).bytes(), 6, w.place('label0.1'))
 u = model(c=2, modes=[2, 3])
-accepted('unsafe modes 1 2', u.set('mode0.0', 1).set('mode0.1', 2)); accepted('unsafe modes any', u)
-for v in (2, 254): field('unsafe mode', 1, u, 'mode0.0', v, 5)
-for v in (3, 254): field('second unsafe mode', 1, u, 'mode0.1', v, 5)
+accepted('unsafe modes 1 2', u.set('fit0.0', 1).set('fit0.1', 2)); accepted('unsafe modes any', u)
+for v in (2, 254): field('unsafe mode', 1, u, 'fit0.0', v, 5)
+for v in (3, 254): field('second unsafe mode', 1, u, 'fit0.1', v, 5)
 accepted('unsafe rows 8', model(rows=8)); accepted('unsafe rows 0', model(rows=0))
-for v in (9, 255): field('unsafe rows', 1, T, 'rows', v, 5)
+for v in (9, 255): field('unsafe rows', 1, T, 'rows0', v, 5)
 # 7: "over 64 locations", 8: "over 4,096 joint switches", both at n's byte
 accepted('64 locations', model(c=2, modes=[8, 8]))
 case('128 locations', 1, model(c=3, modes=[8, 8, 2]).bytes(), 7, 4)
@@ -162,10 +125,9 @@ case('model T', 0, t, 0, 0)
 case('C regions', 2, C.bytes(), 0, 14)
 case('T as certificate', 2, t, 3, 3)
 for v in (0, 2, 255): field('locations', 2, C, 'locations', v, 5)
-for v in (17, 255): field('region rows', 2, C, 'region', v, 5)
-case('region rows 0', 2, C.set('region', 0).bytes(), 0, 6)
-r = Sheet(2).add('locations', 1, 1).add('region', 1, 16)
-for i in range(16): r.row(f'r{i}', 1, 10)
+for v in (17, 255): field('region rows', 2, C, 'region0', v, 5)
+case('region rows 0', 2, C.set('region0', 0).bytes(), 0, 6)
+r = certificate([[(1, 10)] * 16], [])
 case('region rows 16', 2, r.bytes(), 0, len(r.bytes()))
 for cut, at in ((4, 4), (5, 5), (6, 6), (9, 6), (10, 10), (13, 10)): case(f'C cut to {cut}', 2, fixed(C.bytes()[:cut]), 4, at)
 # a proof's head: "u32 k, 0..2^24−1; u8 entries, 0..128"; "An unsafe goal has k = 0 only, else 5 at k"
@@ -174,9 +136,9 @@ for v in (0, 2 ** 24 - 1): case(f'k {v}', 3, C.set('k0', v).bytes(), 0, 19, (14,
 for v in (2 ** 24, 2 ** 32 - 1): case(f'k {v}', 3, C.set('k0', v).bytes(), 5, 14, (14, 0, 0))
 case('unsafe k 0', 3, C.bytes(), 0, 39, (34, 1, 0))
 for v in (1, 2 ** 24 - 1): case(f'unsafe k {v}', 3, C.set('k2', v).bytes(), 5, 34, (34, 1, 0))
-case('entries 0', 3, C.set('e0', 0).bytes(), 0, 19, (14, 0, 0))
-case('entries 128', 3, C.set('e0', 128).bytes(), 0, 19, (14, 0, 0))
-for v in (129, 255): case(f'entries {v}', 3, C.set('e0', v).bytes(), 5, 18, (14, 0, 0))
+case('entries 0', 3, C.set('entries0', 0).bytes(), 0, 19, (14, 0, 0))
+case('entries 128', 3, C.set('entries0', 128).bytes(), 0, 19, (14, 0, 0))
+for v in (129, 255): case(f'entries {v}', 3, C.set('entries0', v).bytes(), 5, 18, (14, 0, 0))
 for cut, at in ((14, 14), (17, 14), (18, 18)): case(f'head cut to {cut}', 3, C.bytes()[:cut], 4, at, (14, 0, 0))
 # an entry: "a u8 hypothesis, below the obligation's count of them, and a u32 multiplier, 1..2^24−1, hypotheses strictly ascending"
 case('entry', 4, C.bytes(), 0, 24, (19, 3, 0))
@@ -185,13 +147,13 @@ case('hypothesis at the count', 4, C.bytes(), 5, 19, (19, 2, 0))
 case('hypothesis not ascending', 4, C.bytes(), 9, 19, (19, 3, 3))
 case('hypothesis just ascending', 4, C.bytes(), 0, 24, (19, 3, 2))
 case('out of range before not ascending', 4, C.bytes(), 5, 19, (19, 2, 3))
-for v in (0, 2 ** 24, 2 ** 32 - 1): case(f'multiplier {v}', 4, C.set('m0', v).bytes(), 5, 20, (19, 3, 0))
-case('multiplier 16777215', 4, C.set('m0', 2 ** 24 - 1).bytes(), 0, 24, (19, 3, 0))
-case('not ascending, multiplier 0', 4, C.set('m0', 0).bytes(), 9, 19, (19, 3, 3))
+for v in (0, 2 ** 24, 2 ** 32 - 1): case(f'multiplier {v}', 4, C.set('multiplier0.0', v).bytes(), 5, 20, (19, 3, 0))
+case('multiplier 16777215', 4, C.set('multiplier0.0', 2 ** 24 - 1).bytes(), 0, 24, (19, 3, 0))
+case('not ascending, multiplier 0', 4, C.set('multiplier0.0', 0).bytes(), 9, 19, (19, 3, 3))
 for cut, at in ((19, 19), (20, 20), (23, 20)): case(f'entry cut to {cut}', 4, C.bytes()[:cut], 4, at, (19, 3, 0))
 
 # the run's header and opening, with T as the model
-R = Sheet(3).add('q', 4, 1).add('steps', 2, 1).add('location', 1, 0).add('p', 4, 5).add('step', 1, 0).add('d', 4, 2).add('next', 4, 9)
+R = run(1, 0, [5], flow(2, 9))
 case('run', 5, R.bytes(), 0, 15)
 case('C as run', 5, C.bytes(), 3, 3)
 for v in (0, 2 ** 24, 2 ** 32 - 1): field('q', 5, R, 'q', v, 5)
@@ -199,29 +161,29 @@ case('q 16777215', 5, R.set('q', 2 ** 24 - 1).bytes(), 0, 15)
 for v in (4096, 65535): field('steps', 5, R, 'steps', v, 5)
 for v in (0, 4095): case(f'steps {v}', 5, R.set('steps', v).bytes(), 0, 15)
 for v in (1, 255): field('location', 5, R, 'location', v, 5)
-for v in (-2 ** 27, 2 ** 27): case(f'p {v}', 5, R.set('p', v).bytes(), 0, 15)
-for v in (-2 ** 27 - 1, 2 ** 27 + 1, -2 ** 31): field('p', 5, R, 'p', v, 5)
-case('location before p', 5, R.set('location', 1).set('p', 2 ** 31 - 1).bytes(), 5, 10)
+for v in (-2 ** 27, 2 ** 27): case(f'p {v}', 5, R.set('p0', v).bytes(), 0, 15)
+for v in (-2 ** 27 - 1, 2 ** 27 + 1, -2 ** 31): field('p', 5, R, 'p0', v, 5)
+case('location before p', 5, R.set('location', 1).set('p0', 2 ** 31 - 1).bytes(), 5, 10)
 for cut, at in ((4, 4), (7, 4), (8, 8), (9, 8), (10, 10), (11, 11), (14, 11)): case(f'run cut to {cut}', 5, fixed(R.bytes()[:cut]), 4, at)
 # a step
 case('flow', 6, R.bytes(), 0, 24, (15, 0, 0))
-for v in (2, 255): field('step', 6, R, 'step', v, 5, (15, 0, 0))
-for v in (0, 2 ** 24 - 1): case(f'time {v}', 6, R.set('d', v).bytes(), 0, 24, (15, 0, 0))
-for v in (2 ** 24, 2 ** 32 - 1): field('time', 6, R, 'd', v, 5, (15, 0, 0))
-for v in (-2 ** 27, 2 ** 27): case(f'next p {v}', 6, R.set('next', v).bytes(), 0, 24, (15, 0, 0))
-for v in (-2 ** 27 - 1, 2 ** 27 + 1): field('next p', 6, R, 'next', v, 5, (15, 0, 0))
+for v in (2, 255): field('step', 6, R, 'step0', v, 5, (15, 0, 0))
+for v in (0, 2 ** 24 - 1): case(f'time {v}', 6, R.set('time0', v).bytes(), 0, 24, (15, 0, 0))
+for v in (2 ** 24, 2 ** 32 - 1): field('time', 6, R, 'time0', v, 5, (15, 0, 0))
+for v in (-2 ** 27, 2 ** 27): case(f'next p {v}', 6, R.set('p0.0', v).bytes(), 0, 24, (15, 0, 0))
+for v in (-2 ** 27 - 1, 2 ** 27 + 1): field('next p', 6, R, 'p0.0', v, 5, (15, 0, 0))
 for cut, at in ((15, 15), (16, 16), (19, 16), (20, 20), (23, 20)): case(f'flow cut to {cut}', 6, R.bytes()[:cut], 4, at, (15, 0, 0))
 J = model(c=3, switches=[2, 0, 1], alphabets=[2, 0, 2], label=1, n=1)
 case('model J', 0, J.bytes(), 0, 0)
-j = Sheet(3).add('q', 4, 1).add('steps', 2, 1).add('location', 1, 0).add('p', 4, 0).add('step', 1, 1).add('event', 1, 1).add('s0', 1, 1).add('s1', 1, 255).add('s2', 1, 0).add('next', 4, 7)
+j = run(1, 0, [0], jump(1, [1, 255, 0], 7))
 case('jump', 6, j.bytes(), 0, 24, (15, 0, 0))
-for v in (0, 15): case(f'event {v}', 6, j.set('event', v).bytes(), 0, 24, (15, 0, 0))
-for v in (16, 255): field('event', 6, j, 'event', v, 5, (15, 0, 0))
-case('first stays', 6, j.set('s0', 255).bytes(), 0, 24, (15, 0, 0))
-for v in (2, 254): field('first switch', 6, j, 's0', v, 5, (15, 0, 0))
-for v in (0, 254): field('second switch', 6, j, 's1', v, 5, (15, 0, 0))
-for v in (1, 254): field('third switch', 6, j, 's2', v, 5, (15, 0, 0))
-for v in (-2 ** 27 - 1, 2 ** 27 + 1): field('jump to p', 6, j, 'next', v, 5, (15, 0, 0))
+for v in (0, 15): case(f'event {v}', 6, j.set('event0', v).bytes(), 0, 24, (15, 0, 0))
+for v in (16, 255): field('event', 6, j, 'event0', v, 5, (15, 0, 0))
+case('first stays', 6, j.set('switch0.0', 255).bytes(), 0, 24, (15, 0, 0))
+for v in (2, 254): field('first switch', 6, j, 'switch0.0', v, 5, (15, 0, 0))
+for v in (0, 254): field('second switch', 6, j, 'switch1.0', v, 5, (15, 0, 0))
+for v in (1, 254): field('third switch', 6, j, 'switch2.0', v, 5, (15, 0, 0))
+for v in (-2 ** 27 - 1, 2 ** 27 + 1): field('jump to p', 6, j, 'p0.0', v, 5, (15, 0, 0))
 for cut, at in ((16, 16), (17, 17), (18, 18), (19, 19), (20, 20), (23, 20)): case(f'jump cut to {cut}', 6, j.bytes()[:cut], 4, at, (15, 0, 0))
 
 folder = sys.argv[1]
