@@ -1,7 +1,7 @@
 -- Joint switches by an index: a component's part, loops over the components, and where a joint switch leads. Assumes nothing.
-use mathlib.Core.Path.{_≡_, refl, sym, ap, _∙_, subst₂}
+use mathlib.Core.Path.{_≡_, refl, sym, ap, _∙_, subst, subst₂}
 use mathlib.Core.Bool.{Bool, true, false, cond, not, _&&_}
-use mathlib.Core.List.{List, [], _++_}
+use mathlib.Core.List.{List, []}
 use Prim.Native.Nat.{ℕ, zero, suc, _+_, _≤_, _<_}
 use native.Mathlib.Omega.{arith}
 use lib.Count.{ones}
@@ -21,8 +21,9 @@ use Rattle.sheets.specs.RunAnswers.{stepOf}
 use Rattle.sheets.proofs.Locations.{modes-at, location-of}
 use Rattle.sheets.proofs.Joint.{Known, no-numbers, number-and, modes-after}
 use Rattle.sheets.proofs.GoodIndexLaws.{components-drop, components-end, switch-length, good-components}
-use Rattle.sheets.proofs.JointLoops.{componentsOn, numbersOn, per-component-length, per-component-drop, per-component-modes}
+use Rattle.sheets.proofs.JointLoops.{componentsOn, numbersOn, per-component-length, per-component-drop}
 use Rattle.marking.specs.Runs.{State, admissible, jumpRows, stayingKept, jumpRule, after, ruleMet, stepAllowed}
+use Rattle.marking.specs.Listing.{Stands}
 use Rattle.marking.specs.Held.{perVariable, stateOf}
 use Rattle.marking.proofs.CountLaws.{have-modes}
 use Rattle.marking.proofs.ListFacts.{first-fails, first-passes}
@@ -158,31 +159,24 @@ module _ (s index switches : List ℕ) (wide : entry index 1 ≤ length switches
   pub known-all : Known (componentsFrom s index) (perComponent index switches)
   known-all = known-from (entry index 1) 0 (omega arith)
 
-module _ {model index : List ℕ} (g : GoodIndex model index) (location : ℕ) (modes rest : List ℕ) (place : modes ≡ modesAt (componentsFrom model index) location ++ rest) (switches : List ℕ) where
-  pub target-located : (r : ℕ) → entry index 1 ≤ length switches → KnownSwitches index switches → location < locationCount (componentsFrom model index) → r ≡ locationOf (componentsFrom model index) (modesAfter (componentsFrom model index) (perComponent index modes) (perComponent index switches)) → r < locationCount (componentsFrom model index)
-  target-located r wide known h e =
+module _ {model index : List ℕ} (g : GoodIndex model index) (location : ℕ) (modes : List ℕ) (stands : Stands model index location modes) (switches : List ℕ) where
+  pub target-located : (r : ℕ) → entry index 1 ≤ length switches → KnownSwitches index switches → r ≡ locationOf (componentsFrom model index) (modesAfter (componentsFrom model index) (perComponent index modes) (perComponent index switches)) → r < locationCount (componentsFrom model index)
+  target-located r wide known e =
       let components = componentsFrom model index in
-      rw (e ∙ ap (λ ms. locationOf components (modesAfter components ms (perComponent index switches))) (per-component-modes model index location modes rest place))
-      (location-of (modes-after (entry index 0) (good-components g) (modes-at (have-modes (good-components g)) location h) (known-all model index switches wide known)))
+      rw (e ∙ ap (λ ms. locationOf components (modesAfter components ms (perComponent index switches))) (stands .here))
+      (location-of (modes-after (entry index 0) (good-components g) (modes-at (have-modes (good-components g)) location (stands .below)) (known-all model index switches wide known)))
 
-  -- the state after a jump
-  pub jump-after : (r e : ℕ) (values next : List ℤ) → r ≡ locationOf (componentsFrom model index) (modesAfter (componentsFrom model index) (perComponent index modes) (perComponent index switches)) → stateOf index r next ≡ after (modelFrom model index) (stateOf index location values) (jump e (perComponent index switches) (perVariable index next))
-  unfolding stateOf after modelFrom
-  jump-after r e values next p =
-      let components = componentsFrom model index in
-      ap (λ (l : ℕ). record { location = l; values = perVariable index next })
-      (p ∙ ap (λ ms. locationOf components (modesAfter components ms (perComponent index switches))) (per-component-modes model index location modes rest place))
-
+  -- where a jump leads
   pub jump-leads : (r e : ℕ) → r ≡ locationOf (componentsFrom model index) (modesAfter (componentsFrom model index) (perComponent index modes) (perComponent index switches)) → r ≡ after (modelFrom model index) (stateOf index location []) (jump e (perComponent index switches) []) .location
   unfolding stateOf after modelFrom
   jump-leads r e p =
       let components = componentsFrom model index in
-      p ∙ ap (λ ms. locationOf components (modesAfter components ms (perComponent index switches))) (per-component-modes model index location modes rest place)
+      p ∙ ap (λ ms. locationOf components (modesAfter components ms (perComponent index switches))) (stands .here)
 
   -- the rule of a jump, by the first of its parts that fails
   module _ (q e : ℕ) (values next : List ℤ) where
     joint-at : isJoint (componentsFrom model index) (perComponent index modes) e (perComponent index switches) ≡ isJoint (componentsFrom model index) (modesAt (componentsFrom model index) location) e (perComponent index switches)
-    joint-at = ap (λ ms. isJoint (componentsFrom model index) ms e (perComponent index switches)) (per-component-modes model index location modes rest place)
+    joint-at = ap (λ ms. isJoint (componentsFrom model index) ms e (perComponent index switches)) (stands .here)
 
     pub rule-joint : false ≡ isJoint (componentsFrom model index) (perComponent index modes) e (perComponent index switches) → false ≡ jumpRule (modelFrom model index) q (stateOf index location values) e (perComponent index switches) (perVariable index next)
     unfolding jumpRule stateOf modelFrom
@@ -202,6 +196,14 @@ pub step-after : (m : Model) (index : List ℕ) (location r c : ℕ) (by : coded
 unfolding stateOf after stepOf
 step-after m index location r c (step.Flow δ) values next p = ap (λ (l : ℕ). record { location = l; values = perVariable index next }) p
 step-after m index location r c (step.Jump e w) values next p = ap (λ (l : ℕ). record { location = l; values = perVariable index next }) p
+
+-- a flow keeps the location, so its modes
+pub flow-stays : {model index : List ℕ} (location target c δ : ℕ) (modes : List ℕ) (by : coded.Step) → by ≡ step.Flow δ → target ≡ after (modelFrom model index) (stateOf index location []) (stepOf c by []) .location → Stands model index location modes → Stands model index target modes
+unfolding stateOf after stepOf
+flow-stays {model} {index} location target c δ modes by e p stands =
+    let m = modelFrom model index in
+    let same : target ≡ location = p ∙ ap (λ (w : coded.Step). after m (stateOf index location []) (stepOf c w []) .location) e in
+    subst (λ (l : ℕ). Stands model index l modes) (sym same) stands
 
 -- a step, by the state that it leads to and its rule
 module _ (m : Model) (q : ℕ) (s : State) (t : Step) (next : State) (leads : next ≡ after m s t) where

@@ -75,15 +75,15 @@ unfolding markedAs
 marked-passed index r e =
     ap (λ b. cond b (passed (stateOf index (r .location) (r .values)) (r .place) (r .done)) (stopped (r .number) (r .place) (r .done))) (eq-eqb (r .number) 0 e)
 
-module _ (m : Model) (index : List ℕ) (q location : ℕ) (values : List ℤ) (sheet : List ℕ) (place done : ℕ) where
+module _ (m : Model) (index : List ℕ) (q location : ℕ) (modes : List ℕ) (values : List ℤ) (sheet : List ℕ) (place done : ℕ) where
   abbrev Here : State
   Here = stateOf index location values
 
-  pub mark-refused : (number at : ℕ) → place ≤ length sheet → readStep m sheet place ≡ refused number at → markedAs index (record { number = number; place = at; done = done; location = location; values = values }) ≡ markSteps m q (stateOf index location values) 1 sheet place done
+  pub mark-refused : (number at : ℕ) → place ≤ length sheet → readStep m sheet place ≡ refused number at → markedAs index (record { number = number; place = at; done = done; location = location; modes = modes; values = values }) ≡ markSteps m q (stateOf index location values) 1 sheet place done
   unfolding afterStep
   mark-refused number at h e =
       let w = step-fine m q Here sheet place h e in
-      marked-stopped index (record { number = number; place = at; done = done; location = location; values = values }) (λ z. absurd (omega arith))
+      marked-stopped index (record { number = number; place = at; done = done; location = location; modes = modes; values = values }) (λ z. absurd (omega arith))
       ∙ sym (one-step m q Here sheet place done ∙ ap (afterStep m Here done) (tested-refused m q Here sheet place number at e))
 
   pub refused-placed : (number at : ℕ) → place ≤ length sheet → readStep m sheet place ≡ refused number at → at ≤ length sheet
@@ -93,16 +93,16 @@ module _ (m : Model) (index : List ℕ) (q location : ℕ) (values : List ℤ) (
   step-placed t next h e = step-fine m q Here sheet place h e .1
 
   module _ (t : Step) (next : ℕ) (reads : readStep m sheet place ≡ got t next) where
-    pub mark-failed : false ≡ stepAllowed m q (stateOf index location values) t → markedAs index (record { number = 13; place = place; done = done; location = location; values = values }) ≡ markSteps m q (stateOf index location values) 1 sheet place done
+    pub mark-failed : false ≡ stepAllowed m q (stateOf index location values) t → markedAs index (record { number = 13; place = place; done = done; location = location; modes = modes; values = values }) ≡ markSteps m q (stateOf index location values) 1 sheet place done
     unfolding afterStep
     mark-failed p =
-        marked-stopped index (record { number = 13; place = place; done = done; location = location; values = values }) (λ z. absurd (omega arith))
+        marked-stopped index (record { number = 13; place = place; done = done; location = location; modes = modes; values = values }) (λ z. absurd (omega arith))
         ∙ sym (one-step m q Here sheet place done ∙ ap (afterStep m Here done) (tested-failed m q Here sheet place t next reads p))
 
-    pub mark-passed : (l : ℕ) (xs : List ℤ) → true ≡ stepAllowed m q (stateOf index location values) t → stateOf index l xs ≡ after m (stateOf index location values) t → markedAs index (record { number = 0; place = next; done = done + 1; location = l; values = xs }) ≡ markSteps m q (stateOf index location values) 1 sheet place done
+    pub mark-passed : (l : ℕ) (ms : List ℕ) (xs : List ℤ) → true ≡ stepAllowed m q (stateOf index location values) t → stateOf index l xs ≡ after m (stateOf index location values) t → markedAs index (record { number = 0; place = next; done = done + 1; location = l; modes = ms; values = xs }) ≡ markSteps m q (stateOf index location values) 1 sheet place done
     unfolding afterStep
-    mark-passed l xs p e =
-        marked-passed index (record { number = 0; place = next; done = done + 1; location = l; values = xs }) refl
+    mark-passed l ms xs p e =
+        marked-passed index (record { number = 0; place = next; done = done + 1; location = l; modes = ms; values = xs }) refl
         ∙ ap (λ v. passed v next (done + 1)) e
         ∙ ap (λ (d : ℕ). passed (after m Here t) next d) (add-one done)
         ∙ sym (one-step m q Here sheet place done ∙ ap (afterStep m Here done) (tested-passed m q Here sheet place t next reads p))

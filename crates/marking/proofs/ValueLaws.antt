@@ -1,27 +1,30 @@
 -- Rows at a point, as the code meets them: the sum so far and its size, the rows that are left, the places where an index keeps rows,
 -- differences of values, and tests of which the first is settled. Assumes nothing.
-use mathlib.Core.Path.{_≡_, refl, sym, ap, _∙_, subst}
-use mathlib.Core.Bool.{Bool, true, false, not, _&&_, _||_}
+use mathlib.Core.Path.{_≡_, refl, sym, ap, ap₂, _∙_, subst}
+use mathlib.Core.Bool.{Bool, true, false, not, cond, _&&_, _||_}
 use mathlib.Core.List.{List, [], _∷_, _++_}
 use Prim.Native.Nat.{ℕ, zero, suc, _+_, _*_, _-_, _^_, _≤_, _<_}
 use native.Mathlib.Nat.{mul-add, mul-one, mul-le-mul, le-of-mul-le-mul-right, sub-zero}
-use native.Mathlib.Decide.{ℕ-discrete}
+use native.Mathlib.Decide.{ℕ-discrete, decLe}
 use native.Mathlib.Numerals.{add-one}
 use native.Mathlib.Omega.{arith}
-use borrow.Author.Tests.{eq-eqb, ne-eqb}
-use lib.Dec.{T, eqb}
-use lib.IntN.{ℤ, pos, negℤ, natAbs, _+ℤ_, _-ℤ_, _*ℤ_, +ℤ-assoc, +ℤ-comm, *ℤ-zero}
+use borrow.Author.Tests.{eq-eqb, ne-eqb, lt-ltb, le-ltb}
+use lib.Bits.{bitXor, xor-block, xor-zero-r, xor-lt}
+use lib.Dec.{T, eqb, ltb, lit<}
+use lib.IntN.{ℤ, pos, negsuc, negℤ, natAbs, _+ℤ_, _-ℤ_, _*ℤ_, +ℤ-assoc, +ℤ-comm, *ℤ-zero}
 use lib.ListN.{length, getD, take, drop, replicate, length-append, List·getD-append}
 use lib.Seq.{take-at}
-use lib.Signed.{leZ}
+use lib.Signed.{leZ, _≤ℤ_}
 use mir.Syntax.{w64}
 use mir.Val.{SFits, toZ, ofZ}
 use mir.Facts.{toZ-ofZ}
 use Rattle.farkas.specs.Lists.{every}
 use Rattle.farkas.specs.Rows.{item, dot, rowHolds}
 use Rattle.farkas.specs.Farkas.{sameZ}
-use Rattle.farkas.proofs.Bits.{size-+, size-+*, fits, read-back, same-bits}
+use Rattle.farkas.proofs.Integers.{split, by-parts}
+use Rattle.farkas.proofs.Bits.{size-+, size-*, size-+*, fits, read-back, same-bits}
 use Rattle.farkas.proofs.Test.{same-means}
+use Rattle.sheets.specs.Reading.{signed}
 use Rattle.sheets.specs.Places.{signedAt, numbersAt, rowAt, rowsFrom}
 use Rattle.sheets.specs.Joint.{stays}
 use Rattle.sheets.specs.Index.{entry, componentPlace, modePlace, switchPlace, unsafePlace, spanRows, GoodSpan, GoodIndex}
@@ -55,7 +58,7 @@ dot-next s at (suc i) (p ∷ ps) =
     one-more : (at i : ℕ) → at + 4 + 4 * i ≡ at + 4 * suc i
     one-more at i = omega arith
 
-pub dot-goes-on : (s : List ℕ) (at i : ℕ) (ps : List ℤ) (sum a : ℤ) → sum ≡ dot (numbersAt s at i) ps → a ≡ signedAt s (at + 4 * i) → sum +ℤ a *ℤ item ps i ≡ dot (numbersAt s at (i + 1)) ps
+dot-goes-on : (s : List ℕ) (at i : ℕ) (ps : List ℤ) (sum a : ℤ) → sum ≡ dot (numbersAt s at i) ps → a ≡ signedAt s (at + 4 * i) → sum +ℤ a *ℤ item ps i ≡ dot (numbersAt s at (i + 1)) ps
 dot-goes-on s at i ps sum a p q = rw (add-one i, p, q) (sym (dot-next s at i ps))
 
 -- no further values than coefficients count
@@ -65,19 +68,99 @@ dot-take s at zero ps = refl
 dot-take s at (suc n) [] = refl
 dot-take s at (suc n) (p ∷ ps) = ap (λ d. signedAt s at *ℤ p +ℤ d) (dot-take s (at + 4) n ps)
 
--- its size, times the number of coefficients: 2 ^ 62 for each coefficient that was added
-module _ (n i : ℕ) (sum a p : ℤ) (few : i < n) (small : natAbs sum * n ≤ i * 2 ^ 62) (coefficient : natAbs a ≤ 2 ^ 31) (value : natAbs p * n ≤ 2 ^ 31) where
-  product-size : natAbs a * natAbs p * n ≤ 2 ^ 62
-  product-size = omega (arith, mul-le-mul coefficient value)
+-- A number of 32 bits with its highest bit flipped: the signed number, raised by 2 ^ 31
+flip-low : (k n : ℕ) → n < 2 ^ k → bitXor n (2 ^ k) ≡ n + 2 ^ k
+flip-low k n h =
+    ap₂ bitXor (none n (2 ^ k)) (once (2 ^ k))
+    ∙ xor-block k 0 1 n 0 h (omega arith)
+    ∙ ap (λ (m : ℕ). 1 * 2 ^ k + m) (xor-zero-r n)
+    ∙ both n (2 ^ k)
+  where
+    none : (n m : ℕ) → n ≡ 0 * m + n
+    none n m = omega arith
+
+    once : (m : ℕ) → m ≡ 1 * m + 0
+    once m = omega arith
+
+    both : (n m : ℕ) → 1 * m + n ≡ n + m
+    both n m = omega arith
+
+flip-high : (k n : ℕ) → 2 ^ k ≤ n → n < 2 * 2 ^ k → bitXor n (2 ^ k) ≡ n - 2 ^ k
+flip-high k n h l =
+    ap₂ bitXor (rest n (2 ^ k) h) (once (2 ^ k))
+    ∙ xor-block k 1 1 (n - 2 ^ k) 0 (omega arith) (omega arith)
+    ∙ ap (λ (m : ℕ). 0 * 2 ^ k + m) (xor-zero-r (n - 2 ^ k))
+    ∙ nothing (n - 2 ^ k) (2 ^ k)
+  where
+    rest : (n m : ℕ) → m ≤ n → n ≡ 1 * m + (n - m)
+    rest n m h = omega arith
+
+    once : (m : ℕ) → m ≡ 1 * m + 0
+    once m = omega arith
+
+    nothing : (n m : ℕ) → 0 * m + n ≡ n
+    nothing n m = omega arith
+
+above : (n : ℕ) → 2147483648 ≤ n → n < 4294967296 → pos (n - 2147483648) ≡ negsuc (4294967296 - suc n) +ℤ pos 2147483648
+above n h l =
+    sym
+    (ap (λ b. cond b (negsuc (suc (4294967296 - suc n) - suc 2147483648)) (pos (2147483648 - suc (4294967296 - suc n)))) (le-ltb 2147483648 (suc (4294967296 - suc n)) (omega arith))
+    ∙ ap pos (same n h l))
+  where
+    same : (n : ℕ) → 2147483648 ≤ n → n < 4294967296 → 2147483648 - suc (4294967296 - suc n) ≡ n - 2147483648
+    same n h l = omega arith
+
+pub raised-told : (n : ℕ) → n < 2 ^ 32 → pos (bitXor n (2 ^ 31)) ≡ signed n +ℤ pos (2 ^ 31)
+unfolding signed
+raised-told n h = go (decLe 2147483648 n)
+  where
+    go : Dec (2147483648 ≤ n) → pos (bitXor n (2 ^ 31)) ≡ cond (ltb n (2 ^ 31)) (pos n) (negsuc (2 ^ 32 - suc n)) +ℤ pos (2 ^ 31)
+    go (yes k) = ap pos (flip-high 31 n k (omega arith)) ∙ above n k h ∙ ap (λ b. cond b (pos n) (negsuc (2 ^ 32 - suc n)) +ℤ pos (2 ^ 31)) (sym (le-ltb n 2147483648 k))
+    go (no f) =
+        let k : n < 2147483648 = omega arith in
+        ap pos (flip-low 31 n k) ∙ ap (λ b. cond b (pos n) (negsuc (2 ^ 32 - suc n)) +ℤ pos (2 ^ 31)) (sym (lt-ltb n 2147483648 k))
+
+pub raised-small : (n : ℕ) → n < 2 ^ 32 → bitXor n (2 ^ 31) < 2 ^ 32
+raised-small n h = xor-lt 32 n (2 ^ 31) h (lit< tt)
+
+-- the sum with coefficients raised: it is the sum, and 2 ^ 31 times the values' own
+raised-goes-on : (k : ℕ) (d t a p : ℤ) → (d +ℤ pos k *ℤ t) +ℤ (a +ℤ pos k) *ℤ p ≡ (d +ℤ a *ℤ p) +ℤ pos k *ℤ (t +ℤ pos 1 *ℤ p)
+raised-goes-on k d t a p = rw (split d, split t, split a, split p) (simp by-parts (omega arith))
+
+pub raised-dot : (s : List ℕ) (at i : ℕ) (ps : List ℤ) (sum total a : ℤ) → sum ≡ dot (numbersAt s at i) ps +ℤ pos (2 ^ 31) *ℤ total → a ≡ signedAt s (at + 4 * i) +ℤ pos (2 ^ 31) → sum +ℤ a *ℤ item ps i ≡ dot (numbersAt s at (i + 1)) ps +ℤ pos (2 ^ 31) *ℤ (total +ℤ pos 1 *ℤ item ps i)
+raised-dot s at i ps sum total a p q =
+    ap (λ x. x +ℤ a *ℤ item ps i) p
+    ∙ ap (λ x. (dot (numbersAt s at i) ps +ℤ pos (2 ^ 31) *ℤ total) +ℤ x *ℤ item ps i) q
+    ∙ raised-goes-on (2 ^ 31) (dot (numbersAt s at i) ps) total (signedAt s (at + 4 * i)) (item ps i)
+    ∙ ap (λ x. x +ℤ pos (2 ^ 31) *ℤ (total +ℤ pos 1 *ℤ item ps i)) (dot-goes-on s at i ps (dot (numbersAt s at i) ps) (signedAt s (at + 4 * i)) refl refl)
+
+-- their sizes, times the number of coefficients: so much for each coefficient that was added
+module _ (n i : ℕ) (sum total a p : ℤ) (few : i < n) (small : natAbs sum * n ≤ i * (4294967295 * 2 ^ 31)) (light : natAbs total * n ≤ i * 2 ^ 31) (coefficient : natAbs a < 2 ^ 32) (value : natAbs p * n ≤ 2 ^ 31) where
+  product-size : natAbs a * natAbs p * n ≤ 4294967295 * 2 ^ 31
+  product-size =
+      let below : natAbs a ≤ 4294967295 = omega arith in
+      omega (arith, mul-le-mul below value)
 
   pub sum-room : natAbs sum + natAbs a * natAbs p < 2 ^ 63
   sum-room =
-      let both : (natAbs sum + natAbs a * natAbs p) * n ≤ (i + 1) * 2 ^ 62 = omega (arith, product-size) in
-      let most : (natAbs sum + natAbs a * natAbs p) * n ≤ 2 ^ 62 * n = omega (arith, both) in
+      let both : (natAbs sum + natAbs a * natAbs p) * n ≤ (i + 1) * (4294967295 * 2 ^ 31) = omega (arith, product-size) in
+      let most : (natAbs sum + natAbs a * natAbs p) * n ≤ 4294967295 * 2 ^ 31 * n = omega (arith, both) in
       omega (arith, le-of-mul-le-mul-right most (omega arith))
 
-  pub sum-grows : natAbs (sum +ℤ a *ℤ p) * n ≤ (i + 1) * 2 ^ 62
+  pub sum-grows : natAbs (sum +ℤ a *ℤ p) * n ≤ (i + 1) * (4294967295 * 2 ^ 31)
   sum-grows = omega (arith, product-size, mul-le-mul (size-+* sum a p) (le-self n))
+    where
+      le-self : (n : ℕ) → n ≤ n
+      le-self n = omega arith
+
+  pub total-room : natAbs total + 1 * natAbs p < 2 ^ 63
+  total-room =
+      let both : (natAbs total + natAbs p) * n ≤ (i + 1) * 2 ^ 31 = omega arith in
+      let most : (natAbs total + natAbs p) * n ≤ 2 ^ 31 * n = omega (arith, both) in
+      omega (arith, le-of-mul-le-mul-right most (omega arith))
+
+  pub total-grows : natAbs (total +ℤ pos 1 *ℤ p) * n ≤ (i + 1) * 2 ^ 31
+  total-grows = omega (arith, mul-le-mul (size-+* total (pos 1) p) (le-self n))
     where
       le-self : (n : ℕ) → n ≤ n
       le-self n = omega arith
@@ -87,10 +170,35 @@ bound-room b q h k =
     let below : q ≤ 2 ^ 24 = omega arith in
     omega (arith, mul-le-mul h below)
 
--- a row is compared: its sum with q times its bound
-pub row-compared : (s : List ℕ) (at n q : ℕ) (ps : List ℤ) (sum b : ℤ) → sum ≡ dot (numbersAt s at n) ps → b ≡ signedAt s (at + 4 * n) *ℤ pos q → leZ sum b ≡ rowHolds q (take n ps) (rowAt s n at .row)
+-- the bound, raised as the sum is
+module _ (n q : ℕ) (b total : ℤ) (least : 1 ≤ n) (light : natAbs total * n ≤ n * 2 ^ 31) (small : natAbs b ≤ 2 ^ 31) (below : q < 2 ^ 24) where
+  pub raised-room : natAbs (b *ℤ pos q) + 2147483648 * natAbs total < 2 ^ 63
+  raised-room =
+      let most : q ≤ 2 ^ 24 = omega arith in
+      let few : natAbs total * n ≤ 2 ^ 31 * n = omega (arith, light) in
+      omega (arith, size-* b (pos q), mul-le-mul small most, le-of-mul-le-mul-right few (omega arith))
+
+-- a row is compared: its sum with q times its bound, both raised by as much
+le-both : (a b c : ℤ) → a ≤ℤ b → (a +ℤ c) ≤ℤ (b +ℤ c)
+le-both a b c = rw (split a, split b, split c) (simp by-parts (omega arith))
+
+both-le : (a b c : ℤ) → (a +ℤ c) ≤ℤ (b +ℤ c) → a ≤ℤ b
+both-le a b c = rw (split a, split b, split c) (simp by-parts (omega arith))
+
+same-tests : (x y : Bool) → (T x → T y) → (T y → T x) → x ≡ y
+same-tests true true f g = refl
+same-tests true false f g = absurd (f tt)
+same-tests false true f g = absurd (g tt)
+same-tests false false f g = refl
+
+raised-test : (a b c : ℤ) → leZ (a +ℤ c) (b +ℤ c) ≡ leZ a b
+raised-test a b c =
+    same-tests (leZ (a +ℤ c) (b +ℤ c)) (leZ a b) (λ t. both-le a b c (record { le = t }) .le) (λ t. le-both a b c (record { le = t }) .le)
+
+pub row-compared : (s : List ℕ) (at n q : ℕ) (ps : List ℤ) (sum b c : ℤ) → sum ≡ dot (numbersAt s at n) ps +ℤ c → b ≡ signedAt s (at + 4 * n) *ℤ pos q +ℤ c → leZ sum b ≡ rowHolds q (take n ps) (rowAt s n at .row)
 unfolding rowHolds rowAt
-row-compared s at n q ps sum b p r = rw (dot-take s at n ps, p, r) refl
+row-compared s at n q ps sum b c p r =
+    rw (p, r, dot-take s at n ps) (raised-test (dot (numbersAt s at n) ps) (signedAt s (at + 4 * n) *ℤ pos q) c)
 
 -- the rows that are left, and where they stand
 module _ (from n at j : ℕ) (here : at ≡ from + 4 * (n + 1) * j) where
@@ -248,6 +356,19 @@ module _ {s index : List ℕ} (g : GoodIndex s index) (n u : ℕ) (h : u < entry
   pub unsafe-span : GoodSpan s n index (892 + 6 * u + 4)
   unfolding unsafePlace
   unsafe-span = subst (λ (m : ℕ). GoodSpan s m index (892 + 6 * u + 4)) (sym p) (g .unsafe u h)
+
+-- eight values, one after the other
+pub eight-told : (xs : List ℤ) → length xs ≡ 8 → getD xs 0 (pos 0) ∷ getD xs 1 (pos 0) ∷ getD xs 2 (pos 0) ∷ getD xs 3 (pos 0) ∷ getD xs 4 (pos 0) ∷ getD xs 5 (pos 0) ∷ getD xs 6 (pos 0) ∷ getD xs 7 (pos 0) ∷ [] ≡ xs
+eight-told (a ∷ b ∷ c ∷ d ∷ e ∷ f ∷ g ∷ h ∷ []) p = refl
+eight-told [] p = absurd (omega arith)
+eight-told (a ∷ []) p = absurd (omega arith)
+eight-told (a ∷ b ∷ []) p = absurd (omega arith)
+eight-told (a ∷ b ∷ c ∷ []) p = absurd (omega arith)
+eight-told (a ∷ b ∷ c ∷ d ∷ []) p = absurd (omega arith)
+eight-told (a ∷ b ∷ c ∷ d ∷ e ∷ []) p = absurd (omega arith)
+eight-told (a ∷ b ∷ c ∷ d ∷ e ∷ f ∷ []) p = absurd (omega arith)
+eight-told (a ∷ b ∷ c ∷ d ∷ e ∷ f ∷ g ∷ []) p = absurd (omega arith)
+eight-told (a ∷ b ∷ c ∷ d ∷ e ∷ f ∷ g ∷ h ∷ x ∷ xs) p = absurd (omega arith)
 
 -- tests in a row, where the first are settled
 pub second-fails : (x a r : Bool) → a ≡ false → false ≡ (x && (a && r))

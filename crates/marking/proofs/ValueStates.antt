@@ -10,8 +10,8 @@ use native.Mathlib.Omega.{arith}
 use borrow.Author.Tests.{lt-ltb, eq-eqb}
 use lib.Dec.{ltb, eqb}
 use lib.IntN.{ℤ, pos, _-ℤ_}
-use lib.ListN.{length, getD, take, drop, replicate}
-use lib.Seq.{paste, take-paste, length-paste, length-take-le, take-take, take-at, take-append-le, drop-cons, getD-take}
+use lib.ListN.{length, getD, take, drop, set, replicate, length-append}
+use lib.Seq.{paste, paste-zero, paste-suc, take-paste, length-paste, length-take-le, take-append-le, drop-cons, getD-take, set-append-left, take-set-lt, drop-set-lt}
 use Rattle.farkas.specs.Lists.{every, some}
 use Rattle.farkas.specs.Rows.{item}
 use Rattle.farkas.specs.Farkas.{sameZ}
@@ -21,15 +21,14 @@ use Rattle.sheets.specs.Joint.{stays, switchOf, countUp}
 use Rattle.sheets.specs.Index.{entry, ownerPlace, componentPlace, modePlace, switchPlace, unsafePlace, spanRows, modeFrom, switchFrom, unsafeFrom, componentsFrom, modelFrom, GoodIndex}
 use Rattle.sheets.specs.Counts.{componentAt, perComponent, KnownSwitches}
 use Rattle.sheets.proofs.GoodIndexLaws.{components-drop, components-end, switch-at}
-use Rattle.sheets.proofs.JointLoops.{componentsOn, numbersOn, per-component-drop, per-component-modes}
+use Rattle.sheets.proofs.JointLoops.{componentsOn, numbersOn, per-component-drop}
 use Rattle.marking.specs.Runs as runs
 use Rattle.marking.specs.Runs.{conditionHolds, present, movers, difference, sameValues, modesFit}
-use Rattle.marking.specs.Listing.{KnownModes}
+use Rattle.marking.specs.Listing.{Stands}
 use Rattle.marking.specs.Held.{perVariable, stateOf, SmallValues, SmallPoint, modeHolds, unsafeAt, moveHolds, moveAt, sameAt, keptAt, valueKept}
 use Rattle.marking.proofs.RowSizes.{Small, small-append, small-zeros}
 use Rattle.marking.proofs.ListFacts.{there}
 use Rattle.marking.proofs.HypothesisLines.{mode-at}
-use Rattle.marking.proofs.CountLaws.{known-present}
 use Rattle.marking.proofs.ValueLoops.{each-agree, some-agree, some-map, each-picked}
 use Rattle.marking.proofs.ValueLaws.{difference-small, differences-length, second-fails}
 
@@ -53,7 +52,33 @@ small-paste size d at xs n h k =
     (small-append size (take at d) (take n xs) (small-take size at d h) (small-take size n xs k))
     (small-drop size (at + n) d h)
 
--- values before and after, side by side
+-- a value stored before the place where others are put
+set-before : (d xs : List ℤ) (at n i : ℕ) (v : ℤ) → i < at → at ≤ length d → set (paste d at xs n) i v ≡ paste (set d i v) at xs n
+set-before d xs at n i v h l =
+    let long : length (take at d) ≡ at = length-take-le at d l in
+    set-append-left (take at d ++ take n xs) (drop (at + n) d) i v (omega (arith, length-append (take at d) (take n xs)))
+    ∙ ap (λ ys. ys ++ drop (at + n) d) (set-append-left (take at d) (take n xs) i v (omega arith))
+    ∙ ap (λ ys. ys ++ take n xs ++ drop (at + n) d) (sym (take-set-lt at d i v h))
+    ∙ ap (λ ys. take at (set d i v) ++ take n xs ++ ys) (sym (drop-set-lt (at + n) d i v (omega arith)))
+
+-- values before and after, side by side: none are put, and one more of each
+pub none-put : (values next : List ℤ) (n : ℕ) → replicate 16 (pos 0) ≡ paste (paste (replicate 16 (pos 0)) 0 values 0) n next 0
+none-put values next n = paste-zero (replicate 16 (pos 0)) 0 values ∙ paste-zero (paste (replicate 16 (pos 0)) 0 values 0) n next
+
+pub both-put : (values next : List ℤ) (n i : ℕ) → length values ≡ 8 → length next ≡ 8 → n ≤ 8 → i < n → set (set (paste (paste (replicate 16 (pos 0)) 0 values i) n next i) i (getD values i (pos 0))) (n + i) (getD next i (pos 0)) ≡ paste (paste (replicate 16 (pos 0)) 0 values (i + 1)) n next (i + 1)
+both-put values next n i p q few h =
+    let z : List ℤ = replicate 16 (pos 0) in
+    let v = getD values i (pos 0) in
+    let w = getD next i (pos 0) in
+    let d = paste z 0 values i in
+    let e = paste z 0 values (suc i) in
+    let long : length d ≡ 16 = length-paste z 0 values i (omega arith) (omega arith) in
+    let same : length e ≡ 16 = length-paste z 0 values (suc i) (omega arith) (omega arith) in
+    let first : set d i v ≡ e = ap (λ (k : ℕ). set d k v) (sym (zero-add i)) ∙ paste-suc z 0 values i (pos 0) (omega arith) (omega arith) in
+    ap (λ xs. set xs (n + i) w) (set-before d next n i i v h (omega arith) ∙ ap (λ xs. paste xs n next i) first)
+    ∙ paste-suc e n next i (pos 0) (omega arith) (omega arith)
+    ∙ ap (λ (k : ℕ). paste (paste z 0 values k) n next k) (sym (add-one i))
+
 pub side-for : (values next point : List ℤ) (n m : ℕ) → n ≡ m → point ≡ paste (paste (replicate 16 (pos 0)) 0 values n) n next n → point ≡ paste (paste (replicate 16 (pos 0)) 0 values m) m next m
 side-for values next point n m p e = e ∙ ap (λ (k : ℕ). paste (paste (replicate 16 (pos 0)) 0 values k) k next k) p
 
@@ -80,29 +105,26 @@ module _ (values next point : List ℤ) (n : ℕ) (p : length values ≡ 8) (q :
       twice : (n : ℕ) → 2 * n ≡ n + n
       twice n = omega arith
 
+  pub both-small : SmallValues values → SmallValues next → 1 ≤ n → SmallPoint (2 * n) point
+  both-small v w least =
+      let small : Small (2 ^ 27) point =
+      subst (Small (2 ^ 27)) (sym e)
+      (small-paste (2 ^ 27) (paste (replicate 16 (pos 0)) 0 values n) n next n
+      (small-paste (2 ^ 27) (replicate 16 (pos 0)) 0 values n (small-zeros (2 ^ 27) 16) (v .small))
+      (w .small)) in
+      let most : 2 * n ≤ 16 = omega arith in
+      record { some = omega arith; few = most; small = λ i. omega (arith, mul-le-mul (small i) most) }
+
+-- values with 0 after them
+module _ (values point : List ℤ) (n : ℕ) (p : length values ≡ 8) (few : n ≤ 8) (e : point ≡ values ++ replicate 8 (pos 0)) where
   pub values-taken : take n point ≡ take n values
-  values-taken =
-      sym (take-take n (2 * n) point (omega arith))
-      ∙ ap (take n) both-taken
-      ∙ take-at (take n values) (take n next) n (length-take-le n values (omega arith))
+  values-taken = ap (take n) e ∙ take-append-le n values (replicate 8 (pos 0)) (omega arith)
 
-  module _ (v : SmallValues values) (w : SmallValues next) (least : 1 ≤ n) where
-    point-small : Small (2 ^ 27) point
-    point-small =
-        subst (Small (2 ^ 27)) (sym e)
-        (small-paste (2 ^ 27) (paste (replicate 16 (pos 0)) 0 values n) n next n
-        (small-paste (2 ^ 27) (replicate 16 (pos 0)) 0 values n (small-zeros (2 ^ 27) 16) (v .small))
-        (w .small))
-
-    pub both-small : SmallPoint (2 * n) point
-    both-small =
-        let most : 2 * n ≤ 16 = omega arith in
-        record { some = omega arith; few = most; small = λ i. omega (arith, mul-le-mul (point-small i) most) }
-
-    pub values-small : SmallPoint n point
-    values-small =
-        let most : n ≤ 16 = omega arith in
-        record { some = least; few = most; small = λ i. omega (arith, mul-le-mul (point-small i) most) }
+  pub values-small : SmallValues values → 1 ≤ n → SmallPoint n point
+  values-small v least =
+      let small : Small (2 ^ 27) point =
+      subst (Small (2 ^ 27)) (sym e) (small-append (2 ^ 27) values (replicate 8 (pos 0)) (v .small) (small-zeros (2 ^ 27) 8)) in
+      record { some = least; few = omega arith; small = λ i. omega (arith, mul-le-mul (small i) few) }
 
 -- the changes of values
 difference-take : (n : ℕ) (xs ys : List ℤ) → take n (difference xs ys) ≡ difference (take n xs) (take n ys)
@@ -165,21 +187,15 @@ module _ (s index numbers : List ℕ) (long : entry index 1 ≤ length numbers) 
   over-all = over-from (entry index 1) 0 (omega arith)
 
 -- the present modes
-module _ {s index : List ℕ} (g : GoodIndex s index) (location : ℕ) (modes rest : List ℕ) (e : modes ≡ modesAt (componentsFrom s index) location ++ rest) (inside : location < locationCount (componentsFrom s index)) (long : entry index 1 ≤ length modes) where
-  these : perComponent index modes ≡ modesAt (componentsFrom s index) location
-  these = per-component-modes s index location modes rest e
-
-  known : KnownModes index modes
-  known = known-present location modes g inside these
-
+module _ {s index : List ℕ} (g : GoodIndex s index) (location : ℕ) (modes : List ℕ) (stands : Stands s index location modes) (long : entry index 1 ≤ length modes) where
   -- a test of the present modes
   present-is : (k : ℕ) → k < entry index 1 → modeOf (componentAt s index k) (getD modes k 0) ≡ modeFrom s (entry index 0) index (modePlace (componentPlace k) (getD modes k 0))
-  present-is k h = mode-at s index k (getD modes k 0) (known .known k h)
+  present-is k h = mode-at s index k (getD modes k 0) (stands .known .known k h)
 
   over-modes : (f : Mode → Bool) → every f (runs.modesIn (modelFrom s index) location) ≡ every (λ k. f (modeFrom s (entry index 0) index (modePlace (componentPlace k) (getD modes k 0)))) (countUp 0 (entry index 1))
   unfolding modelFrom runs.modesIn every present
   over-modes f =
-      ap (λ ms. every f (present (componentsFrom s index) ms)) (sym these)
+      ap (λ ms. every f (present (componentsFrom s index) ms)) (sym (stands .here))
       ∙ over-all s index modes long (λ cs ms. every f (present cs ms)) (λ c m. f (modeOf c m)) last next
       ∙ each-agree _ _ (entry index 1) (λ k h. ap f (present-is k h))
     where
@@ -194,7 +210,7 @@ module _ {s index : List ℕ} (g : GoodIndex s index) (location : ℕ) (modes re
 
   starts-told : starts ≡ every (λ mode. eqb (mode .start) 1) (runs.modesIn (modelFrom s index) location)
   unfolding starts modelFrom runs.modesIn
-  starts-told = ap (λ ms. every (λ mode. eqb (mode .start) 1) (present (componentsFrom s index) ms)) these
+  starts-told = ap (λ ms. every (λ mode. eqb (mode .start) 1) (present (componentsFrom s index) ms)) (stands .here)
 
   module _ (q : ℕ) (values point : List ℤ) (taken : take (entry index 0) point ≡ values) where
     rows-at : ℕ → List ℤ → ℕ → Bool
@@ -238,7 +254,7 @@ module _ {s index : List ℕ} (g : GoodIndex s index) (location : ℕ) (modes re
     pub start-told : (a b c : Bool) → a ≡ runs.admissible (modelFrom s index) q (stateOf index location values) → b ≡ every (λ mode. eqb (mode .start) 1) (present (componentsFrom s index) (perComponent index modes)) → c ≡ every (modeHolds s index modes 1 q point) (countUp 0 (entry index 1)) → (a && (b && c)) ≡ runs.startAllowed (modelFrom s index) q (stateOf index location values)
     unfolding begun starts
     start-told a b c p r t =
-        ap (λ x. x && (a && (b && c))) (sym (lt-ltb location (locationCount (componentsFrom s index)) inside))
+        ap (λ x. x && (a && (b && c))) (sym (lt-ltb location (locationCount (componentsFrom s index)) (stands .below)))
         ∙ ap (λ x. begun x b c) p
         ∙ ap (λ x. begun (runs.admissible (modelFrom s index) q (stateOf index location values)) x c) r
         ∙ ap (begun (runs.admissible (modelFrom s index) q (stateOf index location values)) starts) t
@@ -249,7 +265,7 @@ module _ {s index : List ℕ} (g : GoodIndex s index) (location : ℕ) (modes re
     unfolding unsafeAt
     unsafe-is u =
         let asked = unsafeFrom s (entry index 0) (entry index 1) index (unsafePlace u) in
-        ap (λ ms. modesFit (asked .modes) ms && conditionHolds q (take (entry index 0) values) (asked .rows)) (sym these)
+        ap (λ ms. modesFit (asked .modes) ms && conditionHolds q (take (entry index 0) values) (asked .rows)) (sym (stands .here))
         ∙ ap (λ xs. modesFit (asked .modes) (perComponent index modes) && conditionHolds q xs (asked .rows)) (sym taken)
 
     pub unsafe-told : some (unsafeAt s index modes q point) (countUp 0 (entry index 2)) ≡ runs.isUnsafe (modelFrom s index) q (stateOf index location values)

@@ -11,13 +11,12 @@ use Rattle.sheets.specs.declared.Step as coded
 use Rattle.sheets.specs.declared.Step.the-variants as step
 use Rattle.sheets.specs.Reading.{Reader, _>>_, header}
 use Rattle.sheets.specs.Model.{Model}
-use Rattle.sheets.specs.Locations.{locationCount}
-use Rattle.sheets.specs.Index.{componentsFrom}
 use Rattle.sheets.specs.Counts.{KnownSwitches}
 use Rattle.sheets.specs.RunSheet.{Opening, readOpening}
 use Rattle.sheets.specs.RunAnswers.{fourSwitches}
 use Rattle.marking.specs.declared.RunMarked.{RunMarked}
 use Rattle.marking.specs.Runs.{State}
+use Rattle.marking.specs.Listing.{Stands}
 use Rattle.marking.specs.Held.{stateOf, SmallValues}
 use Rattle.marking.specs.Marking.{Marked, passed, stopped}
 
@@ -38,8 +37,8 @@ markedAs index r =
     (passed (stateOf index (r .location) (r .values)) (r .place) (r .done))
     (stopped (r .number) (r .place) (r .done))
 
--- its state stands in a location of the model, with values as they are read, and its place in the sheet
+-- its state stands in a location of the model, with this location's modes and values as they are read, and its place in the sheet
 pub record RunStands (model index sheet : List ℕ) (r : RunMarked) : Type 0 where
-  pub located : r .location < locationCount (componentsFrom model index)
+  pub stands : Stands model index (r .location) (r .modes)
   pub small : SmallValues (r .values)
   pub placed : r .place ≤ length sheet

@@ -7,6 +7,7 @@ use crate::tables::push_kept;
 use crate::tables::push_modes;
 use crate::tables::push_staying;
 use crate::tables::push_switches;
+use sheets::joints::modes_at;
 ghost use mathlib.Core.Path.{_≡_};
 ghost use Prim.Native.Nat.{_+_, _≤_, _<_};
 ghost use lib.ListN.{length};
@@ -260,7 +261,7 @@ pub fn group_at(
     )
 }
 
-// The proofs after a joint switch, by the region of its target.
+// The proofs after a joint switch, by the region of its target. Where that has no rows there is nothing to prove, and no table is built.
 pub fn jump_group(
     model: &[u8],
     index: &[u16; 988],
@@ -270,15 +271,18 @@ pub fn jump_group(
     modes: [u8; 4],
     switches: [u8; 4],
     target: u32,
-    targets: [u8; 4],
     table: &mut [u16],
 ) -> Group
     requires { ⌜ GoodPaper (now model) (now index) (now second) (now regions) ⌝ }
-    requires { ⌜ Stands (now model) (now index) location modes × (Stands (now model) (now index) target targets × KnownSwitches (now index) switches) ⌝ }
+    requires { ⌜ Stands (now model) (now index) location modes × ((target < locationCount (componentsFrom (now model) (now index))) × KnownSwitches (now index) switches) ⌝ }
     requires { ⌜ 256 ≤ length (now table) ⌝ }
     ensures { λ r. ⌜ tasksOf (now (model .entry)) (now (second .entry)) (entry (now (index .entry)) 0) (now (table .exit)) r ≡ jumpTasks (modelFrom (now (model .entry)) (now (index .entry))) (regionsOf (now (model .entry)) (now (index .entry)) (now (second .entry)) (now (regions .entry))) location (perComponent (now (index .entry)) switches) target ⌝ }
     ensures { λ r. ⌜ GoodGroup (now (model .entry)) (now (second .entry)) (entry (now (index .entry)) 0) (now (table .exit)) r ⌝ }
 {
+    if regions[2 * (target as usize) + 1] == 0 {
+        return no_group();
+    }
+    let targets = modes_at(model, index, target);
     let hypotheses = jump_table(
         model,
         index,

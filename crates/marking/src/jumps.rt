@@ -18,8 +18,8 @@ ghost use Rattle.sheets.specs.Joint.{moves, partIn, membersMove, allStay, oneMo
 ghost use Rattle.sheets.specs.Index.{entry, componentsFrom, modelFrom, GoodIndex};
 ghost use Rattle.sheets.specs.Counts.{componentAt, perComponent, KnownSwitches};
 ghost use Rattle.sheets.specs.RunAnswers.{stepOf};
-ghost use Rattle.sheets.specs.RunSheet.{jump};
 ghost use Rattle.marking.specs.Runs as runs;
+ghost use Rattle.marking.specs.Listing.{Stands};
 ghost use Rattle.marking.specs.Held.{perVariable, stateOf, SmallValues};
 ghost use Rattle.marking.specs.RunHeld.{KnownStep};
 
@@ -123,6 +123,7 @@ pub fn jump_rule(
     model: &[u8],
     index: &[u16; 988],
     location: u32,
+    modes: [u8; 4],
     q: u32,
     e: u32,
     switches: [u8; 4],
@@ -131,10 +132,10 @@ pub fn jump_rule(
 ) -> bool
     requires { ⌜ GoodIndex (now model) (now index) ⌝ }
     requires { ⌜ KnownSwitches (now index) switches ⌝ }
-    requires { ⌜ (location < locationCount (componentsFrom (now model) (now index))) × ((e ≤ 15) × ((q < 2 ^ 24) × (SmallValues values × SmallValues next))) ⌝ }
+    requires { ⌜ Stands (now model) (now index) location modes × ((e ≤ 15) × ((q < 2 ^ 24) × (SmallValues values × SmallValues next))) ⌝ }
     ensures { λ r. ⌜ r ≡ runs.jumpRule (modelFrom (now (model .entry)) (now (index .entry))) q (stateOf (now (index .entry)) location values) e (perComponent (now (index .entry)) switches) (perVariable (now (index .entry)) next) ⌝ }
 {
-    if !is_joint(model, index, modes_at(model, index, location), e, switches) {
+    if !is_joint(model, index, modes, e, switches) {
         return false;
     }
     if !jump_rows(model, index, location, q, switches, values, next) {
@@ -143,34 +144,12 @@ pub fn jump_rule(
     staying_kept(model, index, location, switches, values, next)
 }
 
-// Whether a jump is allowed: it meets its rule and leads to an admissible state.
-fn jump_allowed(
+// Whether a step meets its rule.
+fn rule_met(
     model: &[u8],
     index: &[u16; 988],
     location: u32,
-    q: u32,
-    e: u32,
-    switches: [u8; 4],
-    values: [i64; 8],
-    next: [i64; 8],
-) -> bool
-    requires { ⌜ GoodIndex (now model) (now index) ⌝ }
-    requires { ⌜ KnownSwitches (now index) switches ⌝ }
-    requires { ⌜ (location < locationCount (componentsFrom (now model) (now index))) × ((e ≤ 15) × ((q < 2 ^ 24) × (SmallValues values × SmallValues next))) ⌝ }
-    ensures { λ r. ⌜ r ≡ runs.stepAllowed (modelFrom (now (model .entry)) (now (index .entry))) q (stateOf (now (index .entry)) location values) (jump e (perComponent (now (index .entry)) switches) (perVariable (now (index .entry)) next)) ⌝ }
-{
-    let target = target_of(model, index, modes_at(model, index, location), switches);
-    if !admissible(model, index, target, q, next) {
-        return false;
-    }
-    jump_rule(model, index, location, q, e, switches, values, next)
-}
-
-// Whether a step is allowed: it leads to an admissible state and meets its rule.
-pub fn step_allowed(
-    model: &[u8],
-    index: &[u16; 988],
-    location: u32,
+    modes: [u8; 4],
     q: u32,
     values: [i64; 8],
     by: Step,
@@ -178,20 +157,16 @@ pub fn step_allowed(
 ) -> bool
     requires { ⌜ GoodIndex (now model) (now index) ⌝ }
     requires { ⌜ KnownStep (now index) by ⌝ }
-    requires { ⌜ (location < locationCount (componentsFrom (now model) (now index))) × ((q < 2 ^ 24) × (SmallValues values × SmallValues next)) ⌝ }
-    ensures { λ r. ⌜ r ≡ runs.stepAllowed (modelFrom (now (model .entry)) (now (index .entry))) q (stateOf (now (index .entry)) location values) (stepOf (entry (now (index .entry)) 1) by (perVariable (now (index .entry)) next)) ⌝ }
+    requires { ⌜ Stands (now model) (now index) location modes × ((q < 2 ^ 24) × (SmallValues values × SmallValues next)) ⌝ }
+    ensures { λ r. ⌜ r ≡ runs.ruleMet (modelFrom (now (model .entry)) (now (index .entry))) q (stateOf (now (index .entry)) location values) (stepOf (entry (now (index .entry)) 1) by (perVariable (now (index .entry)) next)) ⌝ }
 {
     match by {
-        Step::Flow(time) => {
-            if !admissible(model, index, location, q, next) {
-                return false;
-            }
-            flow_rule(model, index, location, time, values, next)
-        }
-        Step::Jump(e, w) => jump_allowed(
+        Step::Flow(time) => flow_rule(model, index, location, modes, time, values, next),
+        Step::Jump(e, w) => jump_rule(
             model,
             index,
             location,
+            modes,
             q,
             e,
             [w.a, w.b, w.c, w.d],
@@ -201,21 +176,69 @@ pub fn step_allowed(
     }
 }
 
-// The location that a step leads to: a flow keeps it.
-pub fn location_after(model: &[u8], index: &[u16; 988], location: u32, by: Step) -> u32
+// Whether a step is allowed: it leads to an admissible state and meets its rule. The location that it leads to is handed over, with its
+// modes.
+pub fn step_allowed(
+    model: &[u8],
+    index: &[u16; 988],
+    location: u32,
+    modes: [u8; 4],
+    q: u32,
+    values: [i64; 8],
+    by: Step,
+    target: u32,
+    targets: [u8; 4],
+    next: [i64; 8],
+) -> bool
     requires { ⌜ GoodIndex (now model) (now index) ⌝ }
     requires { ⌜ KnownStep (now index) by ⌝ }
-    requires { ⌜ location < locationCount (componentsFrom (now model) (now index)) ⌝ }
+    requires { ⌜ Stands (now model) (now index) location modes × ((q < 2 ^ 24) × (SmallValues values × SmallValues next)) ⌝ }
+    requires { ⌜ Stands (now model) (now index) target targets × (target ≡ runs.after (modelFrom (now model) (now index)) (stateOf (now index) location []) (stepOf (entry (now index) 1) by []) .location) ⌝ }
+    ensures { λ r. ⌜ r ≡ runs.stepAllowed (modelFrom (now (model .entry)) (now (index .entry))) q (stateOf (now (index .entry)) location values) (stepOf (entry (now (index .entry)) 1) by (perVariable (now (index .entry)) next)) ⌝ }
+{
+    if !admissible(model, index, target, targets, q, next) {
+        return false;
+    }
+    rule_met(model, index, location, modes, q, values, by, next)
+}
+
+// The location that a step leads to: a flow keeps it.
+pub fn location_after(
+    model: &[u8],
+    index: &[u16; 988],
+    location: u32,
+    modes: [u8; 4],
+    by: Step,
+) -> u32
+    requires { ⌜ GoodIndex (now model) (now index) ⌝ }
+    requires { ⌜ KnownStep (now index) by ⌝ }
+    requires { ⌜ Stands (now model) (now index) location modes ⌝ }
     ensures { λ r. ⌜ r ≡ runs.after (modelFrom (now (model .entry)) (now (index .entry))) (stateOf (now (index .entry)) location []) (stepOf (entry (now (index .entry)) 1) by []) .location ⌝ }
     ensures { λ r. ⌜ r < locationCount (componentsFrom (now (model .entry)) (now (index .entry))) ⌝ }
 {
     match by {
         Step::Flow(_) => location,
-        Step::Jump(_, w) => target_of(
-            model,
-            index,
-            modes_at(model, index, location),
-            [w.a, w.b, w.c, w.d],
-        ),
+        Step::Jump(_, w) => target_of(model, index, modes, [w.a, w.b, w.c, w.d]),
+    }
+}
+
+// The modes of the location that a step leads to: a flow keeps them.
+pub fn modes_after(
+    model: &[u8],
+    index: &[u16; 988],
+    location: u32,
+    modes: [u8; 4],
+    by: Step,
+    target: u32,
+) -> [u8; 4]
+    requires { ⌜ GoodIndex (now model) (now index) ⌝ }
+    requires { ⌜ Stands (now model) (now index) location modes ⌝ }
+    requires { ⌜ target < locationCount (componentsFrom (now model) (now index)) ⌝ }
+    requires { ⌜ target ≡ runs.after (modelFrom (now model) (now index)) (stateOf (now index) location []) (stepOf (entry (now index) 1) by []) .location ⌝ }
+    ensures { λ r. ⌜ Stands (now (model .entry)) (now (index .entry)) target r ⌝ }
+{
+    match by {
+        Step::Flow(_) => modes,
+        Step::Jump(_, _) => modes_at(model, index, target),
     }
 }

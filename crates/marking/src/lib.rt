@@ -53,12 +53,14 @@ pub struct Summed {
     pub sums: farkas::Row,
 }
 
-// How far the marking of a run has come: the number of its refusal, or 0, its place, how many steps passed, and the state reached.
+// How far the marking of a run has come: the number of its refusal, or 0, its place, how many steps passed, and the state reached,
+// with the modes of its location.
 pub struct RunMarked {
     pub number: u32,
     pub place: usize,
     pub done: u32,
     pub location: u32,
+    pub modes: [u8; 4],
     pub values: [i64; 8],
 }
 

@@ -8,10 +8,12 @@ use crate::proofs::row_on;
 use farkas::Row;
 use farkas::no_sums;
 use sheets::Next;
-use sheets::joints::event_count;
-use sheets::joints::joint_at;
 use sheets::joints::modes_at;
 use sheets::joints::target_of;
+use sheets::tally::tallied;
+use sheets::tally::tally;
+use sheets::ways::list_ways;
+use sheets::ways::way_at;
 ghost use mathlib.Core.Path.{_≡_};
 ghost use mathlib.Core.Bool.{false};
 ghost use Prim.Native.Nat.{_+_, _*_, _^_, _≤_, _<_};
@@ -19,9 +21,12 @@ ghost use lib.ListN.{length, getD};
 ghost use Rattle.farkas.specs.Rows.{zeroRow};
 ghost use Rattle.farkas.specs.Sizes.{Within};
 ghost use Rattle.sheets.specs.Locations.{locationCount};
-ghost use Rattle.sheets.specs.Joint.{countUp, joinAll, jointsOf, joints};
+ghost use Rattle.sheets.specs.Joint.{countUp, joinAll, switchesOf, jointsOf, joints};
 ghost use Rattle.sheets.specs.Index.{entry, componentsFrom, modelFrom};
+ghost use Rattle.sheets.specs.Counts.{perComponent};
 ghost use Rattle.sheets.specs.CertificateAnswers.{regionsFrom};
+ghost use Rattle.sheets.specs.Tally.{Tallied};
+ghost use Rattle.sheets.specs.Ways.{Ways};
 ghost use Rattle.marking.specs.Obligations.{obligations};
 ghost use Rattle.marking.specs.Marking.{markProofs};
 ghost use Rattle.marking.specs.Tables.{padded, heldNext};
@@ -125,9 +130,9 @@ fn mark_locations(
     }
 }
 
-// The proofs of the joint switches of one event from a location, from a place on and with so many passed before, up to the first that
-// fails: of each joint switch one for each row of its target's region.
-fn mark_event(
+// The proofs of the joint switches of one event from a location, by the table of their ways, from a place on and with so many passed
+// before, up to the first that fails: of each joint switch one for each row of its target's region.
+fn mark_switches(
     model: &[u8],
     index: &[u16; 988],
     second: &[u8],
@@ -135,24 +140,26 @@ fn mark_event(
     location: u32,
     modes: [u8; 4],
     e: u32,
+    ways: &[u8],
+    counts: [u32; 4],
+    count: u32,
     at: usize,
     before: u32,
     table: &mut [u16; 256],
 ) -> Marking
     requires { ⌜ GoodPaper (now model) (now index) (now second) (now regions) ⌝ }
     requires { ⌜ Stands (now model) (now index) location modes × ((e ≤ 15) × ((at ≤ length (now second)) × (before ≤ at))) ⌝ }
+    requires { ⌜ (128 ≤ length (now ways)) × (Ways (now model) (now index) modes e (now ways) counts × (count ≡ length (switchesOf (componentsFrom (now model) (now index)) (perComponent (now index) modes) e))) ⌝ }
     ensures { λ r. ⌜ r ≡ standsAt (markTasks (jointTasks (modelFrom (now (model .entry)) (now (index .entry))) (regionsOf (now (model .entry)) (now (index .entry)) (now (second .entry)) (now (regions .entry))) (jointsOf (componentsFrom (now (model .entry)) (now (index .entry))) location e)) (now (second .entry)) at before) ⌝ }
 {
     let n = index[0] as usize;
-    let count = event_count(model, index, modes, e);
     let mut number: u32 = 0;
     let mut place = at;
     let mut done = before;
     let mut x: u32 = 0;
     'marking: while x < count {
-        let switches = joint_at(model, index, modes, e, x);
+        let switches = way_at(model, index, modes, e, ways, counts, x);
         let target = target_of(model, index, modes, switches);
-        let targets = modes_at(model, index, target);
         let group = jump_group(
             model,
             index,
@@ -162,7 +169,6 @@ fn mark_event(
             modes,
             switches,
             target,
-            targets,
             table,
         );
         let goals = group.goals;
@@ -190,19 +196,65 @@ fn mark_event(
     }
 }
 
+// The proofs of the joint switches of one event from a location. Where there are any, the components' ways are listed once for all.
+fn mark_event(
+    model: &[u8],
+    index: &[u16; 988],
+    second: &[u8],
+    regions: &[u16; 128],
+    tallies: &[u8; 512],
+    location: u32,
+    modes: [u8; 4],
+    e: u32,
+    at: usize,
+    before: u32,
+    table: &mut [u16; 256],
+) -> Marking
+    requires { ⌜ GoodPaper (now model) (now index) (now second) (now regions) ⌝ }
+    requires { ⌜ Stands (now model) (now index) location modes × ((e ≤ 15) × ((at ≤ length (now second)) × ((before ≤ at) × Tallied (now model) (now index) (now tallies)))) ⌝ }
+    ensures { λ r. ⌜ r ≡ standsAt (markTasks (jointTasks (modelFrom (now (model .entry)) (now (index .entry))) (regionsOf (now (model .entry)) (now (index .entry)) (now (second .entry)) (now (regions .entry))) (jointsOf (componentsFrom (now (model .entry)) (now (index .entry))) location e)) (now (second .entry)) at before) ⌝ }
+{
+    let count = tallied(model, index, tallies, modes, e);
+    if count == 0 {
+        return Marking {
+            number: 0,
+            place: at,
+            done: before,
+        };
+    }
+    let mut ways = [0u8; 128];
+    let counts = list_ways(model, index, modes, e, &mut ways);
+    mark_switches(
+        model,
+        index,
+        second,
+        regions,
+        location,
+        modes,
+        e,
+        &ways,
+        counts,
+        count,
+        at,
+        before,
+        table,
+    )
+}
+
 // The proofs of all joint switches, location by location and event by event.
 fn mark_joints(
     model: &[u8],
     index: &[u16; 988],
     second: &[u8],
     regions: &[u16; 128],
+    tallies: &[u8; 512],
     locations: u32,
     at: usize,
     before: u32,
     table: &mut [u16; 256],
 ) -> Marking
     requires { ⌜ GoodPaper (now model) (now index) (now second) (now regions) ⌝ }
-    requires { ⌜ (locations ≡ locationCount (componentsFrom (now model) (now index))) × ((at ≤ length (now second)) × (before ≤ at)) ⌝ }
+    requires { ⌜ (locations ≡ locationCount (componentsFrom (now model) (now index))) × ((at ≤ length (now second)) × ((before ≤ at) × Tallied (now model) (now index) (now tallies))) ⌝ }
     ensures { λ r. ⌜ r ≡ standsAt (markTasks (jointTasks (modelFrom (now (model .entry)) (now (index .entry))) (regionsOf (now (model .entry)) (now (index .entry)) (now (second .entry)) (now (regions .entry))) (joints (componentsFrom (now (model .entry)) (now (index .entry))))) (now (second .entry)) at before) ⌝ }
 {
     let mut number: u32 = 0;
@@ -218,6 +270,7 @@ fn mark_joints(
                 index,
                 second,
                 regions,
+                tallies,
                 location,
                 modes,
                 e,
@@ -260,11 +313,13 @@ pub fn mark_obligations(
     if marked.number != 0 {
         return marked;
     }
+    let tallies = tally(model, index);
     mark_joints(
         model,
         index,
         second,
         regions,
+        &tallies,
         locations,
         marked.place,
         marked.done,

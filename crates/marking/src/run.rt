@@ -4,6 +4,7 @@ use crate::RunMarked;
 use crate::answers::on_model;
 use crate::answers::on_second;
 use crate::jumps::location_after;
+use crate::jumps::modes_after;
 use crate::jumps::step_allowed;
 use crate::values::is_unsafe;
 use crate::values::start_allowed;
@@ -14,6 +15,7 @@ use sheets::StepRead;
 use sheets::header::finished;
 use sheets::header::header;
 use sheets::joints::location_count;
+use sheets::joints::modes_at;
 use sheets::run::opening;
 use sheets::run::step;
 use sheets::sheet::read_model;
@@ -39,30 +41,46 @@ fn mark_step(model: &[u8], index: &[u16; 988], s: &[u8], q: u32, run: RunMarked)
     let values = read.values;
     let told = read.read;
     let before = run.values;
+    let modes = run.modes;
     match told {
         StepRead::Refused(number, place) => RunMarked {
             number,
             place,
             done: run.done,
             location: run.location,
+            modes,
             values: before,
         },
         StepRead::Good(by, place) => {
-            if !step_allowed(model, index, run.location, q, before, by, values) {
+            let location = location_after(model, index, run.location, modes, by);
+            let after = modes_after(model, index, run.location, modes, by, location);
+            if !step_allowed(
+                model,
+                index,
+                run.location,
+                modes,
+                q,
+                before,
+                by,
+                location,
+                after,
+                values,
+            ) {
                 return RunMarked {
                     number: 13,
                     place: run.place,
                     done: run.done,
                     location: run.location,
+                    modes,
                     values: before,
                 };
             }
-            let location = location_after(model, index, run.location, by);
             RunMarked {
                 number: 0,
                 place,
                 done: run.done + 1,
                 location,
+                modes: after,
                 values,
             }
         }
@@ -110,7 +128,8 @@ fn close_run(model: &[u8], index: &[u16; 988], s: &[u8], q: u32, run: RunMarked)
         Next::Refused(number, place) => on_second(number, place, run.done, 0),
         Next::At(_) => {
             let values = run.values;
-            if is_unsafe(model, index, run.location, q, values) {
+            let modes = run.modes;
+            if is_unsafe(model, index, run.location, modes, q, values) {
                 on_second(0, s.len(), run.done, 100)
             } else {
                 on_second(14, s.len(), run.done, 0)
@@ -131,7 +150,8 @@ fn mark_body(model: &[u8], index: &[u16; 988], s: &[u8]) -> Answer
     match told {
         OpeningRead::Refused(number, place) => on_second(number, place, 0, 0),
         OpeningRead::Opening(q, steps, location, next) => {
-            if !start_allowed(model, index, location, q, values) {
+            let modes = modes_at(model, index, location);
+            if !start_allowed(model, index, location, modes, q, values) {
                 return on_second(12, 10, 0, 0);
             }
             let first = RunMarked {
@@ -139,6 +159,7 @@ fn mark_body(model: &[u8], index: &[u16; 988], s: &[u8]) -> Answer
                 place: next,
                 done: 0,
                 location,
+                modes,
                 values,
             };
             close_run(

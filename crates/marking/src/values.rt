@@ -4,26 +4,26 @@ use crate::counting::modes_fit;
 use crate::tables::mode_place;
 use crate::tables::switch_place;
 use farkas::multiply_add;
+use sheets::fields::number;
 use sheets::fields::signed_at;
-use sheets::joints::modes_at;
 ghost use mathlib.Core.Path.{_≡_};
 ghost use mathlib.Core.Bool.{false};
 ghost use mathlib.Core.List.{_++_};
 ghost use Prim.Native.Nat.{_+_, _*_, _^_, _≤_, _<_};
 ghost use lib.Dec.{eqb};
-ghost use lib.IntN.{pos};
+ghost use lib.IntN.{pos, natAbs, _+ℤ_};
 ghost use lib.ListN.{length, take, replicate};
 ghost use lib.Seq.{paste};
 ghost use Rattle.farkas.specs.Lists.{every, some};
 ghost use Rattle.farkas.specs.Rows.{rowHolds};
 ghost use Rattle.farkas.specs.Farkas.{sameZ};
-ghost use Rattle.sheets.specs.Locations.{locationCount};
 ghost use Rattle.sheets.specs.Joint.{stays, countUp};
-ghost use Rattle.sheets.specs.Places.{rowAt};
-ghost use Rattle.sheets.specs.Index.{entry, ownerPlace, componentPlace, spanRows, componentsFrom, modelFrom, GoodSpan, GoodIndex};
+ghost use Rattle.sheets.specs.Reading as reading;
+ghost use Rattle.sheets.specs.Places.{signedAt, rowAt};
+ghost use Rattle.sheets.specs.Index.{entry, ownerPlace, componentPlace, spanRows, modelFrom, GoodSpan, GoodIndex};
 ghost use Rattle.sheets.specs.Counts.{perComponent, KnownSwitches};
 ghost use Rattle.marking.specs.Runs as runs;
-ghost use Rattle.marking.specs.Listing.{GoodModes};
+ghost use Rattle.marking.specs.Listing.{GoodModes, Stands};
 ghost use Rattle.marking.specs.Held.{perVariable, stateOf, SmallValues, SmallPoint, modeHolds, unsafeAt, moveHolds, sameAt, keptAt};
 
 // A number of an index, as places have it.
@@ -41,19 +41,40 @@ fn number_at(index: &[u16; 988], i: usize) -> usize
     wide(index[i])
 }
 
-// Whether a row with so many coefficients holds at a point over q: a·p ≤ b·q.
+// A number of 32 bits as a signed one, raised by 2^31. It is the same for both signs, so the number's four bytes are loaded as one word.
+fn raised(number: u32) -> i64
+    ensures { λ r. ⌜ r ≡ reading.signed number +ℤ pos (2 ^ 31) ⌝ }
+    ensures { λ r. ⌜ natAbs r < 2 ^ 32 ⌝ }
+{
+    (number ^ 2147483648) as i64
+}
+
+// The four bytes at a place that has them, as a signed number, raised by 2^31.
+fn raised_at(s: &[u8], at: usize) -> i64
+    requires { ⌜ at + 4 ≤ length (now s) ⌝ }
+    ensures { λ r. ⌜ r ≡ signedAt (now (s .entry)) at +ℤ pos (2 ^ 31) ⌝ }
+    ensures { λ r. ⌜ natAbs r < 2 ^ 32 ⌝ }
+{
+    raised(number(s, at))
+}
+
+// Whether a row with so many coefficients holds at a point over q: a·p ≤ b·q. The coefficients are taken 2^31 too high, so b·q is raised
+// by 2^31 times the sum of the values.
 fn row_holds(s: &[u8], at: usize, count: usize, point: &[i64; 16], q: u32) -> bool
     requires { ⌜ at + 4 * (count + 1) ≤ length (now s) ⌝ }
     requires { ⌜ SmallPoint count (now point) × (q < 2 ^ 24) ⌝ }
     ensures { λ r. ⌜ r ≡ rowHolds q (take count (now (point .entry))) (rowAt (now (s .entry)) count at .row) ⌝ }
 {
     let mut sum: i64 = 0;
+    let mut total: i64 = 0;
     let mut i: usize = 0;
     while i < count {
-        sum = multiply_add(sum, signed_at(s, at + 4 * i), point[i]);
+        sum = multiply_add(sum, raised_at(s, at + 4 * i), point[i]);
+        total = multiply_add(total, 1, point[i]);
         i += 1;
     }
-    sum <= multiply_add(0, signed_at(s, at + 4 * count), q as i64)
+    let bound = multiply_add(0, signed_at(s, at + 4 * count), q as i64);
+    sum <= multiply_add(bound, 2147483648, total)
 }
 
 // Whether the rows hold that an index keeps at a place.
@@ -108,36 +129,60 @@ fn modes_hold(
     true
 }
 
-// An array with so many values put in it from a place on.
-fn put(point: [i64; 16], at: usize, values: [i64; 8], n: usize) -> [i64; 16]
-    requires { ⌜ (n ≤ 8) × (at + n ≤ 16) ⌝ }
-    ensures { λ r. ⌜ r ≡ paste point at values n ⌝ }
-{
-    let mut filled = point;
-    let mut i: usize = 0;
-    while i < n {
-        filled[at + i] = values[i];
-        i += 1;
-    }
-    filled
-}
-
 // Values before and after, as one point.
 fn side_by_side(values: [i64; 8], next: [i64; 8], n: usize) -> [i64; 16]
     requires { ⌜ n ≤ 8 ⌝ }
     ensures { λ r. ⌜ r ≡ paste (paste (replicate 16 (pos 0)) 0 values n) n next n ⌝ }
 {
-    put(put([0; 16], 0, values, n), n, next, n)
+    let mut point: [i64; 16] = [0; 16];
+    let mut i: usize = 0;
+    while i < n {
+        point[i] = values[i];
+        point[n + i] = next[i];
+        i += 1;
+    }
+    point
+}
+
+// Eight values as a point, with 0 in the places after them.
+fn widened(values: [i64; 8]) -> [i64; 16]
+    ensures { λ r. ⌜ r ≡ values ++ replicate 8 (pos 0) ⌝ }
+{
+    [
+        values[0],
+        values[1],
+        values[2],
+        values[3],
+        values[4],
+        values[5],
+        values[6],
+        values[7],
+        0,
+        0,
+        0,
+        0,
+        0,
+        0,
+        0,
+        0,
+    ]
 }
 
 // Whether a state is admissible: every component's invariant holds.
-pub fn admissible(model: &[u8], index: &[u16; 988], location: u32, q: u32, values: [i64; 8]) -> bool
+pub fn admissible(
+    model: &[u8],
+    index: &[u16; 988],
+    location: u32,
+    modes: [u8; 4],
+    q: u32,
+    values: [i64; 8],
+) -> bool
     requires { ⌜ GoodIndex (now model) (now index) ⌝ }
-    requires { ⌜ (location < locationCount (componentsFrom (now model) (now index))) × ((q < 2 ^ 24) × SmallValues values) ⌝ }
+    requires { ⌜ Stands (now model) (now index) location modes × ((q < 2 ^ 24) × SmallValues values) ⌝ }
     ensures { λ r. ⌜ r ≡ runs.admissible (modelFrom (now (model .entry)) (now (index .entry))) q (stateOf (now (index .entry)) location values) ⌝ }
 {
-    let point = side_by_side(values, values, number_at(index, 0));
-    modes_hold(model, index, modes_at(model, index, location), 3, &point, q)
+    let point = widened(values);
+    modes_hold(model, index, modes, 3, &point, q)
 }
 
 // Whether a run may begin in a state.
@@ -145,21 +190,21 @@ pub fn start_allowed(
     model: &[u8],
     index: &[u16; 988],
     location: u32,
+    modes: [u8; 4],
     q: u32,
     values: [i64; 8],
 ) -> bool
     requires { ⌜ GoodIndex (now model) (now index) ⌝ }
-    requires { ⌜ (location < locationCount (componentsFrom (now model) (now index))) × ((q < 2 ^ 24) × SmallValues values) ⌝ }
+    requires { ⌜ Stands (now model) (now index) location modes × ((q < 2 ^ 24) × SmallValues values) ⌝ }
     ensures { λ r. ⌜ r ≡ runs.startAllowed (modelFrom (now (model .entry)) (now (index .entry))) q (stateOf (now (index .entry)) location values) ⌝ }
 {
-    if !admissible(model, index, location, q, values) {
+    if !admissible(model, index, location, modes, q, values) {
         return false;
     }
-    let modes = modes_at(model, index, location);
     if !all_start(model, index, modes) {
         return false;
     }
-    let point = side_by_side(values, values, number_at(index, 0));
+    let point = widened(values);
     modes_hold(model, index, modes, 1, &point, q)
 }
 
@@ -202,13 +247,20 @@ fn some_unsafe(model: &[u8], index: &[u16; 988], modes: [u8; 4], point: &[i64; 1
 }
 
 // Whether a state is unsafe.
-pub fn is_unsafe(model: &[u8], index: &[u16; 988], location: u32, q: u32, values: [i64; 8]) -> bool
+pub fn is_unsafe(
+    model: &[u8],
+    index: &[u16; 988],
+    location: u32,
+    modes: [u8; 4],
+    q: u32,
+    values: [i64; 8],
+) -> bool
     requires { ⌜ GoodIndex (now model) (now index) ⌝ }
-    requires { ⌜ (location < locationCount (componentsFrom (now model) (now index))) × ((q < 2 ^ 24) × SmallValues values) ⌝ }
+    requires { ⌜ Stands (now model) (now index) location modes × ((q < 2 ^ 24) × SmallValues values) ⌝ }
     ensures { λ r. ⌜ r ≡ runs.isUnsafe (modelFrom (now (model .entry)) (now (index .entry))) q (stateOf (now (index .entry)) location values) ⌝ }
 {
-    let point = side_by_side(values, values, number_at(index, 0));
-    some_unsafe(model, index, modes_at(model, index, location), &point, q)
+    let point = widened(values);
+    some_unsafe(model, index, modes, &point, q)
 }
 
 // Whether two values are the same.
@@ -252,23 +304,17 @@ pub fn flow_rule(
     model: &[u8],
     index: &[u16; 988],
     location: u32,
+    modes: [u8; 4],
     time: u32,
     values: [i64; 8],
     next: [i64; 8],
 ) -> bool
     requires { ⌜ GoodIndex (now model) (now index) ⌝ }
-    requires { ⌜ (location < locationCount (componentsFrom (now model) (now index))) × ((time < 2 ^ 24) × (SmallValues values × SmallValues next)) ⌝ }
+    requires { ⌜ Stands (now model) (now index) location modes × ((time < 2 ^ 24) × (SmallValues values × SmallValues next)) ⌝ }
     ensures { λ r. ⌜ r ≡ runs.flowRule (modelFrom (now (model .entry)) (now (index .entry))) (stateOf (now (index .entry)) location values) time (perVariable (now (index .entry)) next) ⌝ }
 {
     let point = differences(next, values);
-    if !modes_hold(
-        model,
-        index,
-        modes_at(model, index, location),
-        5,
-        &point,
-        time,
-    ) {
+    if !modes_hold(model, index, modes, 5, &point, time) {
         return false;
     }
     if time != 0 {

@@ -22,8 +22,10 @@ pub mod RowPlaces
 pub mod GoodIndexLaws
 pub mod JointCounts
 pub mod JointLoops
+pub mod TallyLaws
 pub mod SheetLaws
 pub mod CertificateLaws
 pub mod EachLoop
 pub mod RunLaws
 pub mod StepLaws
+pub mod WaysLaws

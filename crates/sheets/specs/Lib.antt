@@ -10,5 +10,7 @@ pub mod ModelSheet
 pub mod Certificate
 pub mod RunSheet
 pub mod Counts
+pub mod Tally
 pub mod CertificateAnswers
 pub mod RunAnswers
+pub mod Ways

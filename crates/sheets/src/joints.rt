@@ -1,6 +1,8 @@
 // Locations and joint switches of a model, by its index. Joint switches are counted, and one is found by its number among those of its
 // location and event; they are never listed. The sheet is handed over for the contracts, which speak of the model: no byte of it is read.
 use crate::model::has_event;
+use crate::tally::tallied;
+use crate::tally::tally;
 ghost use mathlib.Core.Path.{_≡_};
 ghost use mathlib.Core.Bool.{cond, false};
 ghost use mathlib.Core.List.{[], _++_};
@@ -12,9 +14,10 @@ ghost use Rattle.sheets.specs.Locations.{locationCount, modesAt, locatio
 ghost use Rattle.sheets.specs.Joint.{stays, switchOf, leaves, leaving, bit, scopeMask, silent, together, switchesOf, modesAfter, joinAll, countUp, joints};
 ghost use Rattle.sheets.specs.Index.{entry, GoodIndex, componentsFrom};
 ghost use Rattle.sheets.specs.Counts.{componentAt, perComponent, parts, fourSwitches, KnownSwitches};
+ghost use Rattle.sheets.specs.Tally.{Tallied, SmallModes};
 
 // How many components there are.
-fn component_count(s: &[u8], index: &[u16; 988]) -> usize
+pub fn component_count(s: &[u8], index: &[u16; 988]) -> usize
     requires { ⌜ GoodIndex (now s) (now index) ⌝ }
     ensures { λ r. ⌜ r ≡ entry (now (index .entry)) 1 ⌝ }
 {
@@ -31,7 +34,7 @@ fn mode_count(s: &[u8], index: &[u16; 988], k: usize) -> u32
 }
 
 // How many switches a component has.
-fn switch_count(s: &[u8], index: &[u16; 988], k: usize) -> usize
+pub fn switch_count(s: &[u8], index: &[u16; 988], k: usize) -> usize
     requires { ⌜ GoodIndex (now s) (now index) ⌝ }
     requires { ⌜ k < entry (now index) 1 ⌝ }
     ensures { λ r. ⌜ r ≡ length (componentAt (now (s .entry)) (now (index .entry)) k .switches) ⌝ }
@@ -87,7 +90,7 @@ pub fn leaves_by(s: &[u8], index: &[u16; 988], k: usize, i: usize, mode: u8, e: 
 }
 
 // 1 for yes, 0 for no.
-fn bit_of(yes: bool) -> u32
+pub fn bit_of(yes: bool) -> u32
     ensures { λ r. ⌜ r ≡ bit yes ⌝ }
 {
     if yes { 1 } else { 0 }
@@ -235,15 +238,23 @@ pub fn event_count(s: &[u8], index: &[u16; 988], modes: [u8; 4], e: u32) -> u32
 }
 
 // A count of joint switches, with those of one more location: one above the limit as soon as there are more.
-fn with_location(s: &[u8], index: &[u16; 988], modes: [u8; 4], before: u32, limit: u32) -> u32
-    requires { ⌜ GoodIndex (now s) (now index) ⌝ }
+fn with_location(
+    s: &[u8],
+    index: &[u16; 988],
+    table: &[u8; 512],
+    modes: [u8; 4],
+    before: u32,
+    limit: u32,
+) -> u32
+    requires { ⌜ GoodIndex (now s) (now index) × Tallied (now s) (now index) (now table) ⌝ }
+    requires { ⌜ SmallModes (now index) modes ⌝ }
     requires { ⌜ (before ≤ limit) × (limit ≤ 4096) ⌝ }
     ensures { λ r. ⌜ r ≡ min (before + length (joinAll (switchesOf (componentsFrom (now (s .entry)) (now (index .entry))) (perComponent (now (index .entry)) modes)) (countUp 0 16))) (limit + 1) ⌝ }
 {
     let mut count = before;
     let mut e: u32 = 0;
     while e < 16 {
-        count += event_count(s, index, modes, e);
+        count += tallied(s, index, table, modes, e);
         if limit < count {
             return limit + 1;
         }
@@ -252,16 +263,23 @@ fn with_location(s: &[u8], index: &[u16; 988], modes: [u8; 4], before: u32, limi
     count
 }
 
-// How many joint switches there are, or one above the limit where there are more.
-pub fn joint_count(s: &[u8], index: &[u16; 988], locations: u32, limit: u32) -> u32
-    requires { ⌜ GoodIndex (now s) (now index) ⌝ }
+// How many joint switches the locations have by the tally, or one above the limit where there are more.
+fn tallied_joints(
+    s: &[u8],
+    index: &[u16; 988],
+    table: &[u8; 512],
+    locations: u32,
+    limit: u32,
+) -> u32
+    requires { ⌜ GoodIndex (now s) (now index) × Tallied (now s) (now index) (now table) ⌝ }
     requires { ⌜ (locations ≡ locationCount (componentsFrom (now s) (now index))) × (limit ≤ 4096) ⌝ }
     ensures { λ r. ⌜ r ≡ min (length (joints (componentsFrom (now (s .entry)) (now (index .entry))))) (limit + 1) ⌝ }
 {
     let mut count: u32 = 0;
     let mut location: u32 = 0;
     while location < locations {
-        count = with_location(s, index, modes_at(s, index, location), count, limit);
+        let modes = modes_at(s, index, location);
+        count = with_location(s, index, table, modes, count, limit);
         if limit < count {
             return count;
         }
@@ -270,8 +288,18 @@ pub fn joint_count(s: &[u8], index: &[u16; 988], locations: u32, limit: u32) -> 
     count
 }
 
+// How many joint switches there are, or one above the limit where there are more. The switches are tallied once.
+pub fn joint_count(s: &[u8], index: &[u16; 988], locations: u32, limit: u32) -> u32
+    requires { ⌜ GoodIndex (now s) (now index) ⌝ }
+    requires { ⌜ (locations ≡ locationCount (componentsFrom (now s) (now index))) × (limit ≤ 4096) ⌝ }
+    ensures { λ r. ⌜ r ≡ min (length (joints (componentsFrom (now (s .entry)) (now (index .entry))))) (limit + 1) ⌝ }
+{
+    let table = tally(s, index);
+    tallied_joints(s, index, &table, locations, limit)
+}
+
 // Four switch numbers where one component moves.
-fn alone(k: usize, i: u8) -> [u8; 4]
+pub fn alone(k: usize, i: u8) -> [u8; 4]
     requires { ⌜ k < 4 ⌝ }
     ensures { λ r. ⌜ r ≡ set (replicate 4 stays) k i ⌝ }
 {

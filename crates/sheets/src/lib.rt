@@ -10,7 +10,9 @@ pub mod joints;
 pub mod model;
 pub mod run;
 pub mod sheet;
+pub mod tally;
 pub mod unsafes;
+pub mod ways;
 
 // What reading a field gives: its value and the place after it, or the number and the place of a refusal.
 pub enum Field {

@@ -1,36 +1,27 @@
 -- The joint test, the rows, the values that stay, by the first that fails. Assumes nothing.
-use Prim.Native.Nat.{ℕ, _-_}
 use borrow.Author.Needs.{needs}
-use denote.Ref.{now}
-use lib.ListN.{replicate}
-use Rattle.sheets.specs.Index.{entry}
 use Rattle.marking.proofs.ListFacts.{test-failed, test-passed}
 use Rattle.marking.proofs.JumpLaws.{rule-joint, rule-rows, rule-kept}
 use Rattle.marking.proofs.jumps.jump_rule.Statement.{statement}
 use Rattle.marking.proofs.jumps.jump_rule.Tie as tie
-
-modes-at-requires : tie.Need-modes-at-requires
-modes-at-requires c κs = search needs
 
 is-joint-requires : tie.Need-is-joint-requires
 is-joint-requires c κs = search needs
 
 returns : tie.Need-returns
 returns c =
-    let a = c .before .before .before .before .args in
-    let g = c .before .before .before .before .pre .0 in
-    let rest = replicate {A = ℕ} (4 - entry (now (a .index)) 1) 0 in
-    rule-joint g (a .location) (c .before .before .modes-at .result) rest (c .before .before .modes-at .ensures) (a .switches) (a .q) (a .e) (a .values) (a .next) (test-failed (c .before .is-joint .result) (c .if1 .taken) (c .before .is-joint .ensures))
+    let s = c .before .before .before in
+    let a = s .args in
+    rule-joint (s .pre .0) (a .location) (a .modes) (s .pre .1 .1 .0) (a .switches) (a .q) (a .e) (a .values) (a .next) (test-failed (c .before .is-joint .result) (c .if1 .taken) (c .before .is-joint .ensures))
 
 jump-rows-requires : tie.Need-jump-rows-requires
 jump-rows-requires c κs = search needs
 
 returns-2 : tie.Need-returns-2
 returns-2 c =
-    let a = c .before .before .before .before .before .before .args in
-    let g = c .before .before .before .before .before .before .pre .0 in
-    let rest = replicate {A = ℕ} (4 - entry (now (a .index)) 1) 0 in
-    rule-rows g (a .location) (c .before .before .before .before .modes-at .result) rest (c .before .before .before .before .modes-at .ensures) (a .switches) (a .q) (a .e) (a .values) (a .next)
+    let s = c .before .before .before .before .before in
+    let a = s .args in
+    rule-rows (s .pre .0) (a .location) (a .modes) (s .pre .1 .1 .0) (a .switches) (a .q) (a .e) (a .values) (a .next)
     (test-passed (c .before .before .before .is-joint .result) (c .before .before .if1 .left) (c .before .before .before .is-joint .ensures))
     (test-failed (c .before .jump-rows .result) (c .if2 .taken) (c .before .jump-rows .ensures))
 
@@ -39,10 +30,9 @@ staying-kept-requires c κs = search needs
 
 returns-3 : tie.Need-returns-3
 returns-3 c =
-    let a = c .before .before .before .before .before .before .before .args in
-    let g = c .before .before .before .before .before .before .before .pre .0 in
-    let rest = replicate {A = ℕ} (4 - entry (now (a .index)) 1) 0 in
-    rule-kept g (a .location) (c .before .before .before .before .before .modes-at .result) rest (c .before .before .before .before .before .modes-at .ensures) (a .switches) (a .q) (a .e) (a .values) (a .next)
+    let s = c .before .before .before .before .before .before in
+    let a = s .args in
+    rule-kept (s .pre .0) (a .location) (a .modes) (s .pre .1 .1 .0) (a .switches) (a .q) (a .e) (a .values) (a .next)
     (test-passed (c .before .before .before .before .is-joint .result) (c .before .before .before .if1 .left) (c .before .before .before .before .is-joint .ensures))
     (c .staying-kept .result)
     (test-passed (c .before .before .jump-rows .result) (c .before .if2 .left) (c .before .before .jump-rows .ensures))
@@ -52,7 +42,6 @@ pub jump-rule-spec : {M : Type 1} → statement M
 jump-rule-spec =
     tie.close
     (tie.spec
-    modes-at-requires
     is-joint-requires
     returns
     jump-rows-requires

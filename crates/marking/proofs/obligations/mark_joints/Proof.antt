@@ -26,26 +26,26 @@ use Rattle.marking.proofs.obligations.mark_joints.Statement.{statement}
 use Rattle.marking.proofs.obligations.mark_joints.Tie as tie
 
 abbrev Inv-loop : tie.InvT-loop
-Inv-loop model index second regions locations at before table₀ number₀ place₀ done₀ location modes e₀ table number place done e = (number ≡ 0)
+Inv-loop model index second regions tallies locations at before table₀ number₀ place₀ done₀ location modes e₀ table number place done e = (number ≡ 0)
     × ((e ≤ 16)
     × ((place ≤ length second)
     × ((done ≤ place)
     × Comes second (markTasks (joinedOn (fromLocation (modelFrom model index) (regionsOf model index second regions) (componentsFrom model index)) locations 0) second at before) (joinedOn (eventTasks (modelFrom model index) (regionsOf model index second regions) (componentsFrom model index) location) 16 e ++ joinedOn (fromLocation (modelFrom model index) (regionsOf model index second regions) (componentsFrom model index)) locations (location + 1)) place done)))
 
 abbrev μ-loop : tie.MeasureT-loop
-μ-loop model index second regions locations at before table₀ number₀ place₀ done₀ location modes e₀ table number place done e = 16 - e
+μ-loop model index second regions tallies locations at before table₀ number₀ place₀ done₀ location modes e₀ table number place done e = 16 - e
 
 abbrev Inv-marking : tie.InvT-marking
-Inv-marking model index second regions locations at before table₀ number₀ place₀ done₀ location₀ table number place done location = (number ≡ 0)
+Inv-marking model index second regions tallies locations at before table₀ number₀ place₀ done₀ location₀ table number place done location = (number ≡ 0)
     × ((location ≤ locations)
     × ((place ≤ length second)
     × ((done ≤ place) × Comes second (markTasks (joinedOn (fromLocation (modelFrom model index) (regionsOf model index second regions) (componentsFrom model index)) locations 0) second at before) (joinedOn (fromLocation (modelFrom model index) (regionsOf model index second regions) (componentsFrom model index)) locations location) place done)))
 
 abbrev μ-marking : tie.MeasureT-marking
-μ-marking model index second regions locations at before table₀ number₀ place₀ done₀ location₀ table number place done location = locations - location
+μ-marking model index second regions tallies locations at before table₀ number₀ place₀ done₀ location₀ table number place done location = locations - location
 
 marking-holds : tie.Need-marking-holds Inv-loop μ-loop Inv-marking μ-marking
-marking-holds c = (refl, (omega arith, (c .before .before .pre .1 .1 .0, (c .before .before .pre .1 .1 .1, refl))))
+marking-holds c = (refl, (omega arith, (c .before .before .pre .1 .1 .0, (c .before .before .pre .1 .1 .1 .0, refl))))
 
 modes-at-requires : tie.Need-modes-at-requires Inv-loop μ-loop Inv-marking μ-marking
 modes-at-requires c κs = (c .before .before .before .before .pre .0 .good, omega (arith, c .marking-test .taken, c .before .before .before .before .pre .1 .0))
@@ -82,7 +82,7 @@ mark-event-requires c κs =
     let whole = markTasks (joinedOn (fromLocation m regionAt components) (a .locations) 0) second (a .at) (a .before) in
     let l = c .before .before .loop in
     let h : c .before .before .before .before .before .marking .location < locationCount components = omega (arith, c .before .before .before .before .marking-test .taken, p .1 .0) in
-    (p .0, (stands-at model index (c .before .before .before .before .before .marking .location) (c .before .before .before .modes-at .result) _ (p .0 .good) h (c .before .before .before .modes-at .ensures), (omega (arith, c .before .loop-test .taken), (l .inv .1 .1 .0, l .inv .1 .1 .1 .0))))
+    (p .0, (stands-at model index (c .before .before .before .before .before .marking .location) (c .before .before .before .modes-at .result) _ (p .0 .good) h (c .before .before .before .modes-at .ensures), (omega (arith, c .before .loop-test .taken), (l .inv .1 .1 .0, (l .inv .1 .1 .1 .0, p .1 .1 .1 .1)))))
 
 add-e : tie.Need-add-e Inv-loop μ-loop Inv-marking μ-marking
 add-e c = omega (arith, c .before .before .before .loop-test .taken)

@@ -42,10 +42,13 @@ returns c =
     ∙ sym (mark-tasks (obligations m (regionsFrom second (entry index 0) regions (a .locations))) second (a .at) 0) in
     ap standsAt (part-stops second whole os rest (a .at) 0 r told (p .1 .1) (c .if1 .taken) refl ∙ all)
 
+tally-requires : tie.Need-tally-requires
+tally-requires c κs = c .before .before .before .before .before .before .pre .0 .good
+
 mark-joints-requires : tie.Need-mark-joints-requires
 mark-joints-requires c κs =
-    let a = c .before .before .before .before .before .before .before .args in
-    let p = c .before .before .before .before .before .before .before .pre in
+    let a = c .before .before .before .before .before .before .before .before .before .args in
+    let p = c .before .before .before .before .before .before .before .before .before .pre in
     let model = now (a .model) in
     let index = now (a .index) in
     let second = now (a .second) in
@@ -55,15 +58,15 @@ mark-joints-requires c κs =
     let os = joinAll (locationObligations m regionAt) (countUp 0 (a .locations)) in
     let rest = jointTasks m regionAt (joints (componentsFrom model index)) in
     let whole = markTasks (tasks os ++ rest) second (a .at) 0 in
-    let r = c .before .before .before .mark-locations .result in
-    let told : r ≡ standsAt (markTasks (tasks os) second (a .at) 0) = c .before .before .before .mark-locations .ensures ∙ ap (λ (ts : List Task). standsAt (markTasks ts second (a .at) 0)) (sym (location-tasks m regionAt (a .locations))) in
-    let z : r .number ≡ 0 = c .before .if1 .left in
-    (p .0, (p .1 .0, (part-within second whole os rest (a .at) 0 r told (p .1 .1) z, part-later second whole os rest (a .at) 0 r told (p .1 .1) z (omega arith))))
+    let r = c .before .before .before .before .before .mark-locations .result in
+    let told : r ≡ standsAt (markTasks (tasks os) second (a .at) 0) = c .before .before .before .before .before .mark-locations .ensures ∙ ap (λ (ts : List Task). standsAt (markTasks ts second (a .at) 0)) (sym (location-tasks m regionAt (a .locations))) in
+    let z : r .number ≡ 0 = c .before .before .before .if1 .left in
+    (p .0, (p .1 .0, (part-within second whole os rest (a .at) 0 r told (p .1 .1) z, (part-later second whole os rest (a .at) 0 r told (p .1 .1) z (omega arith), c .before .before .tally .ensures))))
 
 returns-2 : tie.Need-returns-2
 returns-2 c =
-    let a = c .before .before .before .before .before .before .before .before .args in
-    let p = c .before .before .before .before .before .before .before .before .pre in
+    let a = c .before .before .before .before .before .before .before .before .before .before .args in
+    let p = c .before .before .before .before .before .before .before .before .before .before .pre in
     let model = now (a .model) in
     let index = now (a .index) in
     let second = now (a .second) in
@@ -73,15 +76,15 @@ returns-2 c =
     let os = joinAll (locationObligations m regionAt) (countUp 0 (a .locations)) in
     let rest = jointTasks m regionAt (joints (componentsFrom model index)) in
     let whole = markTasks (tasks os ++ rest) second (a .at) 0 in
-    let r = c .before .before .before .before .mark-locations .result in
-    let told : r ≡ standsAt (markTasks (tasks os) second (a .at) 0) = c .before .before .before .before .mark-locations .ensures ∙ ap (λ (ts : List Task). standsAt (markTasks ts second (a .at) 0)) (sym (location-tasks m regionAt (a .locations))) in
+    let r = c .before .before .before .before .before .before .mark-locations .result in
+    let told : r ≡ standsAt (markTasks (tasks os) second (a .at) 0) = c .before .before .before .before .before .before .mark-locations .ensures ∙ ap (λ (ts : List Task). standsAt (markTasks ts second (a .at) 0)) (sym (location-tasks m regionAt (a .locations))) in
     let all : whole ≡ markProofs (obligations m (regionsFrom second (entry index 0) regions (a .locations))) second (a .at) 0 =
     ap (λ (ts : List Task). markTasks (ts ++ rest) second (a .at) 0) (location-tasks m regionAt (a .locations))
     ∙ ap (λ (ts : List Task). markTasks ts second (a .at) 0) (sym (all-parts model index second regions (a .locations) (p .1 .0)))
     ∙ sym (mark-tasks (obligations m (regionsFrom second (entry index 0) regions (a .locations))) second (a .at) 0) in
-    let z : r .number ≡ 0 = c .before .before .if1 .left in
+    let z : r .number ≡ 0 = c .before .before .before .before .if1 .left in
     c .mark-joints .ensures ∙ ap standsAt (part-on second whole os rest (a .at) 0 r told (p .1 .1) z refl ∙ all)
 
 pub mark-obligations-spec : {M : Type 1} → statement M
 mark-obligations-spec =
-    tie.close (tie.spec mark-locations-requires returns mark-joints-requires returns-2)
+    tie.close (tie.spec mark-locations-requires returns tally-requires mark-joints-requires returns-2)

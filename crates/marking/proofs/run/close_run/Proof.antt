@@ -59,21 +59,21 @@ returns-2 c =
 
 returns-3 : tie.Need-returns-3
 returns-3 c =
-    let a = c .before .before .before .before .before .before .before .before .before .before .before .args in
+    let a = c .before .before .before .before .before .before .before .before .before .before .before .before .args in
     let index = now (a .index) in
     let s = now (a .s) in
-    let told = c .before .before .before .before .enum-told .given in
-    let end : reading.finished s (a .run .place) ≡ got tt (told .0 .0) = told-at tt (reading.finished s (a .run .place)) (c .before .before .before .before .before .before .finished .ensures) (told .1) in
-    c .on-second3 .ensures ∙ close-unsafe (modelFrom (now (a .model)) index) index (a .q) s (a .run) (c .before .before .before .before .before .before .before .if1 .left) (told .0 .0) end (sym (c .before .if2 .taken) ∙ c .before .before .is-unsafe .ensures)
+    let told = c .before .before .before .before .before .enum-told .given in
+    let end : reading.finished s (a .run .place) ≡ got tt (told .0 .0) = told-at tt (reading.finished s (a .run .place)) (c .before .before .before .before .before .before .before .finished .ensures) (told .1) in
+    c .on-second3 .ensures ∙ close-unsafe (modelFrom (now (a .model)) index) index (a .q) s (a .run) (c .before .before .before .before .before .before .before .before .if1 .left) (told .0 .0) end (sym (c .before .if2 .taken) ∙ c .before .before .is-unsafe .ensures)
 
 returns-4 : tie.Need-returns-4
 returns-4 c =
-    let a = c .before .before .before .before .before .before .before .before .before .before .before .args in
+    let a = c .before .before .before .before .before .before .before .before .before .before .before .before .args in
     let index = now (a .index) in
     let s = now (a .s) in
-    let told = c .before .before .before .before .enum-told .given in
-    let end : reading.finished s (a .run .place) ≡ got tt (told .0 .0) = told-at tt (reading.finished s (a .run .place)) (c .before .before .before .before .before .before .finished .ensures) (told .1) in
-    c .on-second4 .ensures ∙ close-safe (modelFrom (now (a .model)) index) index (a .q) s (a .run) (c .before .before .before .before .before .before .before .if1 .left) (told .0 .0) end (sym (c .before .if2 .left) ∙ c .before .before .is-unsafe .ensures)
+    let told = c .before .before .before .before .before .enum-told .given in
+    let end : reading.finished s (a .run .place) ≡ got tt (told .0 .0) = told-at tt (reading.finished s (a .run .place)) (c .before .before .before .before .before .before .before .finished .ensures) (told .1) in
+    c .on-second4 .ensures ∙ close-safe (modelFrom (now (a .model)) index) index (a .q) s (a .run) (c .before .before .before .before .before .before .before .before .if1 .left) (told .0 .0) end (sym (c .before .if2 .left) ∙ c .before .before .is-unsafe .ensures)
 
 pub close-run-spec : {M : Type 1} → statement M
 close-run-spec =

@@ -1,20 +1,35 @@
 -- The opening is read, its state tested, then the steps and the end. Assumes nothing.
 use mathlib.Core.Path.{_≡_, refl, ap, _∙_}
 use mathlib.Core.Bool.{true, false}
+use Prim.Native.Nat.{ℕ, _-_}
 use native.Mathlib.Omega.{arith}
 use borrow.Author.Needs.{needs}
 use denote.Ref.{now}
+use lib.ListN.{replicate}
 use Rattle.sheets.specs.Reading.{got, refused}
-use Rattle.sheets.specs.Index.{modelFrom}
+use Rattle.sheets.specs.Index.{entry, modelFrom}
 use Rattle.sheets.specs.RunSheet.{readOpening}
 use Rattle.marking.specs.Runs.{startAllowed}
+use Rattle.marking.specs.Listing.{Stands}
 use Rattle.marking.specs.Held.{perVariable, stateOf}
 use Rattle.marking.specs.Marking.{closeRun}
 use Rattle.marking.proofs.ListFacts.{test-failed, test-passed}
+use Rattle.marking.proofs.MarkLoops.{stands-at}
 use Rattle.marking.proofs.RunCodeRead.{opening-known, opening-placed, opening-read, opening-refused}
 use Rattle.marking.proofs.RunCode.{opening-stops, opening-fails, opening-runs}
 use Rattle.marking.proofs.run.mark_body.Statement.{statement}
 use Rattle.marking.proofs.run.mark_body.Tie as tie
+
+-- the first location, with its modes
+standing : (c : tie.After-modes-at) → Stands (now (c .before .before .before .before .before .before .before .before .before .args .model)) (now (c .before .before .before .before .before .before .before .before .before .args .index)) (c .before .before .told2 .given .0 .1 .1 .0) (c .modes-at .result)
+standing c =
+    let a = c .before .before .before .before .before .before .before .before .before .args in
+    let p = c .before .before .before .before .before .before .before .before .before .pre in
+    let call = c .before .before .before .before .before .opening in
+    let told = c .before .before .told2 .given in
+    let k = opening-known (now (a .model)) (now (a .index)) (now (a .s)) 4 (call .result) (told .0 .0) (told .0 .1 .0) (told .0 .1 .1 .0) (told .0 .1 .1 .1 .0) (p .1 .0) (call .ensures .1) (told .1) in
+    let rest = replicate {A = ℕ} (4 - entry (now (a .index)) 1) 0 in
+    stands-at (now (a .model)) (now (a .index)) (told .0 .1 .1 .0) (c .modes-at .result) rest (p .0) (k .located) (c .modes-at .ensures)
 
 location-count-requires : tie.Need-location-count-requires
 location-count-requires c κs = search needs
@@ -40,23 +55,32 @@ on-second-requires c κs =
 enum-known-told-2 : tie.Need-enum-known-told-2
 enum-known-told-2 c = search needs
 
-start-allowed-requires : tie.Need-start-allowed-requires
-start-allowed-requires c κs =
+modes-at-requires : tie.Need-modes-at-requires
+modes-at-requires c κs =
     let a = c .before .before .before .before .before .before .before .before .args in
     let p = c .before .before .before .before .before .before .before .before .pre in
     let call = c .before .before .before .before .opening in
     let told = c .before .told2 .given in
     let k = opening-known (now (a .model)) (now (a .index)) (now (a .s)) 4 (call .result) (told .0 .0) (told .0 .1 .0) (told .0 .1 .1 .0) (told .0 .1 .1 .1 .0) (p .1 .0) (call .ensures .1) (told .1) in
-    (p .0, (k .located, (k .below, k .small)))
+    (p .0, k .located)
+
+start-allowed-requires : tie.Need-start-allowed-requires
+start-allowed-requires c κs =
+    let a = c .before .before .before .before .before .before .before .before .before .args in
+    let p = c .before .before .before .before .before .before .before .before .before .pre in
+    let call = c .before .before .before .before .before .opening in
+    let told = c .before .before .told2 .given in
+    let k = opening-known (now (a .model)) (now (a .index)) (now (a .s)) 4 (call .result) (told .0 .0) (told .0 .1 .0) (told .0 .1 .1 .0) (told .0 .1 .1 .1 .0) (p .1 .0) (call .ensures .1) (told .1) in
+    (p .0, (standing c, (k .below, k .small)))
 
 on-second-requires-2 : tie.Need-on-second-requires-2
 on-second-requires-2 c κs = search needs
 
 returns : tie.Need-returns
 returns c =
-    let a = c .before .before .before .before .before .before .before .before .before .before .before .args in
-    let call = c .before .before .before .before .before .before .before .opening in
-    let told = c .before .before .before .before .told2 .given in
+    let a = c .before .before .before .before .before .before .before .before .before .before .before .before .args in
+    let call = c .before .before .before .before .before .before .before .before .opening in
+    let told = c .before .before .before .before .before .told2 .given in
     let index = now (a .index) in
     let m = modelFrom (now (a .model)) index in
     let s = now (a .s) in
@@ -70,19 +94,19 @@ returns c =
 
 mark-steps-requires : tie.Need-mark-steps-requires
 mark-steps-requires c κs =
-    let a = c .before .before .before .before .before .before .before .before .before .before .args in
-    let p = c .before .before .before .before .before .before .before .before .before .before .pre in
-    let call = c .before .before .before .before .before .before .opening in
-    let told = c .before .before .before .told2 .given in
-    let k = opening-known (now (a .model)) (now (a .index)) (now (a .s)) 4 (call .result) (told .0 .0) (told .0 .1 .0) (told .0 .1 .1 .0) (told .0 .1 .1 .1 .0) (p .1 .0) (call .ensures .1) (told .1) in
-    (p .0, (record { located = k .located; small = k .small; placed = k .placed }, (k .below, (refl, omega (arith, k .few)))))
-
-close-run-requires : tie.Need-close-run-requires
-close-run-requires c κs =
     let a = c .before .before .before .before .before .before .before .before .before .before .before .args in
     let p = c .before .before .before .before .before .before .before .before .before .before .before .pre in
     let call = c .before .before .before .before .before .before .before .opening in
     let told = c .before .before .before .before .told2 .given in
+    let k = opening-known (now (a .model)) (now (a .index)) (now (a .s)) 4 (call .result) (told .0 .0) (told .0 .1 .0) (told .0 .1 .1 .0) (told .0 .1 .1 .1 .0) (p .1 .0) (call .ensures .1) (told .1) in
+    (p .0, (record { stands = standing (c .before .before); small = k .small; placed = k .placed }, (k .below, (refl, omega (arith, k .few)))))
+
+close-run-requires : tie.Need-close-run-requires
+close-run-requires c κs =
+    let a = c .before .before .before .before .before .before .before .before .before .before .before .before .args in
+    let p = c .before .before .before .before .before .before .before .before .before .before .before .before .pre in
+    let call = c .before .before .before .before .before .before .before .before .opening in
+    let told = c .before .before .before .before .before .told2 .given in
     let k = opening-known (now (a .model)) (now (a .index)) (now (a .s)) 4 (call .result) (told .0 .0) (told .0 .1 .0) (told .0 .1 .1 .0) (told .0 .1 .1 .1 .0) (p .1 .0) (call .ensures .1) (told .1) in
     (p .0, (c .mark-steps .ensures .1, (k .below, p .1 .1)))
 
@@ -99,9 +123,9 @@ returns-2 c =
 
 returns-3 : tie.Need-returns-3
 returns-3 c =
-    let a = c .before .before .before .before .before .before .before .before .before .before .before .before .args in
-    let call = c .before .before .before .before .before .before .before .before .opening in
-    let told = c .before .before .before .before .before .told2 .given in
+    let a = c .before .before .before .before .before .before .before .before .before .before .before .before .before .args in
+    let call = c .before .before .before .before .before .before .before .before .before .opening in
+    let told = c .before .before .before .before .before .before .told2 .given in
     let index = now (a .index) in
     let m = modelFrom (now (a .model)) index in
     let s = now (a .s) in
@@ -124,6 +148,7 @@ mark-body-spec =
     enum-known-told
     on-second-requires
     enum-known-told-2
+    modes-at-requires
     start-allowed-requires
     on-second-requires-2
     returns

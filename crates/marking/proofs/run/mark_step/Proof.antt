@@ -1,6 +1,7 @@
--- The step is read, then tested, then the state after it is taken. Assumes nothing.
+-- The step is read, the state after it is taken, then the step is tested. Assumes nothing.
 use mathlib.Core.Path.{_≡_}
 use mathlib.Core.Bool.{true, false}
+use native.Mathlib.Omega.{arith}
 use borrow.Author.Needs.{needs}
 use denote.Ref.{now}
 use Rattle.sheets.specs.Reading.{got, refused}
@@ -25,80 +26,87 @@ enum-known-told c = search needs
 enum-known-told-2 : tie.Need-enum-known-told-2
 enum-known-told-2 c = search needs
 
-step-allowed-requires : tie.Need-step-allowed-requires
-step-allowed-requires c κs =
-    let a = c .before .before .before .before .before .before .before .before .args in
-    let p = c .before .before .before .before .before .before .before .before .pre in
-    let call = c .before .before .before .before .before .step in
+location-after-requires : tie.Need-location-after-requires
+location-after-requires c κs =
+    let a = c .before .before .before .before .before .before .before .before .before .args in
+    let p = c .before .before .before .before .before .before .before .before .before .pre in
+    let call = c .before .before .before .before .before .before .step in
     let told = c .before .told2 .given in
     let known = step-known (p .0) (now (a .s)) (a .run .place) (call .result) (told .0 .0) (told .0 .1 .0) (call .ensures .1) (told .1) in
-    (p .0, (known .0, (p .1 .0 .located, (p .1 .1 .0, (p .1 .0 .small, known .1)))))
+    (p .0, (known .0, p .1 .0 .stands))
+
+modes-after-requires : tie.Need-modes-after-requires
+modes-after-requires c κs =
+    let p = c .before .before .before .before .before .before .before .before .before .before .pre in
+    let there = c .location-after .ensures in
+    (p .0, (p .1 .0 .stands, (there .1, there .0)))
+
+step-allowed-requires : tie.Need-step-allowed-requires
+step-allowed-requires c κs =
+    let a = c .before .before .before .before .before .before .before .before .before .before .before .args in
+    let p = c .before .before .before .before .before .before .before .before .before .before .before .pre in
+    let call = c .before .before .before .before .before .before .before .before .step in
+    let told = c .before .before .before .told2 .given in
+    let known = step-known (p .0) (now (a .s)) (a .run .place) (call .result) (told .0 .0) (told .0 .1 .0) (call .ensures .1) (told .1) in
+    (p .0, (known .0, ((p .1 .0 .stands, (p .1 .1 .0, (p .1 .0 .small, known .1))), (c .modes-after .ensures, c .before .location-after .ensures .0))))
 
 returns : tie.Need-returns
 returns c =
-    let a = c .before .before .before .before .before .before .before .before .before .before .args in
-    let p = c .before .before .before .before .before .before .before .before .before .before .pre in
-    let call = c .before .before .before .before .before .before .before .step in
-    let told = c .before .before .before .told2 .given in
-    let index = now (a .index) in
-    let m = modelFrom (now (a .model)) index in
-    let s = now (a .s) in
-    let t : Step = stepOf (entry index 1) (told .0 .0) (perVariable index (call .result .values)) in
-    let reads : readStep m s (a .run .place) ≡ got t (told .0 .1 .0) = step-read index (readStep m s (a .run .place)) (call .result) (call .ensures .0) (told .0 .0) (told .0 .1 .0) (told .1) in
-    let fails : false ≡ stepAllowed m (a .q) (stateOf index (a .run .location) (a .run .values)) t = test-failed (c .before .step-allowed .result) (c .if1 .taken) (c .before .step-allowed .ensures) in (
-      mark-failed m index (a .q) (a .run .location) (a .run .values) s (a .run .place) (a .run .done) t (told .0 .1 .0) reads fails,
-      record { located = p .1 .0 .located; small = p .1 .0 .small; placed = p .1 .0 .placed },
-    )
-
-location-after-requires : tie.Need-location-after-requires
-location-after-requires c κs =
-    let a = c .before .before .before .before .before .before .before .before .before .before .args in
-    let p = c .before .before .before .before .before .before .before .before .before .before .pre in
-    let call = c .before .before .before .before .before .before .before .step in
-    let told = c .before .before .before .told2 .given in
-    let known = step-known (p .0) (now (a .s)) (a .run .place) (call .result) (told .0 .0) (told .0 .1 .0) (call .ensures .1) (told .1) in
-    (p .0, (known .0, p .1 .0 .located))
-
-add-t18 : tie.Need-add-t18
-add-t18 c = search needs
-
-returns-2 : tie.Need-returns-2
-returns-2 c =
-    let a = c .before .before .before .before .before .before .before .before .args in
-    let p = c .before .before .before .before .before .before .before .before .pre in
-    let call = c .before .before .before .before .before .step in
-    let told = c .before .told .given in
-    let index = now (a .index) in
-    let m = modelFrom (now (a .model)) index in
-    let s = now (a .s) in
-    let reads : readStep m s (a .run .place) ≡ refused (told .0 .0) (told .0 .1 .0) = step-refused index (readStep m s (a .run .place)) (call .result) (call .ensures .0) (told .0 .0) (told .0 .1 .0) (told .1) in (
-      mark-refused m index (a .q) (a .run .location) (a .run .values) s (a .run .place) (a .run .done) (told .0 .0) (told .0 .1 .0) (p .1 .0 .placed) reads,
-      record {
-        located = p .1 .0 .located;
-        small = p .1 .0 .small;
-        placed = refused-placed m index (a .q) (a .run .location) (a .run .values) s (a .run .place) (a .run .done) (told .0 .0) (told .0 .1 .0) (p .1 .0 .placed) reads;
-      },
-    )
-
-returns-3 : tie.Need-returns-3
-returns-3 c =
-    let a = c .before .before .before .before .before .before .before .before .before .before .before .before .args in
-    let p = c .before .before .before .before .before .before .before .before .before .before .before .before .pre in
-    let call = c .before .before .before .before .before .before .before .before .before .step in
+    let a = c .before .before .before .before .before .before .before .before .before .before .before .before .before .args in
+    let p = c .before .before .before .before .before .before .before .before .before .before .before .before .before .pre in
+    let call = c .before .before .before .before .before .before .before .before .before .before .step in
     let told = c .before .before .before .before .before .told2 .given in
     let index = now (a .index) in
     let m = modelFrom (now (a .model)) index in
     let s = now (a .s) in
     let t : Step = stepOf (entry index 1) (told .0 .0) (perVariable index (call .result .values)) in
     let reads : readStep m s (a .run .place) ≡ got t (told .0 .1 .0) = step-read index (readStep m s (a .run .place)) (call .result) (call .ensures .0) (told .0 .0) (told .0 .1 .0) (told .1) in
-    let passes : true ≡ stepAllowed m (a .q) (stateOf index (a .run .location) (a .run .values)) t = test-passed (c .before .before .before .step-allowed .result) (c .before .before .if1 .left) (c .before .before .before .step-allowed .ensures) in
-    let known = step-known (p .0) s (a .run .place) (call .result) (told .0 .0) (told .0 .1 .0) (call .ensures .1) (told .1) in
-    let there = c .before .location-after in (
-      mark-passed m index (a .q) (a .run .location) (a .run .values) s (a .run .place) (a .run .done) t (told .0 .1 .0) reads (there .result) (call .result .values) passes (step-after m index (a .run .location) (there .result) (entry index 1) (told .0 .0) (a .run .values) (call .result .values) (there .ensures .0)),
+    let fails : false ≡ stepAllowed m (a .q) (stateOf index (a .run .location) (a .run .values)) t = test-failed (c .before .step-allowed .result) (c .if1 .taken) (c .before .step-allowed .ensures) in (
+      mark-failed m index (a .q) (a .run .location) (a .run .modes) (a .run .values) s (a .run .place) (a .run .done) t (told .0 .1 .0) reads fails,
+      record { stands = p .1 .0 .stands; small = p .1 .0 .small; placed = p .1 .0 .placed },
+    )
+
+add-t20 : tie.Need-add-t20
+add-t20 c = omega (arith, c .before .before .before .before .before .before .before .before .before .before .before .before .before .before .pre .1 .1 .1)
+
+returns-2 : tie.Need-returns-2
+returns-2 c =
+    let a = c .before .before .before .before .before .before .before .before .before .args in
+    let p = c .before .before .before .before .before .before .before .before .before .pre in
+    let call = c .before .before .before .before .before .before .step in
+    let told = c .before .told .given in
+    let index = now (a .index) in
+    let m = modelFrom (now (a .model)) index in
+    let s = now (a .s) in
+    let reads : readStep m s (a .run .place) ≡ refused (told .0 .0) (told .0 .1 .0) = step-refused index (readStep m s (a .run .place)) (call .result) (call .ensures .0) (told .0 .0) (told .0 .1 .0) (told .1) in (
+      mark-refused m index (a .q) (a .run .location) (a .run .modes) (a .run .values) s (a .run .place) (a .run .done) (told .0 .0) (told .0 .1 .0) (p .1 .0 .placed) reads,
       record {
-        located = there .ensures .1;
+        stands = p .1 .0 .stands;
+        small = p .1 .0 .small;
+        placed = refused-placed m index (a .q) (a .run .location) (a .run .modes) (a .run .values) s (a .run .place) (a .run .done) (told .0 .0) (told .0 .1 .0) (p .1 .0 .placed) reads;
+      },
+    )
+
+returns-3 : tie.Need-returns-3
+returns-3 c =
+    let a = c .before .before .before .before .before .before .before .before .before .before .before .before .before .before .args in
+    let p = c .before .before .before .before .before .before .before .before .before .before .before .before .before .before .pre in
+    let call = c .before .before .before .before .before .before .before .before .before .before .before .step in
+    let told = c .before .before .before .before .before .before .told2 .given in
+    let index = now (a .index) in
+    let m = modelFrom (now (a .model)) index in
+    let s = now (a .s) in
+    let t : Step = stepOf (entry index 1) (told .0 .0) (perVariable index (call .result .values)) in
+    let reads : readStep m s (a .run .place) ≡ got t (told .0 .1 .0) = step-read index (readStep m s (a .run .place)) (call .result) (call .ensures .0) (told .0 .0) (told .0 .1 .0) (told .1) in
+    let passes : true ≡ stepAllowed m (a .q) (stateOf index (a .run .location) (a .run .values)) t = test-passed (c .before .before .step-allowed .result) (c .before .if1 .left) (c .before .before .step-allowed .ensures) in
+    let known = step-known (p .0) s (a .run .place) (call .result) (told .0 .0) (told .0 .1 .0) (call .ensures .1) (told .1) in
+    let there = c .before .before .before .before .location-after in
+    let modes = c .before .before .before .modes-after in (
+      mark-passed m index (a .q) (a .run .location) (a .run .modes) (a .run .values) s (a .run .place) (a .run .done) t (told .0 .1 .0) reads (there .result) (modes .result) (call .result .values) passes (step-after m index (a .run .location) (there .result) (entry index 1) (told .0 .0) (a .run .values) (call .result .values) (there .ensures .0)),
+      record {
+        stands = modes .ensures;
         small = known .1;
-        placed = step-placed m index (a .q) (a .run .location) (a .run .values) s (a .run .place) (a .run .done) t (told .0 .1 .0) (p .1 .0 .placed) reads;
+        placed = step-placed m index (a .q) (a .run .location) (a .run .modes) (a .run .values) s (a .run .place) (a .run .done) t (told .0 .1 .0) (p .1 .0 .placed) reads;
       },
     )
 
@@ -109,9 +117,10 @@ mark-step-spec =
     step-requires
     enum-known-told
     enum-known-told-2
+    location-after-requires
+    modes-after-requires
     step-allowed-requires
     returns
-    location-after-requires
-    add-t18
+    add-t20
     returns-2
     returns-3)

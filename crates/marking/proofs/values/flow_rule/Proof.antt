@@ -14,14 +14,13 @@ use Rattle.sheets.specs.Index.{modelFrom, entry}
 use Rattle.marking.specs.Runs as runs
 use Rattle.marking.specs.Held.{stateOf, perVariable, sameAt}
 use Rattle.marking.proofs.ValueLaws.{flow-fails, flow-lasts, flow-stands}
-use Rattle.marking.proofs.CountLaws.{known-modes}
 use Rattle.marking.proofs.GoodLines.{flow-good}
 use Rattle.marking.proofs.ValueStates.{changes-taken, changes-small, flow-told}
 use Rattle.marking.proofs.values.flow_rule.Statement.{statement}
 use Rattle.marking.proofs.values.flow_rule.Tie as tie
 
 -- how long the arrays are
-modes-length : (c : tie.After-modes-at) → length (c .modes-at .result) ≡ 4
+modes-length : (c : tie.Start) → length (c .args .modes) ≡ 4
 modes-length c = search needs
 
 values-length : (c : tie.Start) → length (c .args .values) ≡ 8
@@ -32,46 +31,41 @@ next-length c = search needs
 
 -- the rule by its two tests
 rule-is : (c : tie.After-modes-hold) (b : Bool)
-    → b ≡ every (sameAt (c .before .before .before .before .before .args .next) (c .before .before .before .before .before .args .values)) (countUp 0 (entry (now (c .before .before .before .before .before .args .index)) 0))
-    → (c .modes-hold .result && (not (eqb (c .before .before .before .before .before .args .time) 0) || b))
-    ≡ runs.flowRule (modelFrom (now (c .before .before .before .before .before .args .model)) (now (c .before .before .before .before .before .args .index))) (stateOf (now (c .before .before .before .before .before .args .index)) (c .before .before .before .before .before .args .location) (c .before .before .before .before .before .args .values)) (c .before .before .before .before .before .args .time) (perVariable (now (c .before .before .before .before .before .args .index)) (c .before .before .before .before .before .args .next))
+    → b ≡ every (sameAt (c .before .before .before .before .args .next) (c .before .before .before .before .args .values)) (countUp 0 (entry (now (c .before .before .before .before .args .index)) 0))
+    → (c .modes-hold .result && (not (eqb (c .before .before .before .before .args .time) 0) || b))
+    ≡ runs.flowRule (modelFrom (now (c .before .before .before .before .args .model)) (now (c .before .before .before .before .args .index))) (stateOf (now (c .before .before .before .before .args .index)) (c .before .before .before .before .args .location) (c .before .before .before .before .args .values)) (c .before .before .before .before .args .time) (perVariable (now (c .before .before .before .before .args .index)) (c .before .before .before .before .args .next))
 rule-is c b p =
-    let s = c .before .before .before .before .before in
+    let s = c .before .before .before .before in
     let a = s .args in
     let g = s .pre .0 in
-    let m = c .before .before .modes-at in
-    let point = c .before .before .before .differences in
-    let long : entry (now (a .index)) 1 ≤ length (m .result) = omega (arith, modes-length (c .before .before), g .few) in
+    let point = c .before .before .differences in
+    let long : entry (now (a .index)) 1 ≤ length (a .modes) = omega (arith, modes-length s, g .few) in
     let taken = changes-taken (a .next) (a .values) (point .result) (entry (now (a .index)) 0) (next-length s) (values-length s) (g .most) (point .ensures) in
-    flow-told g (a .location) (m .result) _ (m .ensures) (s .pre .1 .0) long (a .time) (a .values) (a .next) (point .result) (values-length s) (next-length s) taken (c .modes-hold .result) b (c .modes-hold .ensures) p
+    flow-told g (a .location) (a .modes) (s .pre .1 .0) long (a .time) (a .values) (a .next) (point .result) (values-length s) (next-length s) taken (c .modes-hold .result) b (c .modes-hold .ensures) p
 
 differences-requires : tie.Need-differences-requires
 differences-requires c κs = search needs
 
-modes-at-requires : tie.Need-modes-at-requires
-modes-at-requires c κs = search needs
-
 modes-hold-requires : tie.Need-modes-hold-requires
 modes-hold-requires c κs =
-    let s = c .before .before .before .before in
+    let s = c .before .before .before in
     let a = s .args in
     let g = s .pre .0 in
-    let m = c .before .modes-at in
-    let point = c .before .before .differences in (
-      (g .few, (omega arith, flow-good (now (a .model)) (now (a .index)) (m .result) g (known-modes (a .location) (m .result) _ g (s .pre .1 .0) (m .ensures)))),
+    let point = c .before .differences in (
+      (g .few, (omega arith, flow-good (now (a .model)) (now (a .index)) (a .modes) g (s .pre .1 .0 .known))),
       (changes-small (a .next) (a .values) (point .result) (entry (now (a .index)) 0) (next-length s) (values-length s) (g .most) (point .ensures) (s .pre .1 .1 .1 .1) (s .pre .1 .1 .1 .0) (g .least), s .pre .1 .1 .0),
     )
 
 returns : tie.Need-returns
 returns c =
-    let a = c .before .before .before .before .before .before .args in
+    let a = c .before .before .before .before .before .args in
     let still = every (sameAt (a .next) (a .values)) (countUp 0 (entry (now (a .index)) 0)) in
     let rates = c .before .modes-hold .result in
     flow-fails rates (eqb (a .time) 0) still (not-true _ (c .if1 .taken)) ∙ rule-is (c .before) still refl
 
 returns-2 : tie.Need-returns-2
 returns-2 c =
-    let a = c .before .before .before .before .before .before .before .args in
+    let a = c .before .before .before .before .before .before .args in
     let still = every (sameAt (a .next) (a .values)) (countUp 0 (entry (now (a .index)) 0)) in
     let rates = c .before .before .modes-hold .result in
     flow-lasts rates (eqb (a .time) 0) still (not-false _ (c .before .if1 .left)) (ne-eqb _ _ (c .if2 .taken)) ∙ rule-is (c .before .before) still refl
@@ -80,11 +74,11 @@ number-at-requires : tie.Need-number-at-requires
 number-at-requires c κs = search needs
 
 same-values-requires : tie.Need-same-values-requires
-same-values-requires c κs = omega (arith, c .number-at .ensures, c .before .before .before .before .before .before .before .before .pre .0 .most)
+same-values-requires c κs = omega (arith, c .number-at .ensures, c .before .before .before .before .before .before .before .pre .0 .most)
 
 returns-3 : tie.Need-returns-3
 returns-3 c =
-    let a = c .before .before .before .before .before .before .before .before .before .args in
+    let a = c .before .before .before .before .before .before .before .before .args in
     let still = every (sameAt (a .next) (a .values)) (countUp 0 (entry (now (a .index)) 0)) in
     let rates = c .before .before .before .before .modes-hold .result in
     let told : c .same-values .result ≡ still = c .same-values .ensures ∙ ap (λ (n : ℕ). every (sameAt (a .next) (a .values)) (countUp 0 n)) (c .before .number-at .ensures) in
@@ -95,7 +89,6 @@ flow-rule-spec =
     tie.close
     (tie.spec
     differences-requires
-    modes-at-requires
     modes-hold-requires
     returns
     returns-2

@@ -14,25 +14,27 @@ use Rattle.sheets.proofs.joints.with_location.Statement.{statement}
 use Rattle.sheets.proofs.joints.with_location.Tie as tie
 
 abbrev Inv-loop : tie.InvT-loop
-Inv-loop s index modes before limit count₀ e₀ count e = (e ≤ 16) × (count ≤ limit) × (count + length (joinAll (switchesOf (componentsFrom s index) (perComponent index modes)) (countUp e (16 - e))) ≡ before + length (joinAll (switchesOf (componentsFrom s index) (perComponent index modes)) (countUp 0 16)))
+Inv-loop s index table modes before limit count₀ e₀ count e = (e ≤ 16) × (count ≤ limit) × (count + length (joinAll (switchesOf (componentsFrom s index) (perComponent index modes)) (countUp e (16 - e))) ≡ before + length (joinAll (switchesOf (componentsFrom s index) (perComponent index modes)) (countUp 0 16)))
 
 abbrev μ-loop : tie.MeasureT-loop
-μ-loop s index modes before limit count₀ e₀ count e = 16 - e
+μ-loop s index table modes before limit count₀ e₀ count e = 16 - e
 
 loop-holds : tie.Need-loop-holds Inv-loop μ-loop
-loop-holds c = (omega arith, c .before .pre .1 .0, refl)
+loop-holds c = (omega arith, c .before .pre .1 .1 .0, refl)
 
-event-count-requires : tie.Need-event-count-requires Inv-loop μ-loop
-event-count-requires c κs = (c .before .before .before .pre .0, omega (arith, c .loop-test .taken))
+tallied-requires : tie.Need-tallied-requires Inv-loop μ-loop
+tallied-requires c κs =
+    let p = c .before .before .before .pre in
+    (p .0, (p .1 .0, omega (arith, c .loop-test .taken)))
 
 add-count : tie.Need-add-count Inv-loop μ-loop
 add-count c =
     let a = c .before .before .before .before .args in
     let numbers = perComponent (now (a .index)) (a .modes) in
-    omega (arith, c .event-count .ensures, c .before .before .loop .inv .1, c .before .before .before .before .pre .1 .1, switches-few (c .before .before .before .before .pre .0) numbers (c .before .before .loop .e))
+    omega (arith, c .tallied .ensures, c .before .before .loop .inv .1, c .before .before .before .before .pre .1 .1 .1, switches-few (c .before .before .before .before .pre .0 .0) numbers (c .before .before .loop .e))
 
 add-result : tie.Need-add-result Inv-loop μ-loop
-add-result c = omega (arith, c .before .before .before .before .before .pre .1 .1)
+add-result c = omega (arith, c .before .before .before .before .before .pre .1 .1 .1)
 
 returns : tie.Need-returns Inv-loop μ-loop
 returns c =
@@ -42,7 +44,7 @@ returns c =
     let w = c .before .before .before .loop .inv in
     let e = c .before .before .before .loop .e in
     let more = joined-next (switchesOf components numbers) e 16 (c .before .before .loop-test .taken) in
-    sym (min-eq-right (omega (arith, more, w .2, c .before .event-count .ensures, c .if1 .taken)))
+    sym (min-eq-right (omega (arith, more, w .2, c .before .tallied .ensures, c .if1 .taken)))
 
 add-e : tie.Need-add-e Inv-loop μ-loop
 add-e c = omega (arith, c .before .before .loop-test .taken)
@@ -58,7 +60,7 @@ loop-again c =
     let w = c .before .before .before .loop .inv in
     let e = c .before .before .before .loop .e in
     let more = joined-next (switchesOf components numbers) e 16 (c .before .before .loop-test .taken) in
-    (omega (arith, c .before .before .loop-test .taken), c .if1 .left, omega (arith, more, w .2, c .before .event-count .ensures))
+    (omega (arith, c .before .before .loop-test .taken), c .if1 .left, omega (arith, more, w .2, c .before .tallied .ensures))
 
 returns-2 : tie.Need-returns-2 Inv-loop μ-loop
 returns-2 c =
@@ -77,7 +79,7 @@ with-location-spec =
     Inv-loop
     μ-loop
     loop-holds
-    event-count-requires
+    tallied-requires
     add-count
     add-result
     returns

@@ -10,14 +10,15 @@ use Rattle.sheets.specs.Index.{entry, componentsFrom}
 use Rattle.sheets.specs.Counts.{perComponent}
 use Rattle.sheets.proofs.JointCounts.{jointsIn, joints-start, limited, over-limit, joined-next, joined-end}
 use Rattle.sheets.proofs.JointLoops.{location-count}
-use Rattle.sheets.proofs.joints.joint_count.Statement.{statement}
-use Rattle.sheets.proofs.joints.joint_count.Tie as tie
+use Rattle.sheets.proofs.TallyLaws.{small-modes}
+use Rattle.sheets.proofs.joints.tallied_joints.Statement.{statement}
+use Rattle.sheets.proofs.joints.tallied_joints.Tie as tie
 
 abbrev Inv-loop : tie.InvT-loop
-Inv-loop s index locations limit count₀ location₀ count location = (location ≤ locations) × (count ≤ limit) × (count + length (joinAll (jointsIn (componentsFrom s index)) (countUp location (locations - location))) ≡ length (joints (componentsFrom s index)))
+Inv-loop s index table locations limit count₀ location₀ count location = (location ≤ locations) × (count ≤ limit) × (count + length (joinAll (jointsIn (componentsFrom s index)) (countUp location (locations - location))) ≡ length (joints (componentsFrom s index)))
 
 abbrev μ-loop : tie.MeasureT-loop
-μ-loop s index locations limit count₀ location₀ count location = locations - location
+μ-loop s index table locations limit count₀ location₀ count location = locations - location
 
 loop-holds : tie.Need-loop-holds Inv-loop μ-loop
 loop-holds c =
@@ -27,11 +28,14 @@ loop-holds c =
 
 modes-at-requires : tie.Need-modes-at-requires Inv-loop μ-loop
 modes-at-requires c κs =
-    (c .before .before .before .pre .0, omega (arith, c .loop-test .taken, c .before .before .before .pre .1 .0))
+    (c .before .before .before .pre .0 .0, omega (arith, c .loop-test .taken, c .before .before .before .pre .1 .0))
 
 with-location-requires : tie.Need-with-location-requires Inv-loop μ-loop
 with-location-requires c κs =
-    (c .before .before .before .before .pre .0, (c .before .before .loop .inv .1, c .before .before .before .before .pre .1 .1))
+    let a = c .before .before .before .before .args in
+    let p = c .before .before .before .before .pre in
+    let small = small-modes (c .before .before .loop .location) (c .modes-at .result) (replicate (4 - entry (now (a .index)) 1) 0) (p .0 .0) (omega (arith, c .before .loop-test .taken, p .1 .0)) (c .modes-at .ensures) in
+    (p .0, (small, (c .before .before .loop .inv .1, p .1 .1)))
 
 returns : tie.Need-returns Inv-loop μ-loop
 returns c =
@@ -71,8 +75,8 @@ returns-2 c =
     let all : c .before .loop .count ≡ length (joints components) = omega (arith, none, w .2) in
     all ∙ sym (min-eq-left (omega (arith, all, w .1)))
 
-pub joint-count-spec : {M : Type 1} → statement M
-joint-count-spec =
+pub tallied-joints-spec : {M : Type 1} → statement M
+tallied-joints-spec =
     tie.close
     (tie.spec
     Inv-loop

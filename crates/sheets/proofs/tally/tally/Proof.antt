@@ -1,0 +1,17 @@
+-- A table of zeros is blank. Assumes nothing.
+use borrow.Author.Needs.{needs}
+use Rattle.sheets.proofs.TallyLaws.{zeros-blank}
+use Rattle.sheets.proofs.tally.tally.Statement.{statement}
+use Rattle.sheets.proofs.tally.tally.Tie as tie
+
+slice-aggregate-tally-into : tie.Need-slice-aggregate-tally-into
+slice-aggregate-tally-into c = search needs
+
+tally-into-requires : tie.Need-tally-into-requires
+tally-into-requires c κs = (c .before .before .pre, (search needs, zeros-blank 512))
+
+returns : tie.Need-returns
+returns c = search needs
+
+pub tally-spec : {M : Type 1} → statement M
+tally-spec = tie.close (tie.spec slice-aggregate-tally-into tally-into-requires returns)

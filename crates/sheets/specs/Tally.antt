@@ -1,0 +1,29 @@
+-- A table of how many switches each component has, by the mode that they leave and their label: what the contracts on counting by it name.
+-- Assumes nothing.
+use mathlib.Core.Path.{_≡_}
+use mathlib.Core.List.{List}
+use Prim.Native.Nat.{ℕ, _+_, _*_, _≤_, _<_}
+use lib.ListN.{length, getD}
+use Rattle.sheets.specs.Joint.{leaving}
+use Rattle.sheets.specs.Index.{entry}
+use Rattle.sheets.specs.Counts.{componentAt}
+
+-- where the switches of a component with a label that leave a mode are counted: 128 places to a component, 16 to a mode
+abbrev pub tallyPlace : ℕ → ℕ → ℕ → ℕ
+tallyPlace k mode e = 128 * k + 16 * mode + e
+
+-- from a place on nothing is counted
+pub record Blank (from : ℕ) (tally : List ℕ) : Type 0 where
+  pub blank : (p : ℕ) → from ≤ p → getD tally p 0 ≡ 0
+
+-- how many switches of a component leave each mode with each label
+pub record TalliedAt (s index : List ℕ) (k : ℕ) (tally : List ℕ) : Type 0 where
+  pub counted : (mode e : ℕ) → mode < 8 → e < 16 → getD tally (tallyPlace k mode e) 0 ≡ length (leaving (componentAt s index k) mode e)
+
+-- the same of every component
+pub record Tallied (s index tally : List ℕ) : Type 0 where
+  pub components : (k : ℕ) → k < entry index 1 → TalliedAt s index k tally
+
+-- the components' modes are within the table
+pub record SmallModes (index modes : List ℕ) : Type 0 where
+  pub small : (k : ℕ) → k < entry index 1 → getD modes k 0 < 8

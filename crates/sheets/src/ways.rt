@@ -1,0 +1,146 @@
+// Joint switches of one event from one location, taken from a table: each component's ways to take part in the event are listed once,
+// thirty-two places to a component, and a joint switch is then found by its number without a look at the switches.
+use crate::joints::alone;
+use crate::joints::bit_of;
+use crate::joints::in_scope;
+use crate::joints::leaves_by;
+ghost use mathlib.Core.Path.{_≡_};
+ghost use mathlib.Core.List.{[]};
+ghost use Prim.Native.Nat.{_+_, _*_, _≤_, _<_};
+ghost use lib.ListN.{length, getD};
+ghost use Rattle.sheets.specs.Joint.{leaving, silent, together, switchesOf};
+ghost use Rattle.sheets.specs.Index.{entry, Kept, GoodIndex, componentsFrom};
+ghost use Rattle.sheets.specs.Counts.{componentAt, perComponent, fourSwitches};
+ghost use Rattle.sheets.specs.Ways.{waysOf, ListedAt, Ways};
+
+// Lists the switches of a component that have this label and leave this mode, and tells how many. A number that does not count is
+// overwritten by the next.
+fn list_leaving(s: &[u8], index: &[u16; 988], k: usize, mode: u8, e: u32, ways: &mut [u8]) -> u32
+    requires { ⌜ GoodIndex (now s) (now index) ⌝ }
+    requires { ⌜ (k < entry (now index) 1) × (128 ≤ length (now ways)) ⌝ }
+    ensures { λ r. ⌜ ListedAt (leaving (componentAt (now (s .entry)) (now (index .entry)) k) mode e) (now (ways .exit)) (32 * k) r ⌝ }
+    ensures { λ r. ⌜ Kept (32 * k) (32 * k + 32) (now (ways .entry)) (now (ways .exit)) ⌝ }
+{
+    let switches = index[16 + 219 * k + 2] as usize;
+    let mut count: u32 = 0;
+    let mut i: usize = 0;
+    while i < switches {
+        ways[32 * k + count as usize] = i as u8;
+        count += bit_of(leaves_by(s, index, k, i, mode, e));
+        i += 1;
+    }
+    count
+}
+
+// Lists the ways in which a component takes part in an event: by its switches if it is in the scope, else in one, by staying. Event 0
+// has every component in its scope.
+fn list_part(s: &[u8], index: &[u16; 988], k: usize, mode: u8, e: u32, ways: &mut [u8]) -> u32
+    requires { ⌜ GoodIndex (now s) (now index) ⌝ }
+    requires { ⌜ (k < entry (now index) 1) × (e ≤ 15) ⌝ }
+    requires { ⌜ 128 ≤ length (now ways) ⌝ }
+    ensures { λ r. ⌜ ListedAt (waysOf (componentAt (now (s .entry)) (now (index .entry)) k) mode e) (now (ways .exit)) (32 * k) r ⌝ }
+    ensures { λ r. ⌜ Kept (32 * k) (32 * k + 32) (now (ways .entry)) (now (ways .exit)) ⌝ }
+{
+    if e == 0 {
+        return list_leaving(s, index, k, mode, e, ways);
+    }
+    if in_scope(s, index, k, e) {
+        return list_leaving(s, index, k, mode, e, ways);
+    }
+    ways[32 * k] = 255;
+    1
+}
+
+// Lists the ways of every component from these modes, and tells how many each has.
+pub fn list_ways(s: &[u8], index: &[u16; 988], modes: [u8; 4], e: u32, ways: &mut [u8]) -> [u32; 4]
+    requires { ⌜ GoodIndex (now s) (now index) ⌝ }
+    requires { ⌜ (e ≤ 15) × (128 ≤ length (now ways)) ⌝ }
+    ensures { λ r. ⌜ Ways (now (s .entry)) (now (index .entry)) modes e (now (ways .exit)) r ⌝ }
+{
+    let components = index[1] as usize;
+    let mut counts = [0u32; 4];
+    let mut k: usize = 0;
+    while k < components {
+        counts[k] = list_part(s, index, k, modes[k], e, ways);
+        k += 1;
+    }
+    counts
+}
+
+// A joint switch of event 0, by its number: the first component with so many ways moves by one of them.
+fn silent_way(
+    s: &[u8],
+    index: &[u16; 988],
+    modes: [u8; 4],
+    ways: &[u8],
+    counts: [u32; 4],
+    x: u32,
+) -> [u8; 4]
+    requires { ⌜ GoodIndex (now s) (now index) ⌝ }
+    requires { ⌜ (128 ≤ length (now ways)) × Ways (now s) (now index) modes 0 (now ways) counts ⌝ }
+    requires { ⌜ x < length (silent (componentsFrom (now s) (now index)) (perComponent (now index) modes)) ⌝ }
+    ensures { λ r. ⌜ r ≡ fourSwitches (getD (silent (componentsFrom (now (s .entry)) (now (index .entry))) (perComponent (now (index .entry)) modes)) x []) ⌝ }
+{
+    let components = index[1] as usize;
+    let mut left = x;
+    let mut k: usize = 0;
+    while k < components {
+        let count = counts[k];
+        if left < count {
+            return alone(k, ways[32 * k + left as usize]);
+        }
+        left -= count;
+        k += 1;
+    }
+    [255; 4]
+}
+
+// A joint switch of an event from 1, by its number: its digits are the numbers of the components' ways, the last component's last.
+fn together_way(
+    s: &[u8],
+    index: &[u16; 988],
+    modes: [u8; 4],
+    e: u32,
+    ways: &[u8],
+    counts: [u32; 4],
+    x: u32,
+) -> [u8; 4]
+    requires { ⌜ GoodIndex (now s) (now index) ⌝ }
+    requires { ⌜ (0 < e) × ((128 ≤ length (now ways)) × Ways (now s) (now index) modes e (now ways) counts) ⌝ }
+    requires { ⌜ x < length (together (componentsFrom (now s) (now index)) (perComponent (now index) modes) e) ⌝ }
+    ensures { λ r. ⌜ r ≡ fourSwitches (getD (together (componentsFrom (now (s .entry)) (now (index .entry))) (perComponent (now (index .entry)) modes) e) x []) ⌝ }
+{
+    let mut switches = [255u8; 4];
+    let mut left = x;
+    let mut k = index[1] as usize;
+    while 0 < k {
+        k -= 1;
+        let count = counts[k];
+        switches[k] = ways[32 * k + (left % count) as usize];
+        left /= count;
+    }
+    switches
+}
+
+// A joint switch by its number among those of its event in a location with these modes, from the table of their ways: a switch number
+// per component, 255 for a staying or absent one.
+pub fn way_at(
+    s: &[u8],
+    index: &[u16; 988],
+    modes: [u8; 4],
+    e: u32,
+    ways: &[u8],
+    counts: [u32; 4],
+    x: u32,
+) -> [u8; 4]
+    requires { ⌜ GoodIndex (now s) (now index) ⌝ }
+    requires { ⌜ (128 ≤ length (now ways)) × Ways (now s) (now index) modes e (now ways) counts ⌝ }
+    requires { ⌜ x < length (switchesOf (componentsFrom (now s) (now index)) (perComponent (now index) modes) e) ⌝ }
+    ensures { λ r. ⌜ r ≡ fourSwitches (getD (switchesOf (componentsFrom (now (s .entry)) (now (index .entry))) (perComponent (now (index .entry)) modes) e) x []) ⌝ }
+{
+    if e == 0 {
+        silent_way(s, index, modes, ways, counts, x)
+    } else {
+        together_way(s, index, modes, e, ways, counts, x)
+    }
+}
