@@ -37,6 +37,10 @@ markedAs index r =
     (passed (stateOf index (r .location) (r .values)) (r .place) (r .done))
     (stopped (r .number) (r .place) (r .done))
 
+-- a run whose marking has stopped, with its state as it was
+unfoldable pub stoppedAt : RunMarked → ℕ → ℕ → RunMarked
+stoppedAt r number place = record { number = number; place = place; done = r .done; location = r .location; modes = r .modes; values = r .values }
+
 -- its state stands in a location of the model, with this location's modes and values as they are read, and its place in the sheet
 pub record RunStands (model index sheet : List ℕ) (r : RunMarked) : Type 0 where
   pub stands : Stands model index (r .location) (r .modes)

@@ -26,8 +26,24 @@ ghost use Rattle.sheets.specs.Index.{modelFrom, GoodIndex};
 ghost use Rattle.sheets.specs.ModelSheet.{examLimits};
 ghost use Rattle.sheets.specs.RunSheet.{readOpening};
 ghost use Rattle.marking.specs.Held.{stateOf};
-ghost use Rattle.marking.specs.RunHeld.{runOpening, markedAs, RunStands};
+ghost use Rattle.marking.specs.RunHeld.{runOpening, stoppedAt, markedAs, RunStands};
 ghost use Rattle.marking.specs.Marking.{markSteps, closeRun, markOpening, markRun};
+
+// A run whose marking has stopped: the number and place of the refusal, and the state as it was.
+fn stopped_at(run: RunMarked, number: u32, place: usize) -> RunMarked
+    ensures { λ r. ⌜ r ≡ stoppedAt run number place ⌝ }
+{
+    let modes = run.modes;
+    let values = run.values;
+    RunMarked {
+        number,
+        place,
+        done: run.done,
+        location: run.location,
+        modes,
+        values,
+    }
+}
 
 // One step: it is read, then tested; 13 at its first byte.
 fn mark_step(model: &[u8], index: &[u16; 988], s: &[u8], q: u32, run: RunMarked) -> RunMarked
@@ -43,14 +59,7 @@ fn mark_step(model: &[u8], index: &[u16; 988], s: &[u8], q: u32, run: RunMarked)
     let before = run.values;
     let modes = run.modes;
     match told {
-        StepRead::Refused(number, place) => RunMarked {
-            number,
-            place,
-            done: run.done,
-            location: run.location,
-            modes,
-            values: before,
-        },
+        StepRead::Refused(number, place) => stopped_at(run, number, place),
         StepRead::Good(by, place) => {
             let location = location_after(model, index, run.location, modes, by);
             let after = modes_after(model, index, run.location, modes, by, location);
@@ -66,14 +75,7 @@ fn mark_step(model: &[u8], index: &[u16; 988], s: &[u8], q: u32, run: RunMarked)
                 after,
                 values,
             ) {
-                return RunMarked {
-                    number: 13,
-                    place: run.place,
-                    done: run.done,
-                    location: run.location,
-                    modes,
-                    values: before,
-                };
+                return stopped_at(run, 13, run.place);
             }
             RunMarked {
                 number: 0,

@@ -10,6 +10,7 @@ use Rattle.sheets.specs.RunSheet.{Step, readStep}
 use Rattle.sheets.specs.RunAnswers.{stepOf}
 use Rattle.marking.specs.Runs.{stepAllowed}
 use Rattle.marking.specs.Held.{perVariable, stateOf}
+use Rattle.marking.specs.RunHeld.{stoppedAt}
 use Rattle.marking.proofs.ListFacts.{test-failed, test-passed}
 use Rattle.marking.proofs.JumpLaws.{step-after}
 use Rattle.marking.proofs.RunCodeRead.{step-known, step-read, step-refused}
@@ -22,6 +23,9 @@ step-requires c κs = search needs
 
 enum-known-told : tie.Need-enum-known-told
 enum-known-told c = search needs
+
+stopped-at-requires : tie.Need-stopped-at-requires
+stopped-at-requires c κs = search needs
 
 enum-known-told-2 : tie.Need-enum-known-told-2
 enum-known-told-2 c = search needs
@@ -50,18 +54,23 @@ step-allowed-requires c κs =
     let known = step-known (p .0) (now (a .s)) (a .run .place) (call .result) (told .0 .0) (told .0 .1 .0) (call .ensures .1) (told .1) in
     (p .0, (known .0, ((p .1 .0 .stands, (p .1 .1 .0, (p .1 .0 .small, known .1))), (c .modes-after .ensures, c .before .location-after .ensures .0))))
 
+stopped-at-requires-2 : tie.Need-stopped-at-requires-2
+stopped-at-requires-2 c κs = search needs
+
 returns : tie.Need-returns
+unfolding stoppedAt
 returns c =
-    let a = c .before .before .before .before .before .before .before .before .before .before .before .before .before .args in
-    let p = c .before .before .before .before .before .before .before .before .before .before .before .before .before .pre in
-    let call = c .before .before .before .before .before .before .before .before .before .before .step in
-    let told = c .before .before .before .before .before .told2 .given in
+    let a = c .before .before .before .before .before .before .before .before .before .before .before .before .before .before .args in
+    let p = c .before .before .before .before .before .before .before .before .before .before .before .before .before .before .pre in
+    let call = c .before .before .before .before .before .before .before .before .before .before .before .step in
+    let told = c .before .before .before .before .before .before .told2 .given in
     let index = now (a .index) in
     let m = modelFrom (now (a .model)) index in
     let s = now (a .s) in
     let t : Step = stepOf (entry index 1) (told .0 .0) (perVariable index (call .result .values)) in
     let reads : readStep m s (a .run .place) ≡ got t (told .0 .1 .0) = step-read index (readStep m s (a .run .place)) (call .result) (call .ensures .0) (told .0 .0) (told .0 .1 .0) (told .1) in
-    let fails : false ≡ stepAllowed m (a .q) (stateOf index (a .run .location) (a .run .values)) t = test-failed (c .before .step-allowed .result) (c .if1 .taken) (c .before .step-allowed .ensures) in (
+    let fails : false ≡ stepAllowed m (a .q) (stateOf index (a .run .location) (a .run .values)) t = test-failed (c .before .before .step-allowed .result) (c .before .if1 .taken) (c .before .before .step-allowed .ensures) in
+    rw (c .stopped-at2 .ensures) (
       mark-failed m index (a .q) (a .run .location) (a .run .modes) (a .run .values) s (a .run .place) (a .run .done) t (told .0 .1 .0) reads fails,
       record { stands = p .1 .0 .stands; small = p .1 .0 .small; placed = p .1 .0 .placed },
     )
@@ -70,15 +79,17 @@ add-t20 : tie.Need-add-t20
 add-t20 c = omega (arith, c .before .before .before .before .before .before .before .before .before .before .before .before .before .before .pre .1 .1 .1)
 
 returns-2 : tie.Need-returns-2
+unfolding stoppedAt
 returns-2 c =
-    let a = c .before .before .before .before .before .before .before .before .before .args in
-    let p = c .before .before .before .before .before .before .before .before .before .pre in
-    let call = c .before .before .before .before .before .before .step in
-    let told = c .before .told .given in
+    let a = c .before .before .before .before .before .before .before .before .before .before .args in
+    let p = c .before .before .before .before .before .before .before .before .before .before .pre in
+    let call = c .before .before .before .before .before .before .before .step in
+    let told = c .before .before .told .given in
     let index = now (a .index) in
     let m = modelFrom (now (a .model)) index in
     let s = now (a .s) in
-    let reads : readStep m s (a .run .place) ≡ refused (told .0 .0) (told .0 .1 .0) = step-refused index (readStep m s (a .run .place)) (call .result) (call .ensures .0) (told .0 .0) (told .0 .1 .0) (told .1) in (
+    let reads : readStep m s (a .run .place) ≡ refused (told .0 .0) (told .0 .1 .0) = step-refused index (readStep m s (a .run .place)) (call .result) (call .ensures .0) (told .0 .0) (told .0 .1 .0) (told .1) in
+    rw (c .stopped-at .ensures) (
       mark-refused m index (a .q) (a .run .location) (a .run .modes) (a .run .values) s (a .run .place) (a .run .done) (told .0 .0) (told .0 .1 .0) (p .1 .0 .placed) reads,
       record {
         stands = p .1 .0 .stands;
@@ -116,10 +127,12 @@ mark-step-spec =
     (tie.spec
     step-requires
     enum-known-told
+    stopped-at-requires
     enum-known-told-2
     location-after-requires
     modes-after-requires
     step-allowed-requires
+    stopped-at-requires-2
     returns
     add-t20
     returns-2
