@@ -13,6 +13,8 @@ use marking::counting::region_rows;
 use marking::counting::target_goals;
 use sheets::joints::event_count;
 use sheets::joints::modes_at;
+use sheets::ways::list_ways;
+use sheets::ways::ways_count;
 ghost use mathlib.Core.Path.{_≡_};
 ghost use mathlib.Core.List.{[], _∷_};
 ghost use Prim.Native.Nat.{_+_, _≤_, _<_};
@@ -20,7 +22,7 @@ ghost use lib.ListN.{length};
 ghost use Rattle.sheets.specs.Locations.{locationCount, modesAt};
 ghost use Rattle.sheets.specs.Joint.{jointsOf, joints, joinAll, countUp, switchesOf};
 ghost use Rattle.sheets.specs.Index.{entry, componentsFrom, modelFrom};
-ghost use Rattle.sheets.specs.Counts.{perComponent};
+ghost use Rattle.sheets.specs.Ways.{Ways};
 ghost use Rattle.marking.specs.Obligations.{locationObligations, jumpsObligations};
 ghost use Rattle.marking.specs.Listing.{GoodPaper, Stands, regionsOf};
 ghost use Rattle.marking.specs.Counting.{targetRows};
@@ -192,7 +194,55 @@ fn find_event(
     JointSpot { at, number, left }
 }
 
-// One of an event's joint switches, and the line there.
+// One of an event's joint switches, and the line there, from the table of the event's ways.
+fn find_listed(
+    model: &[u8],
+    index: &[u16; 988],
+    second: &[u8],
+    regions: &[u16; 128],
+    location: u32,
+    modes: [u8; 4],
+    e: u32,
+    ways: &[u8],
+    counts: [u32; 4],
+    first: u32,
+    o: u32,
+) -> JointSpot
+    requires { ⌜ GoodPaper (now model) (now index) (now second) (now regions) ⌝ }
+    requires { ⌜ Stands (now model) (now index) location modes × ((e ≤ 15) × (first + length (jointsOf (componentsFrom (now model) (now index)) location e) ≤ 4096)) ⌝ }
+    requires { ⌜ o < length (targetRows (regionsOf (now model) (now index) (now second) (now regions)) (jointsOf (componentsFrom (now model) (now index)) location e)) ⌝ }
+    requires { ⌜ (128 ≤ length (now ways)) × Ways (now model) (now index) modes e (now ways) counts ⌝ }
+    ensures { λ r. ⌜ JointLeads (modelFrom (now (model .entry)) (now (index .entry))) (regionsOf (now (model .entry)) (now (index .entry)) (now (second .entry)) (now (regions .entry))) (λ x. jointHere (now (model .entry)) (now (index .entry)) location e x ∷ []) (length (switchesOf (componentsFrom (now (model .entry)) (now (index .entry))) (modesAt (componentsFrom (now (model .entry)) (now (index .entry))) location) e)) (oneAt (jumpsObligations (modelFrom (now (model .entry)) (now (index .entry))) (regionsOf (now (model .entry)) (now (index .entry)) (now (second .entry)) (now (regions .entry))) first (jointsOf (componentsFrom (now (model .entry)) (now (index .entry))) location e)) o) r ⌝ }
+    ensures { λ r. ⌜ r .at < length (switchesOf (componentsFrom (now (model .entry)) (now (index .entry))) (modesAt (componentsFrom (now (model .entry)) (now (index .entry))) location) e) ⌝ }
+{
+    let count = ways_count(model, index, modes, e, ways, counts);
+    let mut left = o;
+    let mut number = first;
+    let mut at: u32 = 0;
+    while at < count {
+        let goals = target_goals(
+            model,
+            index,
+            second,
+            regions,
+            location,
+            modes,
+            e,
+            ways,
+            counts,
+            at,
+        );
+        if left < goals {
+            return JointSpot { at, number, left };
+        }
+        left -= goals;
+        number += 1;
+        at += 1;
+    }
+    JointSpot { at, number, left }
+}
+
+// One of an event's joint switches, and the line there. Their ways are listed once.
 fn find_switch(
     model: &[u8],
     index: &[u16; 988],
@@ -210,20 +260,21 @@ fn find_switch(
     ensures { λ r. ⌜ JointLeads (modelFrom (now (model .entry)) (now (index .entry))) (regionsOf (now (model .entry)) (now (index .entry)) (now (second .entry)) (now (regions .entry))) (λ x. jointHere (now (model .entry)) (now (index .entry)) location e x ∷ []) (length (switchesOf (componentsFrom (now (model .entry)) (now (index .entry))) (modesAt (componentsFrom (now (model .entry)) (now (index .entry))) location) e)) (oneAt (jumpsObligations (modelFrom (now (model .entry)) (now (index .entry))) (regionsOf (now (model .entry)) (now (index .entry)) (now (second .entry)) (now (regions .entry))) first (jointsOf (componentsFrom (now (model .entry)) (now (index .entry))) location e)) o) r ⌝ }
     ensures { λ r. ⌜ r .at < length (switchesOf (componentsFrom (now (model .entry)) (now (index .entry))) (modesAt (componentsFrom (now (model .entry)) (now (index .entry))) location) e) ⌝ }
 {
-    let count = event_count(model, index, modes, e);
-    let mut left = o;
-    let mut number = first;
-    let mut at: u32 = 0;
-    while at < count {
-        let goals = target_goals(model, index, second, regions, location, modes, e, at);
-        if left < goals {
-            return JointSpot { at, number, left };
-        }
-        left -= goals;
-        number += 1;
-        at += 1;
-    }
-    JointSpot { at, number, left }
+    let mut ways = [0u8; 128];
+    let counts = list_ways(model, index, modes, e, &mut ways);
+    find_listed(
+        model,
+        index,
+        second,
+        regions,
+        location,
+        modes,
+        e,
+        &ways,
+        counts,
+        first,
+        o,
+    )
 }
 
 // The obligation with a number among those of the joint switches.

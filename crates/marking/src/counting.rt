@@ -1,8 +1,9 @@
 // How many obligations there are: the goals of each group, counted and never listed.
-use sheets::joints::event_count;
-use sheets::joints::joint_at;
 use sheets::joints::modes_at;
 use sheets::joints::target_of;
+use sheets::ways::list_ways;
+use sheets::ways::way_at;
+use sheets::ways::ways_count;
 ghost use mathlib.Core.Path.{_≡_};
 ghost use mathlib.Core.Bool.{_||_};
 ghost use mathlib.Core.List.{[]};
@@ -15,6 +16,7 @@ ghost use Rattle.sheets.specs.Joint.{bit, numbersFrom, modesAfter, switchesOf, 
 ghost use Rattle.sheets.specs.Index.{entry, componentPlace, modePlace, unsafePlace, unsafeFrom, componentsFrom, modelFrom, GoodIndex};
 ghost use Rattle.sheets.specs.Counts.{perComponent};
 ghost use Rattle.sheets.specs.CertificateAnswers.{regionsFrom};
+ghost use Rattle.sheets.specs.Ways.{Ways};
 ghost use Rattle.marking.specs.Runs.{present, modesFit};
 ghost use Rattle.marking.specs.Obligations.{locationObligations, obligations};
 ghost use Rattle.marking.specs.Marking.{refusedScore};
@@ -150,7 +152,7 @@ fn all_location_goals(
     count
 }
 
-// How many goals a joint switch has, found by its number: the rows of its target's region.
+// How many goals a joint switch has, found by its number from the table of its event's ways: the rows of its target's region.
 pub fn target_goals(
     model: &[u8],
     index: &[u16; 988],
@@ -159,18 +161,61 @@ pub fn target_goals(
     location: u32,
     modes: [u8; 4],
     e: u32,
+    ways: &[u8],
+    counts: [u32; 4],
     x: u32,
 ) -> u32
     requires { ⌜ GoodPaper (now model) (now index) (now second) (now regions) ⌝ }
     requires { ⌜ (location < locationCount (componentsFrom (now model) (now index))) × (perComponent (now index) modes ≡ modesAt (componentsFrom (now model) (now index)) location) ⌝ }
+    requires { ⌜ (128 ≤ length (now ways)) × Ways (now model) (now index) modes e (now ways) counts ⌝ }
     requires { ⌜ (e ≤ 15) × (x < length (switchesOf (componentsFrom (now model) (now index)) (modesAt (componentsFrom (now model) (now index)) location) e)) ⌝ }
     ensures { λ r. ⌜ r ≡ length (regionsOf (now (model .entry)) (now (index .entry)) (now (second .entry)) (now (regions .entry)) (locationOf (componentsFrom (now (model .entry)) (now (index .entry))) (modesAfter (componentsFrom (now (model .entry)) (now (index .entry))) (modesAt (componentsFrom (now (model .entry)) (now (index .entry))) location) (getD (switchesOf (componentsFrom (now (model .entry)) (now (index .entry))) (modesAt (componentsFrom (now (model .entry)) (now (index .entry))) location) e) x [])))) ⌝ }
 {
-    let target = target_of(model, index, modes, joint_at(model, index, modes, e, x));
+    let switches = way_at(model, index, modes, e, ways, counts, x);
+    let target = target_of(model, index, modes, switches);
     region_rows(model, index, second, regions, target)
 }
 
-// How many goals the joint switches of an event have, from a location with these modes.
+// How many goals the joint switches of an event have, from the table of its ways.
+fn listed_goals(
+    model: &[u8],
+    index: &[u16; 988],
+    second: &[u8],
+    regions: &[u16; 128],
+    location: u32,
+    modes: [u8; 4],
+    e: u32,
+    ways: &[u8],
+    counts: [u32; 4],
+) -> u32
+    requires { ⌜ GoodPaper (now model) (now index) (now second) (now regions) ⌝ }
+    requires { ⌜ (location < locationCount (componentsFrom (now model) (now index))) × (perComponent (now index) modes ≡ modesAt (componentsFrom (now model) (now index)) location) ⌝ }
+    requires { ⌜ (128 ≤ length (now ways)) × Ways (now model) (now index) modes e (now ways) counts ⌝ }
+    requires { ⌜ e ≤ 15 ⌝ }
+    ensures { λ r. ⌜ r ≡ length (targetRows (regionsOf (now (model .entry)) (now (index .entry)) (now (second .entry)) (now (regions .entry))) (jointsOf (componentsFrom (now (model .entry)) (now (index .entry))) location e)) ⌝ }
+{
+    let switches = ways_count(model, index, modes, e, ways, counts);
+    let mut count: u32 = 0;
+    let mut x: u32 = 0;
+    while x < switches {
+        count += target_goals(
+            model,
+            index,
+            second,
+            regions,
+            location,
+            modes,
+            e,
+            ways,
+            counts,
+            x,
+        );
+        x += 1;
+    }
+    count
+}
+
+// How many goals the joint switches of an event have, from a location with these modes. Their ways are listed once.
 pub fn event_goals(
     model: &[u8],
     index: &[u16; 988],
@@ -185,14 +230,19 @@ pub fn event_goals(
     requires { ⌜ e ≤ 15 ⌝ }
     ensures { λ r. ⌜ r ≡ length (targetRows (regionsOf (now (model .entry)) (now (index .entry)) (now (second .entry)) (now (regions .entry))) (jointsOf (componentsFrom (now (model .entry)) (now (index .entry))) location e)) ⌝ }
 {
-    let switches = event_count(model, index, modes, e);
-    let mut count: u32 = 0;
-    let mut x: u32 = 0;
-    while x < switches {
-        count += target_goals(model, index, second, regions, location, modes, e, x);
-        x += 1;
-    }
-    count
+    let mut ways = [0u8; 128];
+    let counts = list_ways(model, index, modes, e, &mut ways);
+    listed_goals(
+        model,
+        index,
+        second,
+        regions,
+        location,
+        modes,
+        e,
+        &ways,
+        counts,
+    )
 }
 
 // How many goals the joint switches from a location have.

@@ -1,5 +1,5 @@
--- The ways of the components in a table: how one component's are listed, how the table grows, and what it tells of each component.
--- Assumes nothing.
+-- The ways of the components in a table: how one component's are listed, how the table grows, what it tells of each component, and what
+-- the loops over it count and take. Assumes nothing.
 use mathlib.Core.Path.{_≡_, refl, sym, ap, _∙_, subst}
 use mathlib.Core.Bool.{Bool, true, false, cond}
 use mathlib.Core.List.{List, [], _∷_, _++_}
@@ -17,7 +17,7 @@ use Rattle.sheets.specs.Ways.{waysOf, ListedAt, Ways}
 use Rattle.sheets.proofs.IndexLaws.{kept-none, kept-set, kept-then}
 use Rattle.sheets.proofs.GoodIndexLaws.{good-component}
 use Rattle.sheets.proofs.JointCounts.{leaving-few, stays-only, leavingFrom, leaving-all, leaving-none, leaving-count, leaving-skip, leaving-first, leaving-later}
-use Rattle.sheets.proofs.JointLoops.{quotient-left, silentOn, togetherOn, digitsOn, silent-found, silent-passed, together-starts, together-goes-on, parts-some, digits-start, digits-go-on}
+use Rattle.sheets.proofs.JointLoops.{quotient-left, silentOn, togetherOn, digitsOn, silent-starts, silent-goes-on, silent-found, silent-passed, together-starts, together-goes-on, parts-some, digits-start, digits-go-on}
 
 -- a component's ways, by the event
 pub ways-silent : (c : Component) (mode e : ℕ) → e ≡ 0 → waysOf c mode e ≡ leaving c mode e
@@ -185,8 +185,32 @@ module _ {s index : List ℕ} (g : GoodIndex s index) (modes : List ℕ) (e : �
     pub part-number : (d : ℕ) → (e ≡ 0 → ⊥) → d < getD counts k 0 → getD table (32 * k + d) 0 ≡ getD (parts (componentAt s index k) (getD modes k 0) e) d stays
     part-number d z l = w .each k h .listed d l ∙ ap (λ xs. getD xs d stays) (ways-parts (componentAt s index k) (getD modes k 0) e z)
 
--- Taking a joint switch of event 0: what is sought among those of the components from here on is what is sought among all. The code keeps
--- the modes in the table alone, so that this is said of all modes that the table may stand for
+-- Counting: what has been counted are the joint switches of the components from here on. The code reads the counts alone, so that this is
+-- said of all modes that the table may stand for; the same below, where one is taken
+abbrev pub SumFrom : List ℕ → List ℕ → List ℕ → List ℕ → ℕ → ℕ → Type 0
+SumFrom s index table counts k count =
+    (modes : List ℕ) → entry index 1 ≤ length modes → Ways s index modes 0 table counts → count ≡ length (silentOn s index modes k)
+
+abbrev pub ProductFrom : List ℕ → List ℕ → ℕ → List ℕ → List ℕ → ℕ → ℕ → Type 0
+ProductFrom s index e table counts k count =
+    (modes : List ℕ) → entry index 1 ≤ length modes → Ways s index modes e table counts → count ≡ length (togetherOn s index modes e k)
+
+module _ {s index : List ℕ} (g : GoodIndex s index) (table counts : List ℕ) where
+  pub sum-first : SumFrom s index table counts (entry index 1) 0
+  sum-first modes long w = silent-starts g modes long
+
+  pub sum-next : (k count : ℕ) → 0 < k → k ≤ entry index 1 → SumFrom s index table counts k count → SumFrom s index table counts (k - 1) (getD counts (k - 1) 0 + count)
+  sum-next k count h l i modes long w =
+      silent-goes-on g modes long k (getD counts (k - 1) 0) count h l (silent-count g modes 0 w (k - 1) (omega arith) refl) (i modes long w)
+
+  pub product-first : (e : ℕ) → ProductFrom s index e table counts (entry index 1) 1
+  product-first e modes long w = together-starts g modes long e
+
+  pub product-next : (e k count : ℕ) → (e ≡ 0 → ⊥) → 0 < k → k ≤ entry index 1 → ProductFrom s index e table counts k count → ProductFrom s index e table counts (k - 1) (getD counts (k - 1) 0 * count)
+  product-next e k count z h l i modes long w =
+      together-goes-on g modes long e k (getD counts (k - 1) 0) count h l (part-count g modes e w (k - 1) (omega arith) z) (i modes long w)
+
+-- Taking a joint switch of event 0: what is sought among those of the components from here on is what is sought among all
 abbrev pub SilentFrom : List ℕ → List ℕ → List ℕ → List ℕ → ℕ → ℕ → ℕ → Type 0
 SilentFrom s index table counts x k left =
     (modes : List ℕ) → entry index 1 ≤ length modes → Ways s index modes 0 table counts → x < length (silent (componentsFrom s index) (perComponent index modes)) →

@@ -3,17 +3,20 @@
 use crate::model::has_event;
 use crate::tally::tallied;
 use crate::tally::tally;
+use crate::ways::list_ways;
+use crate::ways::way_at;
+use crate::ways::ways_count;
 ghost use mathlib.Core.Path.{_≡_};
 ghost use mathlib.Core.Bool.{cond, false};
 ghost use mathlib.Core.List.{[], _++_};
 ghost use Prim.Native.Nat.{_+_, _-_, _<_, _≤_, min};
 ghost use lib.Dec.{eqb};
-ghost use lib.ListN.{length, getD, set, replicate};
+ghost use lib.ListN.{length, getD, replicate};
 ghost use Rattle.sheets.specs.Model.{hasEvent};
 ghost use Rattle.sheets.specs.Locations.{locationCount, modesAt, locationOf};
-ghost use Rattle.sheets.specs.Joint.{stays, switchOf, leaves, leaving, bit, scopeMask, silent, together, switchesOf, modesAfter, joinAll, countUp, joints};
+ghost use Rattle.sheets.specs.Joint.{stays, switchOf, leaves, bit, scopeMask, switchesOf, modesAfter, joinAll, countUp, joints};
 ghost use Rattle.sheets.specs.Index.{entry, GoodIndex, componentsFrom};
-ghost use Rattle.sheets.specs.Counts.{componentAt, perComponent, parts, fourSwitches, KnownSwitches};
+ghost use Rattle.sheets.specs.Counts.{componentAt, perComponent, fourSwitches, KnownSwitches};
 ghost use Rattle.sheets.specs.Tally.{Tallied, SmallModes};
 
 // How many components there are.
@@ -96,44 +99,6 @@ pub fn bit_of(yes: bool) -> u32
     if yes { 1 } else { 0 }
 }
 
-// How many switches of a component have this label and leave this mode.
-fn leaving_count(s: &[u8], index: &[u16; 988], k: usize, mode: u8, e: u32) -> u32
-    requires { ⌜ GoodIndex (now s) (now index) ⌝ }
-    requires { ⌜ k < entry (now index) 1 ⌝ }
-    ensures { λ r. ⌜ r ≡ length (leaving (componentAt (now (s .entry)) (now (index .entry)) k) mode e) ⌝ }
-{
-    let switches = switch_count(s, index, k);
-    let mut count: u32 = 0;
-    let mut i: usize = 0;
-    while i < switches {
-        count += bit_of(leaves_by(s, index, k, i, mode, e));
-        i += 1;
-    }
-    count
-}
-
-// The number of one of them, by its place among them; 255 where there are not so many.
-fn nth_leaving(s: &[u8], index: &[u16; 988], k: usize, mode: u8, e: u32, d: u32) -> u8
-    requires { ⌜ GoodIndex (now s) (now index) ⌝ }
-    requires { ⌜ k < entry (now index) 1 ⌝ }
-    ensures { λ r. ⌜ r ≡ getD (leaving (componentAt (now (s .entry)) (now (index .entry)) k) mode e) d stays ⌝ }
-{
-    let switches = switch_count(s, index, k);
-    let mut left = d;
-    let mut i: usize = 0;
-    while i < switches {
-        let here = i;
-        i += 1;
-        if leaves_by(s, index, k, here, mode, e) {
-            if left == 0 {
-                return here as u8;
-            }
-            left -= 1;
-        }
-    }
-    255
-}
-
 // A number of an index, as counts have it.
 fn wide(x: u16) -> u32
     ensures { λ r. ⌜ r ≡ x ⌝ }
@@ -165,76 +130,15 @@ pub fn scope_mask(s: &[u8], index: &[u16; 988], e: u32) -> u32
     mask
 }
 
-// In how many ways a component takes part in an event: by its switches if it is in the scope, else in one, by staying.
-fn part_count(s: &[u8], index: &[u16; 988], k: usize, mode: u8, e: u32) -> u32
-    requires { ⌜ GoodIndex (now s) (now index) ⌝ }
-    requires { ⌜ (k < entry (now index) 1) × (e ≤ 15) ⌝ }
-    ensures { λ r. ⌜ r ≡ length (parts (componentAt (now (s .entry)) (now (index .entry)) k) mode e) ⌝ }
-{
-    if in_scope(s, index, k, e) {
-        leaving_count(s, index, k, mode, e)
-    } else {
-        1
-    }
-}
-
-// One of these ways, by its number.
-fn nth_part(s: &[u8], index: &[u16; 988], k: usize, mode: u8, e: u32, d: u32) -> u8
-    requires { ⌜ GoodIndex (now s) (now index) ⌝ }
-    requires { ⌜ (k < entry (now index) 1) × (e ≤ 15) ⌝ }
-    ensures { λ r. ⌜ r ≡ getD (parts (componentAt (now (s .entry)) (now (index .entry)) k) mode e) d stays ⌝ }
-{
-    if in_scope(s, index, k, e) {
-        nth_leaving(s, index, k, mode, e, d)
-    } else {
-        255
-    }
-}
-
-// How many joint switches have event 0: a sum over the components.
-fn silent_count(s: &[u8], index: &[u16; 988], modes: [u8; 4]) -> u32
-    requires { ⌜ GoodIndex (now s) (now index) ⌝ }
-    ensures { λ r. ⌜ r ≡ length (silent (componentsFrom (now (s .entry)) (now (index .entry))) (perComponent (now (index .entry)) modes)) ⌝ }
-{
-    let mut count: u32 = 0;
-    let mut k = component_count(s, index);
-    while 0 < k {
-        k -= 1;
-        count = leaving_count(s, index, k, modes[k], 0) + count;
-    }
-    count
-}
-
-// In how many ways the members of an event's scope move together: a product over the components.
-fn together_count(s: &[u8], index: &[u16; 988], modes: [u8; 4], e: u32) -> u32
-    requires { ⌜ GoodIndex (now s) (now index) ⌝ }
-    requires { ⌜ e ≤ 15 ⌝ }
-    ensures { λ r. ⌜ r ≡ length (together (componentsFrom (now (s .entry)) (now (index .entry))) (perComponent (now (index .entry)) modes) e) ⌝ }
-{
-    let mut count: u32 = 1;
-    let mut k = component_count(s, index);
-    while 0 < k {
-        k -= 1;
-        count = part_count(s, index, k, modes[k], e) * count;
-    }
-    count
-}
-
-// How many joint switches an event has in a location with these modes. As many components move as the scope mask has ones; with none of
-// them there is no step.
+// How many joint switches an event has in a location with these modes.
 pub fn event_count(s: &[u8], index: &[u16; 988], modes: [u8; 4], e: u32) -> u32
     requires { ⌜ GoodIndex (now s) (now index) ⌝ }
     requires { ⌜ e ≤ 15 ⌝ }
     ensures { λ r. ⌜ r ≡ length (switchesOf (componentsFrom (now (s .entry)) (now (index .entry))) (perComponent (now (index .entry)) modes) e) ⌝ }
 {
-    if e == 0 {
-        return silent_count(s, index, modes);
-    }
-    let mask = scope_mask(s, index, e);
-    if u32::count_ones(mask) == 0 {
-        return 0;
-    }
-    together_count(s, index, modes, e)
+    let mut ways = [0u8; 128];
+    let counts = list_ways(s, index, modes, e, &mut ways);
+    ways_count(s, index, modes, e, &ways, counts)
 }
 
 // A count of joint switches, with those of one more location: one above the limit as soon as there are more.
@@ -298,55 +202,6 @@ pub fn joint_count(s: &[u8], index: &[u16; 988], locations: u32, limit: u32) -> 
     tallied_joints(s, index, &table, locations, limit)
 }
 
-// Four switch numbers where one component moves.
-pub fn alone(k: usize, i: u8) -> [u8; 4]
-    requires { ⌜ k < 4 ⌝ }
-    ensures { λ r. ⌜ r ≡ set (replicate 4 stays) k i ⌝ }
-{
-    let mut switches = [255u8; 4];
-    switches[k] = i;
-    switches
-}
-
-// A joint switch of event 0, by its number: the first component with so many switches moves by one of them.
-fn silent_at(s: &[u8], index: &[u16; 988], modes: [u8; 4], x: u32) -> [u8; 4]
-    requires { ⌜ GoodIndex (now s) (now index) ⌝ }
-    requires { ⌜ x < length (silent (componentsFrom (now s) (now index)) (perComponent (now index) modes)) ⌝ }
-    ensures { λ r. ⌜ r ≡ fourSwitches (getD (silent (componentsFrom (now (s .entry)) (now (index .entry))) (perComponent (now (index .entry)) modes)) x []) ⌝ }
-{
-    let components = component_count(s, index);
-    let mut left = x;
-    let mut k: usize = 0;
-    while k < components {
-        let count = leaving_count(s, index, k, modes[k], 0);
-        if left < count {
-            return alone(k, nth_leaving(s, index, k, modes[k], 0, left));
-        }
-        left -= count;
-        k += 1;
-    }
-    [255; 4]
-}
-
-// A joint switch of an event from 1, by its number: its digits are the numbers of the components' parts, the last component's last.
-fn together_at(s: &[u8], index: &[u16; 988], modes: [u8; 4], e: u32, x: u32) -> [u8; 4]
-    requires { ⌜ GoodIndex (now s) (now index) ⌝ }
-    requires { ⌜ e ≤ 15 ⌝ }
-    requires { ⌜ x < length (together (componentsFrom (now s) (now index)) (perComponent (now index) modes) e) ⌝ }
-    ensures { λ r. ⌜ r ≡ fourSwitches (getD (together (componentsFrom (now (s .entry)) (now (index .entry))) (perComponent (now (index .entry)) modes) e) x []) ⌝ }
-{
-    let mut switches = [255u8; 4];
-    let mut left = x;
-    let mut k = component_count(s, index);
-    while 0 < k {
-        k -= 1;
-        let count = part_count(s, index, k, modes[k], e);
-        switches[k] = nth_part(s, index, k, modes[k], e, left % count);
-        left /= count;
-    }
-    switches
-}
-
 // A joint switch by its number among those of its event in a location with these modes: a switch number per component, 255 for a staying
 // or absent one.
 pub fn joint_at(s: &[u8], index: &[u16; 988], modes: [u8; 4], e: u32, x: u32) -> [u8; 4]
@@ -355,11 +210,9 @@ pub fn joint_at(s: &[u8], index: &[u16; 988], modes: [u8; 4], e: u32, x: u32) ->
     requires { ⌜ x < length (switchesOf (componentsFrom (now s) (now index)) (perComponent (now index) modes) e) ⌝ }
     ensures { λ r. ⌜ r ≡ fourSwitches (getD (switchesOf (componentsFrom (now (s .entry)) (now (index .entry))) (perComponent (now (index .entry)) modes) e) x []) ⌝ }
 {
-    if e == 0 {
-        silent_at(s, index, modes, x)
-    } else {
-        together_at(s, index, modes, e, x)
-    }
+    let mut ways = [0u8; 128];
+    let counts = list_ways(s, index, modes, e, &mut ways);
+    way_at(s, index, modes, e, &ways, counts, x)
 }
 
 // A component's mode after a joint switch.

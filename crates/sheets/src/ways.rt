@@ -1,14 +1,14 @@
-// Joint switches of one event from one location, taken from a table: each component's ways to take part in the event are listed once,
-// thirty-two places to a component, and a joint switch is then found by its number without a look at the switches.
-use crate::joints::alone;
+// Joint switches of one event from one location, by a table: each component's ways to take part in the event are listed once, thirty-two
+// places to a component, and joint switches are then counted and found by their number without a look at the switches.
 use crate::joints::bit_of;
 use crate::joints::in_scope;
 use crate::joints::leaves_by;
+use crate::joints::scope_mask;
 ghost use mathlib.Core.Path.{_≡_};
 ghost use mathlib.Core.List.{[]};
 ghost use Prim.Native.Nat.{_+_, _*_, _≤_, _<_};
-ghost use lib.ListN.{length, getD};
-ghost use Rattle.sheets.specs.Joint.{leaving, silent, together, switchesOf};
+ghost use lib.ListN.{length, getD, set, replicate};
+ghost use Rattle.sheets.specs.Joint.{stays, leaving, silent, together, switchesOf};
 ghost use Rattle.sheets.specs.Index.{entry, Kept, GoodIndex, componentsFrom};
 ghost use Rattle.sheets.specs.Counts.{componentAt, perComponent, fourSwitches};
 ghost use Rattle.sheets.specs.Ways.{waysOf, ListedAt, Ways};
@@ -65,6 +65,77 @@ pub fn list_ways(s: &[u8], index: &[u16; 988], modes: [u8; 4], e: u32, ways: &mu
         k += 1;
     }
     counts
+}
+
+// How many joint switches have event 0: a sum over the components.
+fn silent_total(s: &[u8], index: &[u16; 988], modes: [u8; 4], ways: &[u8], counts: [u32; 4]) -> u32
+    requires { ⌜ GoodIndex (now s) (now index) ⌝ }
+    requires { ⌜ Ways (now s) (now index) modes 0 (now ways) counts ⌝ }
+    ensures { λ r. ⌜ r ≡ length (silent (componentsFrom (now (s .entry)) (now (index .entry))) (perComponent (now (index .entry)) modes)) ⌝ }
+{
+    let mut count: u32 = 0;
+    let mut k = index[1] as usize;
+    while 0 < k {
+        k -= 1;
+        count = counts[k] + count;
+    }
+    count
+}
+
+// In how many ways the members of an event's scope move together: a product over the components.
+fn together_total(
+    s: &[u8],
+    index: &[u16; 988],
+    modes: [u8; 4],
+    e: u32,
+    ways: &[u8],
+    counts: [u32; 4],
+) -> u32
+    requires { ⌜ GoodIndex (now s) (now index) ⌝ }
+    requires { ⌜ (0 < e) × Ways (now s) (now index) modes e (now ways) counts ⌝ }
+    ensures { λ r. ⌜ r ≡ length (together (componentsFrom (now (s .entry)) (now (index .entry))) (perComponent (now (index .entry)) modes) e) ⌝ }
+{
+    let mut count: u32 = 1;
+    let mut k = index[1] as usize;
+    while 0 < k {
+        k -= 1;
+        count = counts[k] * count;
+    }
+    count
+}
+
+// How many joint switches an event has in a location with these modes, from the table of their ways. As many components move as the
+// scope mask has ones; with none of them there is no step.
+pub fn ways_count(
+    s: &[u8],
+    index: &[u16; 988],
+    modes: [u8; 4],
+    e: u32,
+    ways: &[u8],
+    counts: [u32; 4],
+) -> u32
+    requires { ⌜ GoodIndex (now s) (now index) ⌝ }
+    requires { ⌜ (e ≤ 15) × Ways (now s) (now index) modes e (now ways) counts ⌝ }
+    ensures { λ r. ⌜ r ≡ length (switchesOf (componentsFrom (now (s .entry)) (now (index .entry))) (perComponent (now (index .entry)) modes) e) ⌝ }
+{
+    if e == 0 {
+        return silent_total(s, index, modes, ways, counts);
+    }
+    let mask = scope_mask(s, index, e);
+    if u32::count_ones(mask) == 0 {
+        return 0;
+    }
+    together_total(s, index, modes, e, ways, counts)
+}
+
+// Four switch numbers where one component moves.
+fn alone(k: usize, i: u8) -> [u8; 4]
+    requires { ⌜ k < 4 ⌝ }
+    ensures { λ r. ⌜ r ≡ set (replicate 4 stays) k i ⌝ }
+{
+    let mut switches = [255u8; 4];
+    switches[k] = i;
+    switches
 }
 
 // A joint switch of event 0, by its number: the first component with so many ways moves by one of them.

@@ -1,42 +1,33 @@
--- By cases: event 0, and any other. Assumes nothing.
-use denote.Ref.{now}
-use Rattle.sheets.specs.Index.{componentsFrom}
-use Rattle.sheets.specs.Counts.{perComponent}
-use Rattle.sheets.proofs.JointCounts.{switches-silent, switches-some}
+-- The ways are listed, and the joint switch is taken from the table. Assumes nothing.
+use native.Mathlib.Omega.{arith}
+use borrow.Author.Needs.{needs}
 use Rattle.sheets.proofs.joints.joint_at.Statement.{statement}
 use Rattle.sheets.proofs.joints.joint_at.Tie as tie
 
-silent-at-requires : tie.Need-silent-at-requires
-silent-at-requires c κs =
-    let a = c .before .before .args in
-    let components = componentsFrom (now (a .s)) (now (a .index)) in
-    let numbers = perComponent (now (a .index)) (a .modes) in
-    let same = switches-silent components numbers (a .e) (c .if1 .taken) in
-    (c .before .before .pre .0, rw same at (c .before .before .pre .1 .1))
+slice-aggregate-list-ways : tie.Need-slice-aggregate-list-ways
+slice-aggregate-list-ways c = search needs
 
-together-at-requires : tie.Need-together-at-requires
-together-at-requires c κs =
-    let a = c .before .before .args in
-    let components = componentsFrom (now (a .s)) (now (a .index)) in
-    let numbers = perComponent (now (a .index)) (a .modes) in
-    let same = switches-some components numbers (a .e) (a .x) (c .if1 .left) (c .before .before .pre .1 .1) in
-    (c .before .before .pre .0, (c .before .before .pre .1 .0, rw same at (c .before .before .pre .1 .1)))
+list-ways-requires : tie.Need-list-ways-requires
+list-ways-requires c κs = search needs
+
+slice-aggregate-way-at : tie.Need-slice-aggregate-way-at
+slice-aggregate-way-at c = search needs
+
+way-at-requires : tie.Need-way-at-requires
+way-at-requires c κs =
+    let p = c .before .before .before .before .before .pre in
+    let told = c .before .before .list-ways in
+    (p .0, ((omega (arith, told .kept .1 .1 .1 .1 .0), told .ensures), p .1 .1))
 
 returns : tie.Need-returns
-returns c =
-    let a = c .before .before .before .args in
-    let components = componentsFrom (now (a .s)) (now (a .index)) in
-    let numbers = perComponent (now (a .index)) (a .modes) in
-    let same = switches-silent components numbers (a .e) (c .before .if1 .taken) in
-    rw same (c .silent-at .ensures)
-
-returns-2 : tie.Need-returns-2
-returns-2 c =
-    let a = c .before .before .before .args in
-    let components = componentsFrom (now (a .s)) (now (a .index)) in
-    let numbers = perComponent (now (a .index)) (a .modes) in
-    let same = switches-some components numbers (a .e) (a .x) (c .before .if1 .left) (c .before .before .before .pre .1 .1) in
-    rw same (c .together-at .ensures)
+returns c = search needs
 
 pub joint-at-spec : {M : Type 1} → statement M
-joint-at-spec = tie.close (tie.spec silent-at-requires together-at-requires returns returns-2)
+joint-at-spec =
+    tie.close
+    (tie.spec
+    slice-aggregate-list-ways
+    list-ways-requires
+    slice-aggregate-way-at
+    way-at-requires
+    returns)

@@ -1,8 +1,8 @@
 -- One number is put in place of 255. Assumes nothing.
 use borrow.Author.Needs.{needs}
 use Rattle.sheets.specs.Joint.{stays}
-use Rattle.sheets.proofs.joints.alone.Statement.{statement}
-use Rattle.sheets.proofs.joints.alone.Tie as tie
+use Rattle.sheets.proofs.ways.alone.Statement.{statement}
+use Rattle.sheets.proofs.ways.alone.Tie as tie
 
 array-write-switches : tie.Need-array-write-switches
 array-write-switches c = search needs
