@@ -18,12 +18,12 @@ use Rattle.sheets.specs.Counts.{perComponent}
 use Rattle.sheets.proofs.GoodIndexLaws.{counted-at}
 use Rattle.sheets.proofs.JointCounts.{event-length}
 use Rattle.sheets.proofs.JointLoops.{record-at}
-use Rattle.marking.specs.Runs.{present, modesIn, modesFit}
-use Rattle.marking.specs.Obligations.{Hypothesis, Kind, atStart, afterFlow, clearOfUnsafe, afterJump, Obligation, onX, onNext, perRow, startHypotheses, flowHypotheses, unsafeHypotheses, startObligations, flowObligations, unsafeObligations, locationObligations, jumpObligations, jumpsObligations, obligationsOver}
+use Rattle.rules.specs.Runs.{present, modesIn, modesFit}
+use Rattle.rules.specs.Obligations.{Hypothesis, Kind, atStart, afterFlow, clearOfUnsafe, afterJump, Obligation, onX, onNext, perRow, startHypotheses, flowHypotheses, unsafeHypotheses, startObligations, flowObligations, unsafeObligations, locationObligations, jumpObligations, jumpsObligations, obligationsOver}
 use Rattle.marking.specs.Listing.{noUnsafe, Stands}
 use Rattle.marking.specs.Listing.{regionsOf}
 use Rattle.marking.specs.Counting.{targetRows}
-use Rattle.marking.specs.Beside.{noObligation}
+use Rattle.rules.specs.Beside.{noObligation}
 use Rattle.beside.specs.Finding.{oneAt, groupObligations, groupKind, groupLine, groupHypotheses, groupOne, jointHere, jointHypotheses, jointOne, paperObligations}
 use Rattle.marking.proofs.ModeLines.{joinedOn, joined-first, joined-none, joined-whole}
 use Rattle.marking.proofs.CountGoals.{jumps-length}

@@ -13,8 +13,8 @@ use Rattle.sheets.specs.Reading.{got, refused}
 use Rattle.sheets.specs.Model.{Component, Model}
 use Rattle.sheets.specs.Joint.{joints}
 use Rattle.sheets.specs.ModelSheet.{Limits, readModel}
-use Rattle.marking.specs.Marking.{answer, withModel}
-use Rattle.marking.specs.Beside.{listAnswer}
+use Rattle.rules.specs.Marking.{answer, withModel}
+use Rattle.rules.specs.Beside.{listAnswer}
 use Rattle.beside.specs.Records.{listOf}
 
 -- The answer on a model that was read, by its count

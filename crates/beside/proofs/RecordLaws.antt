@@ -25,10 +25,10 @@ use Rattle.sheets.specs.Index.{componentsFrom, modelFrom, GoodIndex}
 use Rattle.sheets.proofs.Gives.{got-value}
 use Rattle.sheets.proofs.Joint.{jointFrom}
 use Rattle.sheets.proofs.JointLoops.{switches-few, record-at}
-use Rattle.marking.specs.declared.Answer.{Answer}
-use Rattle.marking.specs.declared.Joint.{Joint}
-use Rattle.marking.specs.Marking.{answer, withModel}
-use Rattle.marking.specs.Beside.{fourSwitches, recordOf, listAnswer}
+use Rattle.rules.specs.declared.Answer.{Answer}
+use Rattle.rules.specs.declared.Joint.{Joint}
+use Rattle.rules.specs.Marking.{answer, withModel}
+use Rattle.rules.specs.Beside.{fourSwitches, recordOf, listAnswer}
 use Rattle.beside.specs.Records.{slotJoints, jointsFrom, recordsFrom, noJoint, modelBy}
 use Rattle.marking.proofs.ModeLines.{joinedOn, joined-first, joined-none}
 use Rattle.marking.proofs.CloseLaws.{few-joints}

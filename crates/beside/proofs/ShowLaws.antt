@@ -21,21 +21,21 @@ use Rattle.sheets.specs.Counts.{perComponent, KnownSwitches}
 use Rattle.sheets.specs.ModelSheet.{Limits, readModel}
 use Rattle.sheets.specs.Certificate.{readRegions}
 use Rattle.sheets.specs.CertificateAnswers.{regionsFrom}
-use Rattle.marking.specs.declared.Answer.{Answer}
+use Rattle.rules.specs.declared.Answer.{Answer}
 use Rattle.beside.specs.declared.Which.{Which}
 use Rattle.beside.specs.declared.RowFound.{RowFound}
 use Rattle.beside.specs.declared.RowFound.the-variants as row
-use Rattle.marking.specs.Runs.{present, modesIn, movers, stayingVariables}
-use Rattle.marking.specs.Obligations.{Hypothesis, nowhere, standing, Obligation, startHypotheses, flowHypotheses, unsafeHypotheses, jumpHypotheses, obligations}
-use Rattle.marking.specs.Marking.{answer}
+use Rattle.rules.specs.Runs.{present, modesIn, movers, stayingVariables}
+use Rattle.rules.specs.Obligations.{Hypothesis, nowhere, standing, Obligation, startHypotheses, flowHypotheses, unsafeHypotheses, jumpHypotheses, obligations}
+use Rattle.rules.specs.Marking.{answer}
 use Rattle.marking.specs.Tables.{Listed, linesIn, hypothesisIn, hypothesisOf, hypothesesFrom}
 use Rattle.marking.specs.Listing.{Stands, regionsOf, startLines, flowLines, unsafeLines, jumpLines}
 use Rattle.marking.specs.Listing.{regionsOf}
-use Rattle.marking.specs.Beside.{Found, found, unfound, noObligation, findIn, findAfter, findHypothesis, foundAnswer, showAnswer, sheetOf, partOf, showPart}
+use Rattle.rules.specs.Beside.{Found, found, unfound, noObligation, findIn, findAfter, findHypothesis, foundAnswer, showAnswer, sheetOf, partOf, showPart}
 use Rattle.beside.specs.Finding.{whichTells, whichRefused, whichIn, whichAfter, whichObligation, standsIn, rowFound, RowInside, PartIs, hypothesisFound, rowOf, whichOf, toldRefused, toldIn, toldAfter, toldFor, oneAt, kindNumber, groupKind, groupLine, groupWhich, groupHypotheses, paperObligations}
 use Rattle.marking.proofs.HypothesisLines.{told, start-told, flow-told, unsafe-told, jump-lines-told}
 use Rattle.marking.proofs.CountGoals.{region-at}
-use Rattle.marking.proofs.MarkedRanges.{found-within}
+use Rattle.rules.proofs.MarkedRanges.{found-within}
 use Rattle.beside.proofs.FindLaws.{condition-at}
 
 -- The answers by a number in the list are those by the one obligation that has it

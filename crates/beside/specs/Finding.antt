@@ -24,12 +24,12 @@ use Rattle.beside.specs.declared.Sought.{Sought}
 use Rattle.beside.specs.declared.Sought.the-variants as sought
 use Rattle.beside.specs.declared.RowFound.{RowFound}
 use Rattle.beside.specs.declared.RowFound.the-variants as row
-use Rattle.marking.specs.Runs.{modesIn, movers, stayingVariables}
-use Rattle.marking.specs.Obligations.{Hypothesis, nowhere, Kind, atStart, afterFlow, clearOfUnsafe, afterJump, Obligation, startHypotheses, flowHypotheses, unsafeHypotheses, jumpHypotheses, startObligations, flowObligations, unsafeObligations, jumpObligations, jumpsObligations, obligationsOver, obligations}
+use Rattle.rules.specs.Runs.{modesIn, movers, stayingVariables}
+use Rattle.rules.specs.Obligations.{Hypothesis, nowhere, Kind, atStart, afterFlow, clearOfUnsafe, afterJump, Obligation, startHypotheses, flowHypotheses, unsafeHypotheses, jumpHypotheses, startObligations, flowObligations, unsafeObligations, jumpObligations, jumpsObligations, obligationsOver, obligations}
 use Rattle.marking.specs.Listing.{noUnsafe}
 use Rattle.marking.specs.Listing.{regionsOf}
 use Rattle.marking.specs.Counting.{targetRows}
-use Rattle.marking.specs.Beside.{Found, found, unfound, noObligation, findIn, findAfter, findHypothesis}
+use Rattle.rules.specs.Beside.{Found, found, unfound, noObligation, findIn, findAfter, findHypothesis}
 
 -- Which obligation it is: its kind as a number
 unfoldable pub kindNumber : Kind → ℕ

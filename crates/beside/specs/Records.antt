@@ -11,10 +11,10 @@ use Rattle.sheets.specs.Locations.{locationCount}
 use Rattle.sheets.specs.Joint.{JointSwitch, jointsOf, joints, countUp, joinAll}
 use Rattle.sheets.specs.ModelSheet.{examLimits, readModel}
 use Rattle.sheets.specs.Index.{componentsFrom, modelFrom}
-use Rattle.marking.specs.declared.Answer.{Answer}
-use Rattle.marking.specs.declared.Joint.{Joint}
-use Rattle.marking.specs.Marking.{answer}
-use Rattle.marking.specs.Beside.{recordOf}
+use Rattle.rules.specs.declared.Answer.{Answer}
+use Rattle.rules.specs.declared.Joint.{Joint}
+use Rattle.rules.specs.Marking.{answer}
+use Rattle.rules.specs.Beside.{recordOf}
 
 -- the joint list's answer on a model sheet of a length, once its components are read
 unfoldable pub listOf : List Component → ℕ → ℕ → Answer

@@ -23,7 +23,7 @@ ghost use Rattle.sheets.specs.Locations.{locationCount, modesAt};
 ghost use Rattle.sheets.specs.Joint.{jointsOf, joints, joinAll, countUp, switchesOf};
 ghost use Rattle.sheets.specs.Index.{entry, componentsFrom, modelFrom};
 ghost use Rattle.sheets.specs.Ways.{Ways};
-ghost use Rattle.marking.specs.Obligations.{locationObligations, jumpsObligations};
+ghost use Rattle.rules.specs.Obligations.{locationObligations, jumpsObligations};
 ghost use Rattle.marking.specs.Listing.{GoodPaper, Stands, regionsOf};
 ghost use Rattle.marking.specs.Counting.{targetRows};
 ghost use Rattle.beside.specs.Finding.{oneAt, groupObligations, jointHere, soughtOne, KnownSought, paperObligations, Leads, JointLeads};

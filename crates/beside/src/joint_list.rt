@@ -2,8 +2,8 @@
 // place in the list is a slot and how many joint switches, from there on, are passed over.
 use crate::ListedJoint;
 use crate::list::list_answer;
-use marking::Answer;
-use marking::Joint;
+use rules::Answer;
+use rules::Joint;
 use sheets::joints::event_count;
 use sheets::joints::joint_at;
 use sheets::joints::location_count;
@@ -17,7 +17,7 @@ ghost use lib.ListN.{length, getD};
 ghost use Rattle.sheets.specs.Locations.{locationCount};
 ghost use Rattle.sheets.specs.Index.{componentsFrom, GoodIndex};
 ghost use Rattle.sheets.specs.ModelSheet.{examLimits, readModel};
-ghost use Rattle.marking.specs.Beside.{recordOf, listAnswer};
+ghost use Rattle.rules.specs.Beside.{recordOf, listAnswer};
 ghost use Rattle.beside.specs.Records.{slotJoints, recordsFrom, noJoint, modelBy, Stands};
 
 // How many records a table has room for; of a long one, more than any list has.

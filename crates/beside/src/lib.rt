@@ -5,7 +5,7 @@ pub mod list;
 pub mod rows;
 pub mod show;
 
-use marking::Joint;
+use rules::Joint;
 
 // A record of the joint list, and the place in the list after it: a slot, sixteen to a location, and how many joint switches from there on
 // are passed over.

@@ -1,6 +1,6 @@
 // The joint list's answer: whether a lent table has room for every joint switch of a model, and how many there are.
-use marking::Answer;
 use marking::answers::on_model;
+use rules::Answer;
 use sheets::Next;
 use sheets::joints::joint_count;
 use sheets::joints::location_count;
@@ -12,7 +12,7 @@ ghost use lib.ListN.{length};
 ghost use Rattle.sheets.specs.Index.{componentsFrom, GoodIndex};
 ghost use Rattle.sheets.specs.Joint.{joints};
 ghost use Rattle.sheets.specs.ModelSheet.{examLimits};
-ghost use Rattle.marking.specs.Beside.{listAnswer};
+ghost use Rattle.rules.specs.Beside.{listAnswer};
 ghost use Rattle.beside.specs.Records.{listOf};
 
 // The answer on a model that was read: its joint switches are counted; 15 where the table is too short.

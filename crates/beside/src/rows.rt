@@ -16,7 +16,7 @@ ghost use Rattle.sheets.specs.Joint.{switchesOf};
 ghost use Rattle.sheets.specs.Index.{entry, componentsFrom, modelFrom};
 ghost use Rattle.marking.specs.Tables.{hypothesisIn, hypothesesFrom};
 ghost use Rattle.marking.specs.Listing.{GoodPaper, Stands, regionsOf};
-ghost use Rattle.marking.specs.Beside.{found};
+ghost use Rattle.rules.specs.Beside.{found};
 ghost use Rattle.beside.specs.Finding.{rowFound, hypothesisFound, rowOf, groupHypotheses, jointHypotheses, jointHere, soughtOne, KnownSought};
 
 // The table of a location's group.

@@ -5,7 +5,7 @@ use crate::Told;
 use crate::Which;
 use crate::find::find;
 use crate::rows::sought_row;
-use marking::Answer;
+use rules::Answer;
 use sheets::Field;
 use sheets::Next;
 use sheets::certificate::read_regions;
@@ -21,10 +21,10 @@ ghost use Rattle.sheets.specs.Index.{entry, componentsFrom, modelFrom};
 ghost use Rattle.sheets.specs.ModelSheet.{examLimits};
 ghost use Rattle.sheets.specs.Certificate.{readRegions};
 ghost use Rattle.sheets.specs.CertificateAnswers.{regionsFrom};
-ghost use Rattle.marking.specs.Obligations.{obligations};
+ghost use Rattle.rules.specs.Obligations.{obligations};
 ghost use Rattle.marking.specs.Listing.{GoodPaper, regionsOf};
 ghost use Rattle.marking.specs.Closing.{Accepted, certificateRegions};
-ghost use Rattle.marking.specs.Beside.{found, findHypothesis, showAnswer, showPart};
+ghost use Rattle.rules.specs.Beside.{found, findHypothesis, showAnswer, showPart};
 ghost use Rattle.beside.specs.Finding.{whichObligation, groupWhich, rowFound, RowInside, whichOf, toldRefused, toldIn, toldAfter, toldFor, soughtOne, PartIs};
 
 // Which obligation a location's group has at a line.

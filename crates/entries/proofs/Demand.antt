@@ -8,11 +8,11 @@ use lib.Dec.{T}
 use Rattle.sheets.specs.Reading.{got}
 use Rattle.sheets.specs.Model.{Model}
 use Rattle.sheets.specs.ModelSheet.{examLimits, readModel}
-use Rattle.marking.specs.declared.Answer.{Answer}
-use Rattle.marking.specs.Runs.{State, Run, visited, isUnsafe}
-use Rattle.marking.specs.Marking.{markCertificate, markRun}
-use Rattle.marking.proofs.CertificateExactly.{accepted-holds}
-use Rattle.marking.proofs.Demand as demand
+use Rattle.rules.specs.declared.Answer.{Answer}
+use Rattle.rules.specs.Runs.{State, Run, visited, isUnsafe}
+use Rattle.rules.specs.Marking.{markCertificate, markRun}
+use Rattle.rules.proofs.CertificateExactly.{accepted-holds}
+use Rattle.rules.proofs.Demand as demand
 
 -- the sheet is a model, and no run that it allows visits an unsafe state: any list of steps, any start, any values and times over any q
 pub record NeverUnsafe (model : List ℕ) : Type 0 where

@@ -14,10 +14,10 @@ use Rattle.sheets.specs.Locations.{locationCount}
 use Rattle.sheets.specs.Joint.{joints}
 use Rattle.sheets.specs.ModelSheet.{examLimits, readModel}
 use Rattle.sheets.specs.Index.{componentsFrom, modelFrom, GoodIndex}
-use Rattle.marking.specs.declared.Answer.{Answer}
-use Rattle.marking.specs.declared.Joint.{Joint}
-use Rattle.marking.specs.Marking.{answer, withModel}
-use Rattle.marking.specs.Beside.{recordOf, listAnswer, filled, tableAfter}
+use Rattle.rules.specs.declared.Answer.{Answer}
+use Rattle.rules.specs.declared.Joint.{Joint}
+use Rattle.rules.specs.Marking.{answer, withModel}
+use Rattle.rules.specs.Beside.{recordOf, listAnswer, filled, tableAfter}
 use Rattle.beside.specs.Records.{recordsFrom, modelBy}
 use Rattle.marking.proofs.CloseLaws.{accepted}
 use Rattle.beside.proofs.RecordLaws.{whole-list, index-model}

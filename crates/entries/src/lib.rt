@@ -2,11 +2,11 @@
 pub mod show;
 pub mod table;
 
-use marking::Answer;
 use marking::certificate::mark_certificate;
 use marking::run::mark_run;
+use rules::Answer;
 ghost use mathlib.Core.Path.{_≡_};
-ghost use Rattle.marking.specs.Marking.{markCertificate, markRun};
+ghost use Rattle.rules.specs.Marking.{markCertificate, markRun};
 ghost use Rattle.sheets.specs.ModelSheet.{examLimits};
 
 // The answer for a certificate beside a model.

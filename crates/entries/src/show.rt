@@ -2,9 +2,9 @@
 use beside::Which;
 use beside::show::show_answer;
 use beside::show::which;
-use marking::Answer;
+use rules::Answer;
 ghost use mathlib.Core.Path.{_≡_};
-ghost use Rattle.marking.specs.Beside.{showAnswer};
+ghost use Rattle.rules.specs.Beside.{showAnswer};
 ghost use Rattle.beside.specs.Finding.{whichObligation};
 ghost use Rattle.sheets.specs.ModelSheet.{examLimits};
 

@@ -4,11 +4,11 @@ use beside::joint_list::list_index;
 use beside::joint_list::list_start;
 use beside::joint_list::next_record;
 use beside::joint_list::record_count;
-use marking::Answer;
-use marking::Joint;
+use rules::Answer;
+use rules::Joint;
 ghost use mathlib.Core.Path.{_≡_};
 ghost use lib.ListN.{length};
-ghost use Rattle.marking.specs.Beside.{listAnswer, tableAfter};
+ghost use Rattle.rules.specs.Beside.{listAnswer, tableAfter};
 ghost use Rattle.sheets.specs.ModelSheet.{examLimits};
 
 // The joint list of a model, in order; later records of the table keep their content, and a refusal writes nothing.

@@ -23,13 +23,13 @@ use Rattle.sheets.proofs.SheetLaws.{header-read}
 use Rattle.sheets.proofs.Placed.{Fine, placed-finished, placed-regions}
 use Rattle.sheets.proofs.GoodIndexLaws.{index-good}
 use Rattle.sheets.proofs.CertificateLaws.{regions-of, good-regions}
-use Rattle.marking.specs.declared.Answer.{Answer}
+use Rattle.rules.specs.declared.Answer.{Answer}
 use Rattle.marking.specs.declared.Marking as declared
-use Rattle.marking.specs.Obligations.{Obligation, obligations}
-use Rattle.marking.specs.Marking.{answer, scoreOf, refusedScore, Marked, passed, stopped, markProofs, closeCertificate, markRegions, withModel, markCertificate}
+use Rattle.rules.specs.Obligations.{Obligation, obligations}
+use Rattle.rules.specs.Marking.{answer, scoreOf, refusedScore, Marked, passed, stopped, markProofs, closeCertificate, markRegions, withModel, markCertificate}
 use Rattle.marking.specs.Listing.{GoodPaper, standsAt}
 use Rattle.marking.specs.Closing.{Accepted}
-use Rattle.marking.proofs.MarkedRanges.{Marks, proofs-mark}
+use Rattle.rules.proofs.MarkedRanges.{Marks, proofs-mark}
 use Rattle.marking.proofs.CountGoals.{obligations-length, locations-few, jumps-few}
 use Rattle.marking.proofs.MarkLaws.{stands-passed, stands-stopped}
 

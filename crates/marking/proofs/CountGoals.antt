@@ -26,11 +26,11 @@ use Rattle.sheets.proofs.Locations.{modes-at, location-of}
 use Rattle.sheets.proofs.Joint.{jointFrom, Known, joint-known, modes-after}
 use Rattle.sheets.proofs.JointCounts.{numbers-length, event-length, jointsIn}
 use Rattle.sheets.proofs.JointLoops.{switches-few, per-component-modes, record-at, found-joint, four-known, four-first}
-use Rattle.marking.specs.Runs.{present, modesIn, modesFit}
-use Rattle.marking.specs.Obligations.{Hypothesis, Kind, Obligation, perRow, startObligations, flowObligations, unsafeObligations, locationObligations, jumpObligations, jumpsObligations, obligationsOver, obligations, regionOf}
+use Rattle.rules.specs.Runs.{present, modesIn, modesFit}
+use Rattle.rules.specs.Obligations.{Hypothesis, Kind, Obligation, perRow, startObligations, flowObligations, unsafeObligations, locationObligations, jumpObligations, jumpsObligations, obligationsOver, obligations, regionOf}
 use Rattle.marking.specs.Listing.{GoodPaper, regionsOf}
 use Rattle.marking.specs.Counting.{targetRows}
-use Rattle.marking.proofs.ListFacts.{joined-few, joined-twice, count-length}
+use Rattle.rules.proofs.ListFacts.{joined-few, joined-twice, count-length}
 use Rattle.marking.proofs.CountLaws.{have-modes}
 
 -- the rows of a region

@@ -20,8 +20,8 @@ use Rattle.sheets.proofs.Locations.{Modes, no-modes, mode-and, HaveModes, modes
 use Rattle.sheets.proofs.WellFormed.{GoodComponent}
 use Rattle.sheets.proofs.GoodIndexLaws.{counted-length, counted-drop, components-length, component-at, mode-length, good-components}
 use Rattle.sheets.proofs.JointLoops.{componentsOn, numbersOn, per-component-drop, per-component-modes}
-use Rattle.marking.specs.Runs.{present, modesFit}
-use Rattle.marking.specs.Marking.{scoreOf, refusedScore}
+use Rattle.rules.specs.Runs.{present, modesFit}
+use Rattle.rules.specs.Marking.{scoreOf, refusedScore}
 use Rattle.marking.specs.Listing.{KnownModes}
 use Rattle.marking.proofs.HypothesisLines.{present-next, present-end}
 

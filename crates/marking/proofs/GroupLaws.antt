@@ -19,8 +19,8 @@ use Rattle.sheets.specs.Counts.{perComponent, KnownSwitches}
 use Rattle.sheets.specs.CertificateAnswers.{GoodRegions}
 use Rattle.sheets.proofs.GoodIndexLaws.{counted-at}
 use Rattle.marking.specs.declared.Group.{Group}
-use Rattle.marking.specs.Runs.{present, modesIn, modesFit, movers, stayingVariables}
-use Rattle.marking.specs.Obligations.{Hypothesis, Kind, atStart, afterFlow, clearOfUnsafe, afterJump, zeroOnly, onX, onNext, perRow, startHypotheses, flowHypotheses, unsafeHypotheses, jumpHypotheses, startObligations, flowObligations, unsafeObligations, jumpObligations}
+use Rattle.rules.specs.Runs.{present, modesIn, modesFit, movers, stayingVariables}
+use Rattle.rules.specs.Obligations.{Hypothesis, Kind, atStart, afterFlow, clearOfUnsafe, afterJump, zeroOnly, onX, onNext, perRow, startHypotheses, flowHypotheses, unsafeHypotheses, jumpHypotheses, startObligations, flowObligations, unsafeObligations, jumpObligations}
 use Rattle.marking.specs.Tables.{Listed, linesIn, hypothesesFrom, rowsOf, GoodLine}
 use Rattle.marking.specs.Listing.{Spaced, rowSize, Stands, Task, taskOf, tasks, tasksFrom, tasksOf, goalsOf, regionsOf, groupTasks, jumpTasks, noUnsafe, emptyGroup, regionGroup, unsafeGroup, GoodGroup, GoodPaper, startLines, flowLines, unsafeLines, jumpLines}
 use Rattle.farkas.proofs.All.{All, none}

@@ -18,11 +18,11 @@ use Rattle.sheets.specs.Index.{entry, ownerPlace, componentPlace, modePlace, sw
 use Rattle.sheets.specs.Counts.{componentAt, perComponent, KnownSwitches}
 use Rattle.sheets.proofs.GoodIndexLaws.{counted-at, components-drop, components-end, switch-at}
 use Rattle.sheets.proofs.JointLoops.{componentsOn, numbersOn, per-component-drop}
-use Rattle.marking.specs.Runs.{present, movers, stayingVariables}
-use Rattle.marking.specs.Obligations.{Hypothesis, nowhere, standing, onX, onNext, onRates, timeRow, stayingRows, modeRows, startHypotheses, flowHypotheses, unsafeHypotheses, jumpHypotheses}
+use Rattle.rules.specs.Runs.{present, movers, stayingVariables}
+use Rattle.rules.specs.Obligations.{Hypothesis, nowhere, standing, onX, onNext, onRates, timeRow, stayingRows, modeRows, startHypotheses, flowHypotheses, unsafeHypotheses, jumpHypotheses}
 use Rattle.marking.specs.Tables.{Listed, hypothesisIn, hypothesisOf, keepsUp, keepsDown}
 use Rattle.marking.specs.Listing.{line, spanLines, keptLines, modeLines, switchLine, switchLines, stayingLine, stayingLines, KnownModes, rowSize, hereLines, startLines, flowLines, unsafeLines, jumpLines}
-use Rattle.marking.proofs.ListFacts.{joined-told}
+use Rattle.rules.proofs.ListFacts.{joined-told}
 use Rattle.marking.proofs.ModeLines.{modesOn, modes-next, modes-end, switchesOn, switches-next, switches-end, switch-stays, switch-moves, variable-stays, variable-moves}
 
 -- the present modes, by the numbers of an index

@@ -19,13 +19,13 @@ use Rattle.sheets.proofs.Joint.{jointFrom}
 use Rattle.sheets.proofs.JointCounts.{event-length}
 use Rattle.sheets.proofs.JointLoops.{record-at}
 use Rattle.marking.specs.declared.Marking as declared
-use Rattle.marking.specs.Obligations.{Obligation, locationObligations, jumpObligations, jumpsObligations, obligationsOver, obligations, afterJump}
-use Rattle.marking.specs.Marking.{Marked, passed, stopped}
+use Rattle.rules.specs.Obligations.{Obligation, locationObligations, jumpObligations, jumpsObligations, obligationsOver, obligations, afterJump}
+use Rattle.rules.specs.Marking.{Marked, passed, stopped}
 use Rattle.marking.specs.Tables.{heldNext}
 use Rattle.marking.specs.Listing.{Task, tasks, taskOf, locationTasks, jumpTasks, jointTasks, regionsOf, markTask, markTasks, standsAt}
-use Rattle.marking.proofs.ListFacts.{joined-twice, joined-alike, joined-told}
+use Rattle.rules.proofs.ListFacts.{joined-twice, joined-alike, joined-told}
 use Rattle.marking.proofs.GroupLaws.{row-tasks}
-use Rattle.marking.proofs.MarkedRanges.{Marks, proofs-mark}
+use Rattle.rules.proofs.MarkedRanges.{Marks, proofs-mark}
 use Rattle.marking.proofs.MarkLaws.{mark-tasks, task-advances, parts-passed, parts-stopped, stands-passed, stands-stopped, placeWhere, doneWhere, not-passed}
 use Rattle.marking.proofs.MarkLoops.{Comes}
 

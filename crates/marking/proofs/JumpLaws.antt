@@ -22,11 +22,11 @@ use Rattle.sheets.proofs.Locations.{modes-at, location-of}
 use Rattle.sheets.proofs.Joint.{Known, no-numbers, number-and, modes-after}
 use Rattle.sheets.proofs.GoodIndexLaws.{components-drop, components-end, switch-length, good-components}
 use Rattle.sheets.proofs.JointLoops.{componentsOn, numbersOn, per-component-length, per-component-drop}
-use Rattle.marking.specs.Runs.{State, admissible, jumpRows, stayingKept, jumpRule, after, ruleMet, stepAllowed}
+use Rattle.rules.specs.Runs.{State, admissible, jumpRows, stayingKept, jumpRule, after, ruleMet, stepAllowed}
 use Rattle.marking.specs.Listing.{Stands}
 use Rattle.marking.specs.Held.{perVariable, stateOf}
 use Rattle.marking.proofs.CountLaws.{have-modes}
-use Rattle.marking.proofs.ListFacts.{first-fails, first-passes}
+use Rattle.rules.proofs.ListFacts.{first-fails, first-passes}
 
 -- a component's part
 pub moves-past : (c : Component) (mode e i : ℕ) → length (c .switches) ≤ i → moves c mode e i ≡ false

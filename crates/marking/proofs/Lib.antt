@@ -1,15 +1,3 @@
-pub mod ListFacts
-pub mod Points
-pub mod Shown
-pub mod Hypotheses
-pub mod Safety
-pub mod MarkedRanges
-pub mod CertificateExactly
-pub mod RunExactly
-pub mod Demand
-pub mod Rejected
-pub mod Movers
-pub mod Twelve
 pub mod RowLaws
 pub mod RowSizes
 pub mod TableLaws

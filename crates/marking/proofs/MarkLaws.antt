@@ -20,14 +20,14 @@ use Rattle.sheets.specs.Places.{rowAt, rowsFrom}
 use Rattle.sheets.specs.Certificate.{readEntries, readProof}
 use Rattle.sheets.proofs.Gives.{passes, tested, got-next}
 use Rattle.sheets.proofs.Placed.{Fine, Placed, placed-bind, placed-give, placed-within, placed-u8, placed-entries}
-use Rattle.marking.specs.Obligations.{Obligation, zeroOnly, onNext}
-use Rattle.marking.specs.Marking.{Marked, passed, stopped, testProof, markProof, markProofs}
+use Rattle.rules.specs.Obligations.{Obligation, zeroOnly, onNext}
+use Rattle.rules.specs.Marking.{Marked, passed, stopped, testProof, markProof, markProofs}
 use Rattle.marking.specs.Tables.{padded, hypothesesFrom, rowsOf, testWith, markWith, heldNext}
 use Rattle.marking.specs.Listing.{Task, noTask, taskOf, tasks, tasksFrom, tasksOf, goalsOf, markTask, markTasks, standsAt}
 use Rattle.marking.specs.declared.Group.{Group}
 use Rattle.sheets.proofs.JointCounts.{mapped-at}
 use Rattle.sheets.proofs.ConditionLaws.{length-rows}
-use Rattle.marking.proofs.MarkedRanges.{Marks}
+use Rattle.rules.proofs.MarkedRanges.{Marks}
 
 -- a goal as the code holds it
 padded-test : (rows : List Row) (goal : Row) (x : Proof) → farkasTest rows (padded goal) x ≡ farkasTest rows goal x

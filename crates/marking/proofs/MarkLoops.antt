@@ -17,9 +17,9 @@ use Rattle.sheets.specs.Joint.{countUp, joinAll}
 use Rattle.sheets.specs.Index.{entry, unsafePlace, unsafeFrom, componentsFrom, modelFrom, GoodIndex}
 use Rattle.sheets.proofs.GoodIndexLaws.{counted-at}
 use Rattle.sheets.proofs.JointLoops.{per-component-modes}
-use Rattle.marking.specs.Runs.{modesIn, modesFit}
-use Rattle.marking.specs.Obligations.{Obligation, clearOfUnsafe, unsafeHypotheses, startObligations, flowObligations, unsafeObligations, locationObligations}
-use Rattle.marking.specs.Marking.{Marked, passed, stopped}
+use Rattle.rules.specs.Runs.{modesIn, modesFit}
+use Rattle.rules.specs.Obligations.{Obligation, clearOfUnsafe, unsafeHypotheses, startObligations, flowObligations, unsafeObligations, locationObligations}
+use Rattle.rules.specs.Marking.{Marked, passed, stopped}
 use Rattle.marking.specs.Tables.{heldNext}
 use Rattle.marking.specs.Listing.{Stands, Task, noTask, taskOf, tasks, groupTasks, noUnsafe, locationTasks, regionsOf, markTask, markTasks}
 use Rattle.marking.proofs.ModeLines.{joinedOn, joined-first, joined-none}

@@ -11,9 +11,9 @@ use lib.Seq.{take-all, take-length, drop-length}
 use borrow.Author.Tests.{leb-true, leb-false, lt-ltb, le-ltb, le-leb, lt-leb, eq-eqb, ne-eqb}
 use Rattle.sheets.specs.ModelSheet.{examLimits}
 use Rattle.sheets.proofs.FieldLaws.{two-at}
-use Rattle.marking.specs.declared.Answer.{Answer}
-use Rattle.marking.specs.Marking.{markCertificate, markRun}
-use Rattle.marking.specs.Program.{Line, safe, unsafe, turnedDown, firstLength, firstSheet, secondSheet, refusedLine, lineFor, isRun, markLine}
+use Rattle.rules.specs.declared.Answer.{Answer}
+use Rattle.rules.specs.Marking.{markCertificate, markRun}
+use Rattle.rules.specs.Program.{Line, safe, unsafe, turnedDown, firstLength, firstSheet, secondSheet, refusedLine, lineFor, isRun, markLine}
 use Rattle.marking.specs.Lines.{cutAt, sheetsLine}
 
 -- a part that would go past the end goes to the end

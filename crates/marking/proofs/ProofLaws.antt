@@ -30,7 +30,7 @@ use Rattle.sheets.proofs.CertificateLaws.{proof-reads}
 use Rattle.marking.specs.Tables.{Listed, linesIn, hypothesisIn, hypothesisOf, hypothesesFrom, rowsOf, padded, testWith, markWith, heldNext}
 use Rattle.marking.specs.Summing.{sumEntries, tested}
 use Rattle.sheets.proofs.JointCounts.{mapped-at}
-use Rattle.marking.proofs.ListFacts.{count-length}
+use Rattle.rules.proofs.ListFacts.{count-length}
 
 -- a line of the table
 pub line-has : {P : Listed → Type 0} (table : List ℕ) (count i : ℕ) → All P (linesIn table count) → i < count → P (record { form = entry table (2 * i); place = entry table (2 * i + 1) })

@@ -11,7 +11,7 @@ use lib.ListN.{length, set, replicate, length-append, length-set, length-map, le
 use lib.Seq.{append-snoc, set-at, set-append-left}
 use Rattle.farkas.specs.declared.Row.{Row}
 use Rattle.sheets.specs.Places.{signedAt, numbersAt, rowAt}
-use Rattle.marking.specs.Obligations.{nowhere, standing, onX, onNext, onRates, timeRow, unit}
+use Rattle.rules.specs.Obligations.{nowhere, standing, onX, onNext, onRates, timeRow, unit}
 use Rattle.marking.specs.Tables.{keepsUp, keepsDown, hypothesisIn, padded}
 
 -- 0 up to 17 coefficients

@@ -17,7 +17,7 @@ use Rattle.farkas.proofs.Sizes.{zeros-within, set-within}
 use Rattle.sheets.specs.Reading.{bigEndian}
 use Rattle.sheets.specs.Places.{signedAt, numbersAt, rowAt}
 use Rattle.sheets.proofs.RunLaws.{signed-small}
-use Rattle.marking.specs.Obligations.{nowhere, standing, onX, onNext, onRates, timeRow, unit}
+use Rattle.rules.specs.Obligations.{nowhere, standing, onX, onNext, onRates, timeRow, unit}
 use Rattle.marking.specs.Tables.{keepsUp, keepsDown, hypothesisIn, padded}
 
 -- every element is a byte

@@ -16,12 +16,12 @@ use Rattle.sheets.specs.Model.{Model}
 use Rattle.sheets.specs.ModelSheet.{Limits, readModel}
 use Rattle.sheets.specs.RunSheet.{Step, Opening, readOpening, readStep}
 use Rattle.sheets.proofs.Placed.{Fine, placed-finished, placed-step}
-use Rattle.marking.specs.declared.Answer.{Answer}
+use Rattle.rules.specs.declared.Answer.{Answer}
 use Rattle.marking.specs.declared.RunMarked.{RunMarked}
-use Rattle.marking.specs.Runs.{State, startAllowed, after, stepAllowed, isUnsafe}
+use Rattle.rules.specs.Runs.{State, startAllowed, after, stepAllowed, isUnsafe}
 use Rattle.marking.specs.Held.{perVariable, stateOf}
 use Rattle.marking.specs.RunHeld.{markedAs}
-use Rattle.marking.specs.Marking.{answer, Marked, passed, stopped, withModel, testStep, markStep, markSteps, closeRun, firstState, markOpening, markRun}
+use Rattle.rules.specs.Marking.{answer, Marked, passed, stopped, withModel, testStep, markStep, markSteps, closeRun, firstState, markOpening, markRun}
 
 -- One step: what its test comes to, and the marking after it
 unfoldable afterStep : Model → State → ℕ → Got Step → Marked State

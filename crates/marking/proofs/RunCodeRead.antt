@@ -36,7 +36,7 @@ use Rattle.sheets.proofs.Joint.{Known, no-numbers, number-and}
 use Rattle.sheets.proofs.GoodIndexLaws.{few-components}
 use Rattle.sheets.proofs.JointLoops.{four-known}
 use Rattle.sheets.proofs.StepLaws.{eight-item}
-use Rattle.marking.specs.Runs.{after}
+use Rattle.rules.specs.Runs.{after}
 use Rattle.marking.specs.Held.{perVariable, SmallValues}
 use Rattle.marking.specs.RunHeld.{KnownStep}
 

@@ -28,12 +28,12 @@ use Rattle.sheets.specs.Reading.{signed}
 use Rattle.sheets.specs.Places.{signedAt, numbersAt, rowAt, rowsFrom}
 use Rattle.sheets.specs.Joint.{stays}
 use Rattle.sheets.specs.Index.{entry, componentPlace, modePlace, switchPlace, unsafePlace, spanRows, GoodSpan, GoodIndex}
-use Rattle.marking.specs.Runs.{conditionHolds, difference}
+use Rattle.rules.specs.Runs.{conditionHolds, difference}
 use Rattle.marking.specs.Listing.{GoodModes}
 use Rattle.marking.specs.Held.{SmallPoint, modeHolds, moveHolds}
-use Rattle.marking.proofs.ListFacts.{is-true}
+use Rattle.rules.proofs.ListFacts.{is-true}
 use Rattle.marking.proofs.RowSizes.{size-negated}
-use Rattle.marking.proofs.Points.{dot-nothing}
+use Rattle.rules.proofs.Points.{dot-nothing}
 use Rattle.marking.proofs.ValueLoops.{left-less, left-none, one-less}
 
 -- the sum with one more coefficient

@@ -22,12 +22,12 @@ use Rattle.sheets.specs.Index.{entry, ownerPlace, componentPlace, modePlace, sw
 use Rattle.sheets.specs.Counts.{componentAt, perComponent, KnownSwitches}
 use Rattle.sheets.proofs.GoodIndexLaws.{components-drop, components-end, switch-at}
 use Rattle.sheets.proofs.JointLoops.{componentsOn, numbersOn, per-component-drop}
-use Rattle.marking.specs.Runs as runs
-use Rattle.marking.specs.Runs.{conditionHolds, present, movers, difference, sameValues, modesFit}
+use Rattle.rules.specs.Runs as runs
+use Rattle.rules.specs.Runs.{conditionHolds, present, movers, difference, sameValues, modesFit}
 use Rattle.marking.specs.Listing.{Stands}
 use Rattle.marking.specs.Held.{perVariable, stateOf, SmallValues, SmallPoint, modeHolds, unsafeAt, moveHolds, moveAt, sameAt, keptAt, valueKept}
 use Rattle.marking.proofs.RowSizes.{Small, small-append, small-zeros}
-use Rattle.marking.proofs.ListFacts.{there}
+use Rattle.rules.proofs.ListFacts.{there}
 use Rattle.marking.proofs.HypothesisLines.{mode-at}
 use Rattle.marking.proofs.ValueLoops.{each-agree, some-agree, some-map, each-picked}
 use Rattle.marking.proofs.ValueLaws.{difference-small, differences-length, second-fails}

@@ -11,7 +11,7 @@ use Rattle.farkas.specs.Farkas.{sameZ}
 use Rattle.sheets.specs.Joint.{stays}
 use Rattle.sheets.specs.Index.{entry, ownerPlace, componentPlace, modePlace, switchPlace, unsafePlace, spanRows, unsafeFrom}
 use Rattle.sheets.specs.Counts.{perComponent}
-use Rattle.marking.specs.Runs.{State, conditionHolds, modesFit}
+use Rattle.rules.specs.Runs.{State, conditionHolds, modesFit}
 
 -- the first of eight values, one per variable
 unfoldable pub perVariable : List ℕ → List ℤ → List ℤ

@@ -1,15 +1,8 @@
-pub mod Runs
 pub mod Held
-pub mod Obligations
-pub mod Marking
 pub mod RunHeld
 pub mod Tables
 pub mod Listing
 pub mod Closing
 pub mod Counting
 pub mod Summing
-pub mod ReadWell
-pub mod Beside
-pub mod Program
 pub mod Lines
-pub mod Papers

@@ -7,8 +7,8 @@ use lib.ListN.{length}
 use Rattle.sheets.specs.ModelSheet.{examLimits}
 use Rattle.marking.specs.declared.Line as coded
 use Rattle.marking.specs.declared.Line.the-variants as line
-use Rattle.marking.specs.Marking.{markCertificate, markRun}
-use Rattle.marking.specs.Program.{Line, safe, unsafe, turnedDown, firstLength, lineFor, isRun}
+use Rattle.rules.specs.Marking.{markCertificate, markRun}
+use Rattle.rules.specs.Program.{Line, safe, unsafe, turnedDown, firstLength, lineFor, isRun}
 
 -- a line as the code has it
 unfoldable pub lineOf : coded.Line → Line

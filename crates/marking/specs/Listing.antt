@@ -21,8 +21,8 @@ use Rattle.sheets.specs.CertificateAnswers.{regionsFrom, GoodRegions}
 use Rattle.sheets.specs.Counts.{perComponent}
 use Rattle.marking.specs.declared.Group.{Group}
 use Rattle.marking.specs.declared.Marking as declared
-use Rattle.marking.specs.Obligations.{Obligation, zeroOnly, onNext, regionOf, startObligations, flowObligations, unsafeObligations, locationObligations, jumpObligations, jumpsObligations}
-use Rattle.marking.specs.Marking.{Marked, passed, stopped}
+use Rattle.rules.specs.Obligations.{Obligation, zeroOnly, onNext, regionOf, startObligations, flowObligations, unsafeObligations, locationObligations, jumpObligations, jumpsObligations}
+use Rattle.rules.specs.Marking.{Marked, passed, stopped}
 use Rattle.marking.specs.Tables.{Listed, linesIn, hypothesesFrom, rowsOf, GoodLine, markWith}
 
 unfoldable pub line : ℕ → ℕ → Listed

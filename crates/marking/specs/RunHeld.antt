@@ -15,10 +15,10 @@ use Rattle.sheets.specs.Counts.{KnownSwitches}
 use Rattle.sheets.specs.RunSheet.{Opening, readOpening}
 use Rattle.sheets.specs.RunAnswers.{fourSwitches}
 use Rattle.marking.specs.declared.RunMarked.{RunMarked}
-use Rattle.marking.specs.Runs.{State}
+use Rattle.rules.specs.Runs.{State}
 use Rattle.marking.specs.Listing.{Stands}
 use Rattle.marking.specs.Held.{stateOf, SmallValues}
-use Rattle.marking.specs.Marking.{Marked, passed, stopped}
+use Rattle.rules.specs.Marking.{Marked, passed, stopped}
 
 -- a run sheet up to its steps: its header, then how the run begins
 unfoldable pub runOpening : Model → Reader Opening

@@ -15,7 +15,7 @@ use Rattle.sheets.specs.Places.{rowAt}
 use Rattle.sheets.specs.Joint.{countUp}
 use Rattle.sheets.specs.Index.{entry}
 use Rattle.sheets.specs.Certificate.{readProof}
-use Rattle.marking.specs.Obligations.{Hypothesis, nowhere, standing, onX, onNext, onRates, timeRow, unit}
+use Rattle.rules.specs.Obligations.{Hypothesis, nowhere, standing, onX, onNext, onRates, timeRow, unit}
 
 -- a line of the table
 pub record Listed : Type 0 where

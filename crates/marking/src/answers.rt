@@ -1,8 +1,8 @@
 // Answers on the model and on the sheet that goes with it.
-use crate::Answer;
+use rules::Answer;
 ghost use mathlib.Core.Path.{_≡_};
 ghost use Prim.Native.Nat.{_≤_};
-ghost use Rattle.marking.specs.Marking.{answer};
+ghost use Rattle.rules.specs.Marking.{answer};
 
 // An answer on a model that was refused.
 pub fn on_model(number: u32, place: usize) -> Answer

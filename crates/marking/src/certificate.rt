@@ -1,11 +1,11 @@
 // Marking a certificate: its regions, the proofs of all obligations, and its end.
-use crate::Answer;
 use crate::Marking;
 use crate::answers::on_model;
 use crate::answers::on_second;
 use crate::counting::obligation_count;
 use crate::counting::refused_score;
 use crate::obligations::mark_obligations;
+use rules::Answer;
 use sheets::Field;
 use sheets::Next;
 use sheets::certificate::read_regions;
@@ -22,8 +22,8 @@ ghost use Rattle.sheets.specs.Index.{entry, componentsFrom, modelFrom};
 ghost use Rattle.sheets.specs.ModelSheet.{examLimits};
 ghost use Rattle.sheets.specs.Certificate.{readRegions};
 ghost use Rattle.sheets.specs.CertificateAnswers.{regionsFrom};
-ghost use Rattle.marking.specs.Obligations.{obligations};
-ghost use Rattle.marking.specs.Marking.{answer, refusedScore, passed, markProofs, closeCertificate, markRegions, markCertificate};
+ghost use Rattle.rules.specs.Obligations.{obligations};
+ghost use Rattle.rules.specs.Marking.{answer, refusedScore, passed, markProofs, closeCertificate, markRegions, markCertificate};
 ghost use Rattle.marking.specs.Listing.{GoodPaper};
 ghost use Rattle.marking.specs.Closing.{Accepted, certificateRegions};
 

@@ -17,9 +17,9 @@ ghost use Rattle.sheets.specs.Index.{entry, componentPlace, modePlace, unsafePl
 ghost use Rattle.sheets.specs.Counts.{perComponent};
 ghost use Rattle.sheets.specs.CertificateAnswers.{regionsFrom};
 ghost use Rattle.sheets.specs.Ways.{Ways};
-ghost use Rattle.marking.specs.Runs.{present, modesFit};
-ghost use Rattle.marking.specs.Obligations.{locationObligations, obligations};
-ghost use Rattle.marking.specs.Marking.{refusedScore};
+ghost use Rattle.rules.specs.Runs.{present, modesFit};
+ghost use Rattle.rules.specs.Obligations.{locationObligations, obligations};
+ghost use Rattle.rules.specs.Marking.{refusedScore};
 ghost use Rattle.marking.specs.Listing.{KnownModes, GoodPaper, regionsOf};
 ghost use Rattle.marking.specs.Counting.{targetRows};
 

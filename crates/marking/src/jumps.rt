@@ -18,7 +18,7 @@ ghost use Rattle.sheets.specs.Joint.{moves, partIn, membersMove, allStay, oneMo
 ghost use Rattle.sheets.specs.Index.{entry, componentsFrom, modelFrom, GoodIndex};
 ghost use Rattle.sheets.specs.Counts.{componentAt, perComponent, KnownSwitches};
 ghost use Rattle.sheets.specs.RunAnswers.{stepOf};
-ghost use Rattle.marking.specs.Runs as runs;
+ghost use Rattle.rules.specs.Runs as runs;
 ghost use Rattle.marking.specs.Listing.{Stands};
 ghost use Rattle.marking.specs.Held.{perVariable, stateOf, SmallValues};
 ghost use Rattle.marking.specs.RunHeld.{KnownStep};

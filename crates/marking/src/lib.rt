@@ -10,25 +10,6 @@ pub mod run;
 pub mod tables;
 pub mod values;
 
-// What every marking entry answers: document 01, "What is handed back".
-#[repr(C)]
-pub struct Answer {
-    pub number: u32,
-    pub sheet: u32,
-    pub place: u32,
-    pub done: u32,
-    pub score: u32,
-}
-
-// A record of the joint list: document 01, "Beside the marking".
-#[repr(C)]
-pub struct Joint {
-    pub source: u8,
-    pub event: u8,
-    pub switches: [u8; 4],
-    pub target: u8,
-}
-
 // What is to be proved from one table: how many hypotheses it has, how many goals, where the goals' rows begin and on which unknowns they
 // are put; and whether it is an unsafe condition, whose goal is no row.
 pub struct Group {

@@ -27,8 +27,8 @@ ghost use Rattle.sheets.specs.Counts.{perComponent};
 ghost use Rattle.sheets.specs.CertificateAnswers.{regionsFrom};
 ghost use Rattle.sheets.specs.Tally.{Tallied};
 ghost use Rattle.sheets.specs.Ways.{Ways};
-ghost use Rattle.marking.specs.Obligations.{obligations};
-ghost use Rattle.marking.specs.Marking.{markProofs};
+ghost use Rattle.rules.specs.Obligations.{obligations};
+ghost use Rattle.rules.specs.Marking.{markProofs};
 ghost use Rattle.marking.specs.Tables.{padded, heldNext};
 ghost use Rattle.marking.specs.Listing.{GoodPaper, Stands, jointTasks, GoodGroup, goalsOf, tasksOf, noTask, markTask, tasks, locationTasks, regionsOf, markTasks, standsAt};
 

@@ -1,10 +1,10 @@
 // The line for any input: the input is cut into two sheets, and the second is marked as a run or as a certificate.
-use crate::Answer;
 use crate::Line;
 use crate::certificate::mark_certificate;
 use crate::run::mark_run;
+use rules::Answer;
 ghost use mathlib.Core.Path.{_≡_};
-ghost use Rattle.marking.specs.Program.{safe, unsafe, isRun, refusedLine, lineFor, markLine};
+ghost use Rattle.rules.specs.Program.{safe, unsafe, isRun, refusedLine, lineFor, markLine};
 ghost use Rattle.marking.specs.Lines.{lineOf, cutAt, sheetsLine};
 
 // Where the first sheet ends: its first two bytes say how many follow them, and it ends with the input at the latest.

@@ -24,7 +24,7 @@ ghost use Rattle.farkas.proofs.All.{All};
 ghost use Rattle.sheets.specs.Answers.{gotAs};
 ghost use Rattle.sheets.specs.Places.{numbersAt, rowAt};
 ghost use Rattle.sheets.specs.Index as index;
-ghost use Rattle.marking.specs.Obligations.{onNext, onRates, timeRow, unit};
+ghost use Rattle.rules.specs.Obligations.{onNext, onRates, timeRow, unit};
 ghost use Rattle.marking.specs.Tables.{linesIn, hypothesisIn, hypothesesFrom, rowsOf, GoodLine, padded, markWith, heldNext};
 ghost use Rattle.marking.specs.Summing.{sumEntries, tested};
 

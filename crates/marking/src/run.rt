@@ -1,5 +1,4 @@
 // Marking a run sheet: its opening, its steps one after the other, and its end.
-use crate::Answer;
 use crate::RunMarked;
 use crate::answers::on_model;
 use crate::answers::on_second;
@@ -8,6 +7,7 @@ use crate::jumps::modes_after;
 use crate::jumps::step_allowed;
 use crate::values::is_unsafe;
 use crate::values::start_allowed;
+use rules::Answer;
 use sheets::Field;
 use sheets::Next;
 use sheets::OpeningRead;
@@ -27,7 +27,7 @@ ghost use Rattle.sheets.specs.ModelSheet.{examLimits};
 ghost use Rattle.sheets.specs.RunSheet.{readOpening};
 ghost use Rattle.marking.specs.Held.{stateOf};
 ghost use Rattle.marking.specs.RunHeld.{runOpening, stoppedAt, markedAs, RunStands};
-ghost use Rattle.marking.specs.Marking.{markSteps, closeRun, markOpening, markRun};
+ghost use Rattle.rules.specs.Marking.{markSteps, closeRun, markOpening, markRun};
 
 // A run whose marking has stopped: the number and place of the refusal, and the state as it was.
 fn stopped_at(run: RunMarked, number: u32, place: usize) -> RunMarked

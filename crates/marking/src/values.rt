@@ -22,7 +22,7 @@ ghost use Rattle.sheets.specs.Reading as reading;
 ghost use Rattle.sheets.specs.Places.{signedAt, rowAt};
 ghost use Rattle.sheets.specs.Index.{entry, ownerPlace, componentPlace, spanRows, modelFrom, GoodSpan, GoodIndex};
 ghost use Rattle.sheets.specs.Counts.{perComponent, KnownSwitches};
-ghost use Rattle.marking.specs.Runs as runs;
+ghost use Rattle.rules.specs.Runs as runs;
 ghost use Rattle.marking.specs.Listing.{GoodModes, Stands};
 ghost use Rattle.marking.specs.Held.{perVariable, stateOf, SmallValues, SmallPoint, modeHolds, unsafeAt, moveHolds, sameAt, keptAt};
 

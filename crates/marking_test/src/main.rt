@@ -6,11 +6,11 @@
 use beside::list::list_answer;
 use libc::STDIN_FILENO;
 use libc::STDOUT_FILENO;
-use marking::Answer;
 use marking::Line;
 use marking::certificate::mark_certificate;
 use marking::program::mark_input;
 use marking::run::mark_run;
+use rules::Answer;
 ghost use Prim.Native.Nat.{_^_, _<_};
 
 // Writes a number after a separator.

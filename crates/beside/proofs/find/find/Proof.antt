@@ -6,7 +6,7 @@ use native.Mathlib.Omega.{arith}
 use denote.Ref.{now}
 use Rattle.sheets.specs.Joint.{joints}
 use Rattle.sheets.specs.Index.{entry, componentsFrom, modelFrom}
-use Rattle.marking.specs.Obligations.{locationObligations, jumpsObligations}
+use Rattle.rules.specs.Obligations.{locationObligations, jumpsObligations}
 use Rattle.marking.specs.Listing.{regionsOf}
 use Rattle.beside.specs.Finding.{groupObligations, soughtOne, KnownSought}
 use Rattle.beside.proofs.FindLaws.{one-past, one-here, group-one}

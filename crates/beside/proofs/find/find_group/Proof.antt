@@ -7,7 +7,7 @@ use borrow.Author.Needs.{needs}
 use denote.Ref.{now}
 use lib.ListN.{length}
 use Rattle.sheets.specs.Index.{entry, componentsFrom, modelFrom}
-use Rattle.marking.specs.Obligations.{Obligation, locationObligations}
+use Rattle.rules.specs.Obligations.{Obligation, locationObligations}
 use Rattle.marking.specs.Listing.{regionsOf}
 use Rattle.beside.specs.Finding.{oneAt, groupObligations}
 use Rattle.marking.proofs.ModeLines.{joinedOn}

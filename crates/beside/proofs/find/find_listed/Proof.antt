@@ -8,7 +8,7 @@ use lib.ListN.{length}
 use Rattle.sheets.specs.Locations.{modesAt}
 use Rattle.sheets.specs.Joint.{JointSwitch, switchesOf, jointsOf}
 use Rattle.sheets.specs.Index.{componentsFrom, modelFrom}
-use Rattle.marking.specs.Obligations.{jumpsObligations}
+use Rattle.rules.specs.Obligations.{jumpsObligations}
 use Rattle.marking.specs.Listing.{regionsOf}
 use Rattle.marking.specs.Counting.{targetRows}
 use Rattle.beside.specs.Finding.{oneAt, jointHere}

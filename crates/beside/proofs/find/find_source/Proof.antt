@@ -7,7 +7,7 @@ use denote.Ref.{now}
 use lib.ListN.{length}
 use Rattle.sheets.specs.Joint.{JointSwitch, jointsOf, joints, joinAll, countUp}
 use Rattle.sheets.specs.Index.{componentsFrom, modelFrom}
-use Rattle.marking.specs.Obligations.{jumpsObligations}
+use Rattle.rules.specs.Obligations.{jumpsObligations}
 use Rattle.marking.specs.Listing.{regionsOf}
 use Rattle.beside.specs.Finding.{oneAt}
 use Rattle.marking.proofs.ModeLines.{joinedOn}

@@ -5,7 +5,7 @@ use Prim.Native.Nat.{_-_}
 use native.Mathlib.Omega.{arith}
 use denote.Ref.{now}
 use lib.ListN.{length}
-use Rattle.marking.specs.declared.Joint.{Joint}
+use Rattle.rules.specs.declared.Joint.{Joint}
 use Rattle.beside.specs.Records.{recordsFrom}
 use Rattle.beside.proofs.RecordLaws.{slot-few, records-past, records-here, records-over}
 use Rattle.beside.proofs.joint_list.next_record.Statement.{statement}

@@ -3,7 +3,7 @@ use borrow.Author.Needs.{needs}
 use denote.Ref.{now}
 use lib.ListN.{length}
 use Rattle.sheets.specs.Index.{componentsFrom}
-use Rattle.marking.specs.Marking.{answer}
+use Rattle.rules.specs.Marking.{answer}
 use Rattle.beside.proofs.ListLaws.{list-fits, list-short}
 use Rattle.beside.proofs.list.count_answer.Statement.{statement}
 use Rattle.beside.proofs.list.count_answer.Tie as tie

@@ -9,8 +9,8 @@ use lib.ListN.{length}
 use Rattle.sheets.specs.Locations.{locationCount}
 use Rattle.sheets.specs.Index.{entry, componentsFrom, modelFrom}
 use Rattle.sheets.proofs.Joint.{jointFrom}
-use Rattle.marking.specs.Runs.{modesIn, movers, stayingVariables}
-use Rattle.marking.specs.Obligations.{Hypothesis, jumpHypotheses}
+use Rattle.rules.specs.Runs.{modesIn, movers, stayingVariables}
+use Rattle.rules.specs.Obligations.{Hypothesis, jumpHypotheses}
 use Rattle.marking.specs.Listing.{regionsOf}
 use Rattle.beside.specs.Finding.{rowFound, hypothesisFound, jointHypotheses, jointHere}
 use Rattle.marking.proofs.TableLaws.{lines-most}

@@ -5,7 +5,7 @@ use native.Mathlib.Omega.{arith}
 use borrow.Author.Needs.{needs}
 use denote.Ref.{now}
 use Rattle.sheets.specs.Index.{entry, modelFrom}
-use Rattle.marking.specs.Obligations.{Hypothesis}
+use Rattle.rules.specs.Obligations.{Hypothesis}
 use Rattle.marking.specs.Listing.{regionsOf}
 use Rattle.beside.specs.Finding.{rowFound, hypothesisFound}
 use Rattle.marking.proofs.MarkLoops.{stands-at}

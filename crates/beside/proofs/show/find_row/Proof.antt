@@ -4,7 +4,7 @@ use borrow.Author.Needs.{needs}
 use denote.Ref.{now}
 use Rattle.sheets.specs.ModelSheet.{examLimits}
 use Rattle.beside.specs.declared.Told.{Told}
-use Rattle.marking.specs.Beside.{findHypothesis}
+use Rattle.rules.specs.Beside.{findHypothesis}
 use Rattle.beside.specs.Finding.{toldFor, rowFound, RowInside}
 use Rattle.beside.proofs.ShowLaws.{row-inside}
 use Rattle.beside.proofs.show.find_row.Statement.{statement}

@@ -2,7 +2,7 @@
 use borrow.Author.Needs.{needs}
 use denote.Ref.{now}
 use Rattle.sheets.specs.ModelSheet.{examLimits}
-use Rattle.marking.specs.Marking.{answer}
+use Rattle.rules.specs.Marking.{answer}
 use Rattle.beside.proofs.ShowLaws.{answer-in-model, answer-in-second, answer-nowhere, answer-refused}
 use Rattle.beside.proofs.show.show_answer.Statement.{statement}
 use Rattle.beside.proofs.show.show_answer.Tie as tie

@@ -6,7 +6,7 @@ use denote.Ref.{now}
 use lib.ListN.{length}
 use Rattle.sheets.specs.Index.{entry, modelFrom}
 use Rattle.sheets.specs.CertificateAnswers.{regionsFrom}
-use Rattle.marking.specs.Obligations.{Obligation, obligations}
+use Rattle.rules.specs.Obligations.{Obligation, obligations}
 use Rattle.marking.specs.Listing.{regionsOf}
 use Rattle.beside.specs.Finding.{oneAt, soughtOne}
 use Rattle.beside.proofs.ShowLaws.{told-one, paper-whole}

@@ -53,15 +53,15 @@ use denote.Triple.Walked.{says, Stays, stay-slice, stay-none-slice, walkOf, Walk
 use Rattle.sheets.specs.Locations.{locationCount}
 use Rattle.sheets.specs.Index.{componentsFrom, GoodIndex}
 use Rattle.sheets.specs.ModelSheet.{examLimits, readModel}
-use Rattle.marking.specs.Beside.{listAnswer, tableAfter}
+use Rattle.rules.specs.Beside.{listAnswer, tableAfter}
 use Rattle.beside.specs.Records.{recordsFrom, modelBy}
-use Rattle.marking.specs.declared.Answer.{Answer}
-use Rattle.marking.specs.declared.Joint.{Joint}
+use Rattle.rules.specs.declared.Answer.{Answer}
+use Rattle.rules.specs.declared.Joint.{Joint}
 use Rattle.beside.specs.declared.ListedJoint.{ListedJoint}
-use Rattle.marking.proofs.Answer as AT
-use Rattle.marking.proofs.Answer.Laws as AL
-use Rattle.marking.proofs.Joint as JT
-use Rattle.marking.proofs.Joint.Laws as JL
+use Rattle.rules.proofs.Answer as AT
+use Rattle.rules.proofs.Answer.Laws as AL
+use Rattle.rules.proofs.Joint as JT
+use Rattle.rules.proofs.Joint.Laws as JL
 use Rattle.beside.proofs.ListedJoint as LT
 use Rattle.beside.proofs.ListedJoint.Laws as LN
 use Rattle.beside.proofs.joint_list.answer_for as answer-for

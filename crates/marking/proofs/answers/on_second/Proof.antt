@@ -1,7 +1,7 @@
 -- The five fields as they are. Assumes nothing.
 use mathlib.Core.Path.{refl}
 use borrow.Author.Needs.{needs}
-use Rattle.marking.specs.Marking.{answer}
+use Rattle.rules.specs.Marking.{answer}
 use Rattle.marking.proofs.answers.on_second.Statement.{statement}
 use Rattle.marking.proofs.answers.on_second.Tie as tie
 

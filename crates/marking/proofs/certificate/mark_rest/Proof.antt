@@ -5,7 +5,7 @@ use borrow.Author.Needs.{needs}
 use denote.Ref.{now}
 use Rattle.sheets.specs.Index.{entry, modelFrom}
 use Rattle.sheets.specs.CertificateAnswers.{regionsFrom}
-use Rattle.marking.specs.Obligations.{obligations}
+use Rattle.rules.specs.Obligations.{obligations}
 use Rattle.marking.proofs.CloseLaws.{obligations-few, marked-within, rest-stops, rest-passes}
 use Rattle.marking.proofs.certificate.mark_rest.Statement.{statement}
 use Rattle.marking.proofs.certificate.mark_rest.Tie as tie

@@ -8,7 +8,7 @@ use Rattle.sheets.specs.Index.{modelFrom}
 use Rattle.sheets.specs.Certificate.{readRegions}
 use Rattle.sheets.proofs.AnswerLaws.{field-value, field-refused}
 use Rattle.marking.specs.Closing.{certificateRegions}
-use Rattle.marking.specs.Marking.{markRegions}
+use Rattle.rules.specs.Marking.{markRegions}
 use Rattle.marking.proofs.RunCodeRead.{header-placed, header-body, after-header, header-stops}
 use Rattle.marking.proofs.CloseLaws.{regions-stop}
 use Rattle.marking.proofs.certificate.mark_sheet.Statement.{statement}

@@ -2,7 +2,7 @@
 use mathlib.Core.Path.{ap, _∙_}
 use Prim.Native.Nat.{ℕ}
 use borrow.Author.Needs.{needs}
-use Rattle.marking.specs.Marking.{answer, refusedScore}
+use Rattle.rules.specs.Marking.{answer, refusedScore}
 use Rattle.marking.proofs.certificate.stop_certificate.Statement.{statement}
 use Rattle.marking.proofs.certificate.stop_certificate.Tie as tie
 

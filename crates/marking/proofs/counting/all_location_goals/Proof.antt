@@ -7,7 +7,7 @@ use lib.ListN.{length}
 use Rattle.sheets.specs.Joint.{joinAll, countUp}
 use Rattle.sheets.specs.Index.{modelFrom}
 use Rattle.sheets.proofs.JointCounts.{joined-next, joined-end}
-use Rattle.marking.specs.Obligations.{locationObligations}
+use Rattle.rules.specs.Obligations.{locationObligations}
 use Rattle.marking.specs.Listing.{regionsOf}
 use Rattle.marking.proofs.CountGoals.{locations-few, joined-start}
 use Rattle.marking.proofs.counting.all_location_goals.Statement.{statement}

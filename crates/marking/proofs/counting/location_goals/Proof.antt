@@ -6,7 +6,7 @@ use borrow.Author.Needs.{needs}
 use denote.Ref.{now}
 use lib.ListN.{length}
 use Rattle.sheets.specs.Index.{modelFrom}
-use Rattle.marking.specs.Obligations.{locationObligations}
+use Rattle.rules.specs.Obligations.{locationObligations}
 use Rattle.marking.specs.Listing.{regionsOf}
 use Rattle.marking.proofs.CountLaws.{known-modes}
 use Rattle.marking.proofs.CountGoals.{location-few, location-sum}

@@ -11,8 +11,8 @@ use Rattle.sheets.specs.Places.{rowsFrom}
 use Rattle.sheets.specs.Locations.{locationCount}
 use Rattle.sheets.specs.Index.{entry, spanRows, componentsFrom, modelFrom}
 use Rattle.marking.specs.declared.Group.{Group}
-use Rattle.marking.specs.Runs.{modesIn, movers, stayingVariables}
-use Rattle.marking.specs.Obligations.{afterJump, onNext, perRow, jumpHypotheses, jumpObligations}
+use Rattle.rules.specs.Runs.{modesIn, movers, stayingVariables}
+use Rattle.rules.specs.Obligations.{afterJump, onNext, perRow, jumpHypotheses, jumpObligations}
 use Rattle.marking.specs.Listing.{GoodGroup, tasks, tasksFrom, goalsOf, tasksOf, regionsOf, jumpTasks, emptyGroup, regionGroup}
 use Rattle.marking.proofs.CountGoals.{region-at}
 use Rattle.marking.proofs.MarkLoops.{stands-at}

@@ -8,7 +8,7 @@ use lib.ListN.{length}
 use Rattle.sheets.specs.Index.{entry}
 use Rattle.marking.specs.declared.Group.{Group}
 use Rattle.marking.specs.Listing.{GoodGroup, tasksOf, regionGroup, emptyGroup}
-use Rattle.marking.proofs.ListFacts.{test-failed, test-passed}
+use Rattle.rules.proofs.ListFacts.{test-failed, test-passed}
 use Rattle.marking.proofs.TableLaws.{lines-most}
 use Rattle.marking.proofs.GoodLines.{start-fine}
 use Rattle.marking.proofs.GroupLaws.{start-tasks, start-none, empty-good, region-good}

@@ -8,7 +8,7 @@ use lib.ListN.{length}
 use Rattle.sheets.specs.Index.{entry}
 use Rattle.marking.specs.declared.Group.{Group}
 use Rattle.marking.specs.Listing.{GoodGroup, tasksOf, unsafeGroup, emptyGroup}
-use Rattle.marking.proofs.ListFacts.{test-failed, test-passed}
+use Rattle.rules.proofs.ListFacts.{test-failed, test-passed}
 use Rattle.marking.proofs.TableLaws.{lines-most}
 use Rattle.marking.proofs.GoodLines.{unsafe-fine}
 use Rattle.marking.proofs.GroupLaws.{unsafe-tasks, unsafe-none, empty-good, unsafe-good}

@@ -1,6 +1,6 @@
 -- The joint test, the rows, the values that stay, by the first that fails. Assumes nothing.
 use borrow.Author.Needs.{needs}
-use Rattle.marking.proofs.ListFacts.{test-failed, test-passed}
+use Rattle.rules.proofs.ListFacts.{test-failed, test-passed}
 use Rattle.marking.proofs.JumpLaws.{rule-joint, rule-rows, rule-kept}
 use Rattle.marking.proofs.jumps.jump_rule.Statement.{statement}
 use Rattle.marking.proofs.jumps.jump_rule.Tie as tie

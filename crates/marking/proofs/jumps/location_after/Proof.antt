@@ -9,7 +9,7 @@ use lib.ListN.{length}
 use Rattle.sheets.specs.Index.{entry, modelFrom}
 use Rattle.sheets.specs.Counts.{perComponent}
 use Rattle.sheets.specs.RunAnswers.{fourSwitches, stepOf}
-use Rattle.marking.specs.Runs.{after}
+use Rattle.rules.specs.Runs.{after}
 use Rattle.marking.specs.Held.{stateOf}
 use Rattle.marking.proofs.JumpLaws.{target-located, jump-leads}
 use Rattle.marking.proofs.jumps.location_after.Statement.{statement}

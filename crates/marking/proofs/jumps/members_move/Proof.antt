@@ -8,7 +8,7 @@ use lib.ListN.{length}
 use Rattle.sheets.specs.Joint.{membersMove}
 use Rattle.sheets.specs.Index.{entry, componentsFrom}
 use Rattle.sheets.specs.Counts.{perComponent}
-use Rattle.marking.proofs.ListFacts.{test-failed, test-passed}
+use Rattle.rules.proofs.ListFacts.{test-failed, test-passed}
 use Rattle.marking.proofs.JumpLaws.{membersOn, members-go-on, members-stop, members-end}
 use Rattle.marking.proofs.jumps.members_move.Statement.{statement}
 use Rattle.marking.proofs.jumps.members_move.Tie as tie

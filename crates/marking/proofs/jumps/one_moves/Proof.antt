@@ -8,7 +8,7 @@ use lib.ListN.{length}
 use Rattle.sheets.specs.Joint.{stays, oneMoves}
 use Rattle.sheets.specs.Index.{entry, componentsFrom}
 use Rattle.sheets.specs.Counts.{perComponent}
-use Rattle.marking.proofs.ListFacts.{test-failed, test-passed}
+use Rattle.rules.proofs.ListFacts.{test-failed, test-passed}
 use Rattle.marking.proofs.JumpLaws.{oneOn, one-goes-on, one-stops, one-then, one-ends}
 use Rattle.marking.proofs.jumps.one_moves.Statement.{statement}
 use Rattle.marking.proofs.jumps.one_moves.Tie as tie

@@ -6,7 +6,7 @@ use Rattle.sheets.specs.Index.{entry, modelFrom}
 use Rattle.sheets.specs.Counts.{perComponent}
 use Rattle.sheets.specs.RunSheet.{Step, flow, jump}
 use Rattle.sheets.specs.RunAnswers.{fourSwitches, stepOf}
-use Rattle.marking.specs.Runs.{ruleMet}
+use Rattle.rules.specs.Runs.{ruleMet}
 use Rattle.marking.specs.Held.{perVariable, stateOf}
 use Rattle.marking.proofs.jumps.rule_met.Statement.{statement}
 use Rattle.marking.proofs.jumps.rule_met.Tie as tie

@@ -5,9 +5,9 @@ use denote.Ref.{now}
 use Rattle.sheets.specs.Index.{entry, modelFrom}
 use Rattle.sheets.specs.RunSheet.{Step}
 use Rattle.sheets.specs.RunAnswers.{stepOf}
-use Rattle.marking.specs.Runs.{after}
+use Rattle.rules.specs.Runs.{after}
 use Rattle.marking.specs.Held.{perVariable, stateOf}
-use Rattle.marking.proofs.ListFacts.{test-failed, test-passed}
+use Rattle.rules.proofs.ListFacts.{test-failed, test-passed}
 use Rattle.marking.proofs.JumpLaws.{step-after, step-inadmissible, step-by-rule}
 use Rattle.marking.proofs.jumps.step_allowed.Statement.{statement}
 use Rattle.marking.proofs.jumps.step_allowed.Tie as tie

@@ -10,7 +10,7 @@ use Rattle.farkas.specs.declared.Row.{Row}
 use Rattle.farkas.specs.Rows.{zeroRow, noSums}
 use Rattle.farkas.specs.Sizes.{Within}
 use Rattle.farkas.proofs.Sizes.{wider, none-within}
-use Rattle.marking.specs.Obligations.{onNext}
+use Rattle.rules.specs.Obligations.{onNext}
 use Rattle.marking.specs.Tables.{padded, hypothesesFrom, rowsOf, markWith, heldNext}
 use Rattle.marking.specs.Listing.{goalsOf, Task, noTask, markTask}
 use Rattle.marking.proofs.RowSizes.{goal-within}

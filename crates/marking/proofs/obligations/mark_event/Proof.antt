@@ -10,7 +10,7 @@ use Rattle.sheets.specs.Locations.{modesAt}
 use Rattle.sheets.specs.Joint.{switchesOf, jointsOf}
 use Rattle.sheets.specs.Index.{componentsFrom, modelFrom}
 use Rattle.sheets.proofs.TallyLaws.{small-present}
-use Rattle.marking.specs.Marking.{passed}
+use Rattle.rules.specs.Marking.{passed}
 use Rattle.marking.specs.Listing.{jointTasks, regionsOf, markTasks, standsAt}
 use Rattle.marking.proofs.MarkLoops.{comes-end}
 use Rattle.marking.proofs.JointMarks.{jumps-start, jumps-end}

@@ -13,12 +13,12 @@ use Rattle.sheets.specs.Joint.{switchesOf, modesAfter, jointsOf, joints}
 use Rattle.sheets.specs.Index.{entry, componentsFrom, modelFrom}
 use Rattle.sheets.specs.Counts.{perComponent}
 use Rattle.marking.specs.declared.Marking as declared
-use Rattle.marking.specs.Marking.{Marked, passed, stopped}
+use Rattle.rules.specs.Marking.{Marked, passed, stopped}
 use Rattle.marking.specs.Tables.{heldNext}
 use Rattle.marking.specs.Listing.{Task, noTask, tasksOf, jumpTasks, jointTasks, regionsOf, markTask, markTasks, standsAt}
 use Rattle.marking.proofs.MarkLaws.{tasks-length, task-advances}
 use Rattle.sheets.specs.Joint.{countUp, joinAll}
-use Rattle.marking.specs.Obligations.{jumpsObligations}
+use Rattle.rules.specs.Obligations.{jumpsObligations}
 use Rattle.marking.proofs.ModeLines.{joinedOn, joined-none, joined-whole}
 use Rattle.marking.proofs.MarkLoops.{Comes, comes-same, comes-in, comes-out, comes-end, stands-at}
 use Rattle.marking.proofs.JointMarks.{eventTasks, fromLocation, joints-parts, part-on, part-within, part-later, part-stops}

@@ -11,7 +11,7 @@ use Rattle.sheets.specs.declared.Next.the-variants as next
 use Rattle.sheets.specs.Locations.{locationCount}
 use Rattle.sheets.specs.Index.{entry, componentsFrom, modelFrom}
 use Rattle.marking.specs.declared.Marking as declared
-use Rattle.marking.specs.Marking.{Marked, passed, stopped}
+use Rattle.rules.specs.Marking.{Marked, passed, stopped}
 use Rattle.marking.specs.Tables.{heldNext}
 use Rattle.marking.specs.Listing.{Task, noTask, tasksOf, groupTasks, locationTasks, regionsOf, markTask, markTasks, standsAt}
 use Rattle.marking.proofs.ModeLines.{joined-none, joined-whole}

@@ -9,8 +9,8 @@ use Rattle.sheets.specs.Joint.{countUp, joinAll, joints}
 use Rattle.sheets.specs.Index.{entry, componentsFrom, modelFrom}
 use Rattle.sheets.specs.CertificateAnswers.{regionsFrom}
 use Rattle.marking.specs.declared.Marking as declared
-use Rattle.marking.specs.Obligations.{Obligation, locationObligations, obligations}
-use Rattle.marking.specs.Marking.{Marked, markProofs}
+use Rattle.rules.specs.Obligations.{Obligation, locationObligations, obligations}
+use Rattle.rules.specs.Marking.{Marked, markProofs}
 use Rattle.marking.specs.Listing.{Task, tasks, jointTasks, locationTasks, regionsOf, markTasks, standsAt}
 use Rattle.marking.proofs.MarkLaws.{mark-tasks}
 use Rattle.marking.proofs.JointMarks.{part-on, part-within, part-later, part-stops, all-parts, location-tasks}

@@ -10,7 +10,7 @@ use Rattle.sheets.specs.declared.Next.the-variants as next
 use Rattle.sheets.specs.Locations.{locationCount, modesAt, locationOf}
 use Rattle.sheets.specs.Joint.{switchesOf, modesAfter, jointsOf}
 use Rattle.sheets.specs.Index.{entry, componentsFrom, modelFrom}
-use Rattle.marking.specs.Marking.{passed}
+use Rattle.rules.specs.Marking.{passed}
 use Rattle.marking.specs.Tables.{heldNext}
 use Rattle.marking.specs.Listing.{Task, noTask, tasksOf, jumpTasks, jointTasks, regionsOf, markTask, markTasks, standsAt}
 use Rattle.marking.proofs.CountGoals.{found-within, found-switches, found-target, found-below, found-first}

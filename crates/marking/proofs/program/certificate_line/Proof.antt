@@ -1,7 +1,7 @@
 -- Number 0 accepts. Assumes nothing.
 use mathlib.Core.Path.{_∙_}
 use borrow.Author.Needs.{needs}
-use Rattle.marking.specs.Program.{safe}
+use Rattle.rules.specs.Program.{safe}
 use Rattle.marking.specs.Lines.{lineOf}
 use Rattle.marking.proofs.ProgramLaws.{line-accepted, line-refused}
 use Rattle.marking.proofs.program.certificate_line.Statement.{statement}

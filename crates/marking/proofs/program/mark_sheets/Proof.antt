@@ -2,7 +2,7 @@
 use mathlib.Core.Path.{_∙_, sym, ap}
 use borrow.Author.Needs.{needs}
 use denote.Ref.{now}
-use Rattle.marking.specs.Program.{safe, unsafe, lineFor}
+use Rattle.rules.specs.Program.{safe, unsafe, lineFor}
 use Rattle.marking.proofs.ProgramLaws.{sheets-run, sheets-certificate}
 use Rattle.marking.proofs.program.mark_sheets.Statement.{statement}
 use Rattle.marking.proofs.program.mark_sheets.Tie as tie

@@ -1,6 +1,6 @@
 -- The five numbers, one by one. Assumes nothing.
 use mathlib.Core.Path.{refl}
-use Rattle.marking.specs.Program.{refusedLine}
+use Rattle.rules.specs.Program.{refusedLine}
 use Rattle.marking.specs.Lines.{lineOf}
 use Rattle.marking.proofs.program.refused_line.Statement.{statement}
 use Rattle.marking.proofs.program.refused_line.Tie as tie

@@ -9,11 +9,11 @@ use lib.ListN.{replicate}
 use Rattle.sheets.specs.Reading.{got, refused}
 use Rattle.sheets.specs.Index.{entry, modelFrom}
 use Rattle.sheets.specs.RunSheet.{readOpening}
-use Rattle.marking.specs.Runs.{startAllowed}
+use Rattle.rules.specs.Runs.{startAllowed}
 use Rattle.marking.specs.Listing.{Stands}
 use Rattle.marking.specs.Held.{perVariable, stateOf}
-use Rattle.marking.specs.Marking.{closeRun}
-use Rattle.marking.proofs.ListFacts.{test-failed, test-passed}
+use Rattle.rules.specs.Marking.{closeRun}
+use Rattle.rules.proofs.ListFacts.{test-failed, test-passed}
 use Rattle.marking.proofs.MarkLoops.{stands-at}
 use Rattle.marking.proofs.RunCodeRead.{opening-known, opening-placed, opening-read, opening-refused}
 use Rattle.marking.proofs.RunCode.{opening-stops, opening-fails, opening-runs}

@@ -8,7 +8,7 @@ use Rattle.sheets.specs.Index.{modelFrom}
 use Rattle.sheets.specs.RunSheet.{readOpening}
 use Rattle.sheets.proofs.AnswerLaws.{field-value, field-refused}
 use Rattle.marking.specs.RunHeld.{runOpening}
-use Rattle.marking.specs.Marking.{markOpening}
+use Rattle.rules.specs.Marking.{markOpening}
 use Rattle.marking.proofs.RunCodeRead.{header-placed, header-body, after-header, header-stops}
 use Rattle.marking.proofs.RunCode.{opening-stops}
 use Rattle.marking.proofs.run.mark_sheet.Statement.{statement}

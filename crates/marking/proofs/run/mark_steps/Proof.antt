@@ -6,7 +6,7 @@ use denote.Ref.{now}
 use Rattle.sheets.specs.Index.{modelFrom}
 use Rattle.marking.specs.Held.{stateOf}
 use Rattle.marking.specs.RunHeld.{RunStands}
-use Rattle.marking.specs.Marking.{markSteps}
+use Rattle.rules.specs.Marking.{markSteps}
 use Rattle.marking.proofs.RunCode.{steps-go-on, steps-stop, steps-end, one-done}
 use Rattle.marking.proofs.run.mark_steps.Statement.{statement}
 use Rattle.marking.proofs.run.mark_steps.Tie as tie

@@ -13,7 +13,7 @@ use Rattle.sheets.specs.Joint.{stays}
 use Rattle.sheets.specs.Index.{entry, ownerPlace}
 use Rattle.marking.specs.Tables.{Listed, linesIn}
 use Rattle.marking.specs.Listing.{line}
-use Rattle.marking.proofs.ListFacts.{there}
+use Rattle.rules.proofs.ListFacts.{there}
 use Rattle.marking.proofs.TableLaws.{lines-count}
 use Rattle.marking.proofs.ModeLines.{variable-stays, variable-moves}
 use Rattle.marking.proofs.tables.push_variable.Statement.{statement}

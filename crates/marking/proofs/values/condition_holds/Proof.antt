@@ -7,7 +7,7 @@ use denote.Ref.{now}
 use lib.ListN.{length, take}
 use Rattle.sheets.specs.Places.{rowsFrom}
 use Rattle.sheets.specs.Index.{entry, spanRows}
-use Rattle.marking.specs.Runs as runs
+use Rattle.rules.specs.Runs as runs
 use Rattle.marking.proofs.ValueLaws.{row-room, row-next, rows-start, rows-pass, rows-fail, rows-none}
 use Rattle.marking.proofs.values.condition_holds.Statement.{statement}
 use Rattle.marking.proofs.values.condition_holds.Tie as tie

@@ -10,7 +10,7 @@ use mir.Syntax.{w64}
 use mir.Val.{toZ, ofZ}
 use Rattle.farkas.specs.Rows.{item}
 use Rattle.farkas.proofs.Fill.{filled, fill-store}
-use Rattle.marking.specs.Runs as runs
+use Rattle.rules.specs.Runs as runs
 use Rattle.marking.proofs.ValueLaws.{difference-fits, difference-read, changes-length, change-at, changes-end}
 use Rattle.marking.proofs.values.differences.Statement.{statement}
 use Rattle.marking.proofs.values.differences.Tie as tie

@@ -11,7 +11,7 @@ use lib.ListN.{length}
 use Rattle.farkas.specs.Lists.{every}
 use Rattle.sheets.specs.Joint.{countUp}
 use Rattle.sheets.specs.Index.{modelFrom, entry}
-use Rattle.marking.specs.Runs as runs
+use Rattle.rules.specs.Runs as runs
 use Rattle.marking.specs.Held.{stateOf, perVariable, sameAt}
 use Rattle.marking.proofs.ValueLaws.{flow-fails, flow-lasts, flow-stands}
 use Rattle.marking.proofs.GoodLines.{flow-good}

@@ -12,7 +12,7 @@ use Rattle.farkas.specs.Lists.{every}
 use Rattle.sheets.specs.Joint.{countUp}
 use Rattle.sheets.specs.Index.{modelFrom, entry}
 use Rattle.sheets.specs.Counts.{perComponent}
-use Rattle.marking.specs.Runs as runs
+use Rattle.rules.specs.Runs as runs
 use Rattle.marking.specs.Held.{stateOf, perVariable, moveAt}
 use Rattle.marking.proofs.ValueLoops.{each-start, each-pass, each-fail, each-none}
 use Rattle.marking.proofs.ValueStates.{side-for, both-taken, both-small, jump-told}

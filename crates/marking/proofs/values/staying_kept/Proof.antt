@@ -13,7 +13,7 @@ use Rattle.farkas.specs.Rows.{item}
 use Rattle.sheets.specs.Joint.{countUp}
 use Rattle.sheets.specs.Index.{modelFrom, entry}
 use Rattle.sheets.specs.Counts.{perComponent}
-use Rattle.marking.specs.Runs as runs
+use Rattle.rules.specs.Runs as runs
 use Rattle.marking.specs.Held.{stateOf, perVariable, valueKept}
 use Rattle.marking.proofs.ValueLoops.{each-start, each-pass, each-fail, each-none}
 use Rattle.marking.proofs.ValueStates.{staying-told}

@@ -5,9 +5,9 @@ use borrow.Author.Needs.{needs}
 use denote.Ref.{now}
 use lib.ListN.{take}
 use Rattle.sheets.specs.Index.{entry, unsafePlace, spanRows, unsafeFrom}
-use Rattle.marking.specs.Runs as runs
+use Rattle.rules.specs.Runs as runs
 use Rattle.marking.specs.Held.{unsafeAt}
-use Rattle.marking.proofs.ListFacts.{test-failed, test-passed, first-fails, first-passes}
+use Rattle.rules.proofs.ListFacts.{test-failed, test-passed, first-fails, first-passes}
 use Rattle.marking.proofs.ValueLaws.{point-for, unsafe-place, unsafe-span}
 use Rattle.marking.proofs.values.unsafe_fits.Statement.{statement}
 use Rattle.marking.proofs.values.unsafe_fits.Tie as tie

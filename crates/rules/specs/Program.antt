@@ -4,10 +4,10 @@ use mathlib.Core.List.{List, [], _∷_, _++_}
 use Prim.Native.Nat.{ℕ, zero, suc, _+_, _/_, _%_}
 use lib.Dec.{ltb, leb, eqb}
 use lib.ListN.{length, getD, take, drop}
-use Rattle.marking.specs.declared.Answer.{Answer}
+use Rattle.rules.specs.declared.Answer.{Answer}
 use Rattle.sheets.specs.Reading.{bigEndian}
 use Rattle.sheets.specs.ModelSheet.{examLimits}
-use Rattle.marking.specs.Marking.{answer, markCertificate, markRun}
+use Rattle.rules.specs.Marking.{answer, markCertificate, markRun}
 
 -- "Lines: `SAFE done`, `UNSAFE done`, `REFUSED number sheet place done score`"
 pub data Line : Type 0 where

@@ -15,12 +15,12 @@ use Rattle.sheets.specs.ModelSheet.{Limits, readModel}
 use Rattle.sheets.specs.RunSheet.{Step, Opening, readOpening, readStep}
 use Rattle.sheets.proofs.Gives.{got-value, got-next, passes, Tested, tested, gives-then}
 use Rattle.sheets.proofs.Placed.{Fine, placed-finished, model-fine}
-use Rattle.marking.specs.declared.Answer.{Answer}
-use Rattle.marking.specs.Runs.{State, startAllowed, stepAllowed, stepsAllowed, after, Run, visited, endOf, isUnsafe}
-use Rattle.marking.specs.Marking.{answer, Marked, passed, stopped, withModel, testStep, markStep, markSteps, closeRun, firstState, markOpening, markRun}
-use Rattle.marking.specs.ReadWell.{RunSheet, readRunSheet, RunHolds}
-use Rattle.marking.proofs.ListFacts.{is-true}
-use Rattle.marking.proofs.MarkedRanges.{Marks, with-model, opening-fine, opening-gives, steps-mark}
+use Rattle.rules.specs.declared.Answer.{Answer}
+use Rattle.rules.specs.Runs.{State, startAllowed, stepAllowed, stepsAllowed, after, Run, visited, endOf, isUnsafe}
+use Rattle.rules.specs.Marking.{answer, Marked, passed, stopped, withModel, testStep, markStep, markSteps, closeRun, firstState, markOpening, markRun}
+use Rattle.rules.specs.ReadWell.{RunSheet, readRunSheet, RunHolds}
+use Rattle.rules.proofs.ListFacts.{is-true}
+use Rattle.rules.proofs.MarkedRanges.{Marks, with-model, opening-fine, opening-gives, steps-mark}
 
 -- one reading, then the next, where the first gave a value
 module _ {A B : Type 0} (r : Reader A) {s : List ℕ} {p : ℕ} {a : A} {next : ℕ} (e : r s p ≡ got a next) where

@@ -18,14 +18,14 @@ use Rattle.sheets.specs.Certificate.{readRegions, readProof}
 use Rattle.sheets.proofs.Gives.{passes, got-value, gives-then}
 use Rattle.sheets.proofs.Members.{all-in}
 use Rattle.sheets.proofs.WellFormed.{WellFormed, well-formed, regions-give, GoodProof, proof-gives}
-use Rattle.marking.specs.Runs.{State, Run, visited, isUnsafe}
-use Rattle.marking.specs.Obligations.{Kind, Obligation, zeroOnly, obligations}
-use Rattle.marking.specs.Marking.{markCertificate, markRun}
-use Rattle.marking.specs.ReadWell.{readProofs, rowsOf, AllMeet, met-none, met-more, CertificateHolds}
-use Rattle.marking.proofs.Shown.{ShownBy, Shown}
-use Rattle.marking.proofs.Safety.{Regions, start-inside, steps-safe}
-use Rattle.marking.proofs.RunExactly.{run-exactly, run-of, run-unsafe}
-use Rattle.marking.proofs.CertificateExactly.{readOne, Parts, parts-of, meet-head, meet-tail, accepted-holds}
+use Rattle.rules.specs.Runs.{State, Run, visited, isUnsafe}
+use Rattle.rules.specs.Obligations.{Kind, Obligation, zeroOnly, obligations}
+use Rattle.rules.specs.Marking.{markCertificate, markRun}
+use Rattle.rules.specs.ReadWell.{readProofs, rowsOf, AllMeet, met-none, met-more, CertificateHolds}
+use Rattle.rules.proofs.Shown.{ShownBy, Shown}
+use Rattle.rules.proofs.Safety.{Regions, start-inside, steps-safe}
+use Rattle.rules.proofs.RunExactly.{run-exactly, run-of, run-unsafe}
+use Rattle.rules.proofs.CertificateExactly.{readOne, Parts, parts-of, meet-head, meet-tail, accepted-holds}
 
 -- proofs that are read and meet the condition show their obligations
 zero-k : (unsafe : Bool) (k : ℕ) → k ≤ cond unsafe 0 (2 ^ 24 - 1) → T unsafe → k ≡ 0

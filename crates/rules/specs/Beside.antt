@@ -4,8 +4,8 @@ use mathlib.Core.List.{List, [], _∷_, _++_, map}
 use Prim.Native.Nat.{ℕ, zero, suc}
 use lib.Dec.{leb, ltb}
 use lib.ListN.{length, getD, take, drop}
-use Rattle.marking.specs.declared.Answer.{Answer}
-use Rattle.marking.specs.declared.Joint.{Joint}
+use Rattle.rules.specs.declared.Answer.{Answer}
+use Rattle.rules.specs.declared.Joint.{Joint}
 use Rattle.farkas.specs.Rows.{zeroRow}
 use Rattle.sheets.specs.Reading.{Got, got, refused, _>>_, header}
 use Rattle.sheets.specs.Rows.{Condition}
@@ -13,8 +13,8 @@ use Rattle.sheets.specs.Model.{Model}
 use Rattle.sheets.specs.Joint.{JointSwitch, joints, stays}
 use Rattle.sheets.specs.ModelSheet.{Limits, readModel}
 use Rattle.sheets.specs.Certificate.{readRegions}
-use Rattle.marking.specs.Obligations.{Hypothesis, nowhere, Obligation, afterFlow, obligations}
-use Rattle.marking.specs.Marking.{answer, withModel}
+use Rattle.rules.specs.Obligations.{Hypothesis, nowhere, Obligation, afterFlow, obligations}
+use Rattle.rules.specs.Marking.{answer, withModel}
 
 -- "four switch numbers (255 for a staying or absent component)"
 unfoldable pub fourSwitches : List ℕ → List ℕ

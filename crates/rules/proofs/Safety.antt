@@ -25,11 +25,11 @@ use Rattle.sheets.proofs.Members.{all-members, numbers-in}
 use Rattle.sheets.proofs.WellFormed.{Wide, GoodMode, GoodComponent, WellFormed}
 use Rattle.sheets.proofs.Locations.{HaveModes, modes-at, location-of}
 use Rattle.sheets.proofs.Joint.{jointFrom, joint-listed, joint-known, modes-after}
-use Rattle.marking.specs.Runs.{State, conditionHolds, modesIn, admissible, startAllowed, difference, ratesHold, stillAtZero, flowRule, movers, stayingVariables, stayingKept, jumpRows, jumpRule, after, ruleMet, stepAllowed, stepsAllowed, visited, modesFit, isUnsafe}
-use Rattle.marking.specs.Obligations.{clearOfUnsafe, onX, onNext, unsafeHypotheses, zeroOnly, regionOf, obligations}
-use Rattle.marking.proofs.Points.{from-next}
-use Rattle.marking.proofs.Shown.{ShownBy, Shown, Holding, shown-goal, shown-clear, at-start, at-flow, at-unsafe, at-jump}
-use Rattle.marking.proofs.Hypotheses.{all-both, all-so, good-modes, hold-rows, start-hypotheses, unsafe-hypotheses, flow-hypotheses, jump-hypotheses}
+use Rattle.rules.specs.Runs.{State, conditionHolds, modesIn, admissible, startAllowed, difference, ratesHold, stillAtZero, flowRule, movers, stayingVariables, stayingKept, jumpRows, jumpRule, after, ruleMet, stepAllowed, stepsAllowed, visited, modesFit, isUnsafe}
+use Rattle.rules.specs.Obligations.{clearOfUnsafe, onX, onNext, unsafeHypotheses, zeroOnly, regionOf, obligations}
+use Rattle.rules.proofs.Points.{from-next}
+use Rattle.rules.proofs.Shown.{ShownBy, Shown, Holding, shown-goal, shown-clear, at-start, at-flow, at-unsafe, at-jump}
+use Rattle.rules.proofs.Hypotheses.{all-both, all-so, good-modes, hold-rows, start-hypotheses, unsafe-hypotheses, flow-hypotheses, jump-hypotheses}
 
 -- regions with rows as wide as there are variables
 abbrev pub Regions : Model → List Condition → Type 0

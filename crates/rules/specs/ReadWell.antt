@@ -13,9 +13,9 @@ use Rattle.sheets.specs.Model.{Model}
 use Rattle.sheets.specs.ModelSheet.{Limits, readModel}
 use Rattle.sheets.specs.Certificate.{readRegions, readProof}
 use Rattle.sheets.specs.RunSheet.{Step, Opening, readOpening, readStep}
-use Rattle.marking.specs.Runs.{State, startAllowed, stepsAllowed, endOf, isUnsafe}
-use Rattle.marking.specs.Obligations.{Hypothesis, Obligation, zeroOnly, obligations}
-use Rattle.marking.specs.Marking.{firstState}
+use Rattle.rules.specs.Runs.{State, startAllowed, stepsAllowed, endOf, isUnsafe}
+use Rattle.rules.specs.Obligations.{Hypothesis, Obligation, zeroOnly, obligations}
+use Rattle.rules.specs.Marking.{firstState}
 
 -- a certificate: regions, then a proof per obligation
 pub record Certificate : Type 0 where

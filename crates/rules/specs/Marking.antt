@@ -4,7 +4,7 @@ use mathlib.Core.List.{List, [], _∷_, map}
 use Prim.Native.Nat.{ℕ, zero, suc, _+_, _*_, _/_, min}
 use lib.Dec.{eqb}
 use lib.ListN.{length}
-use Rattle.marking.specs.declared.Answer.{Answer}
+use Rattle.rules.specs.declared.Answer.{Answer}
 use Rattle.farkas.specs.Farkas.{Proof, farkasTest}
 use Rattle.sheets.specs.Reading.{Reader, Got, got, refused, _>>_, _>>=_, header, finished}
 use Rattle.sheets.specs.Rows.{Condition}
@@ -12,8 +12,8 @@ use Rattle.sheets.specs.Model.{Model}
 use Rattle.sheets.specs.ModelSheet.{Limits, readModel}
 use Rattle.sheets.specs.Certificate.{readRegions, readProof}
 use Rattle.sheets.specs.RunSheet.{Step, Opening, readOpening, readStep}
-use Rattle.marking.specs.Runs.{State, startAllowed, stepAllowed, after, isUnsafe}
-use Rattle.marking.specs.Obligations.{Hypothesis, Obligation, zeroOnly, obligations}
+use Rattle.rules.specs.Runs.{State, startAllowed, stepAllowed, after, isUnsafe}
+use Rattle.rules.specs.Obligations.{Hypothesis, Obligation, zeroOnly, obligations}
 
 unfoldable pub answer : ℕ → ℕ → ℕ → ℕ → ℕ → Answer
 answer number sheet place done score =

@@ -16,11 +16,11 @@ use Rattle.sheets.specs.ModelSheet.{Limits, readModel}
 use Rattle.sheets.specs.Certificate.{readRegions, readProof}
 use Rattle.sheets.proofs.Gives.{Passed, passes, got-value, each-got, bind-got, then-got}
 use Rattle.sheets.proofs.Placed.{Fine, placed-finished, model-fine}
-use Rattle.marking.specs.declared.Answer.{Answer}
-use Rattle.marking.specs.Obligations.{Obligation, zeroOnly, obligations}
-use Rattle.marking.specs.Marking.{answer, scoreOf, refusedScore, Marked, passed, stopped, testProof, markProof, markProofs, closeCertificate, markRegions, withModel, markCertificate}
-use Rattle.marking.proofs.MarkedRanges.{Marks, proofs-mark, regions-fine}
-use Rattle.marking.specs.ReadWell.{Certificate, readProofs, readCertificate, rowsOf, AllMeet, met-none, met-more, CertificateHolds}
+use Rattle.rules.specs.declared.Answer.{Answer}
+use Rattle.rules.specs.Obligations.{Obligation, zeroOnly, obligations}
+use Rattle.rules.specs.Marking.{answer, scoreOf, refusedScore, Marked, passed, stopped, testProof, markProof, markProofs, closeCertificate, markRegions, withModel, markCertificate}
+use Rattle.rules.proofs.MarkedRanges.{Marks, proofs-mark, regions-fine}
+use Rattle.rules.specs.ReadWell.{Certificate, readProofs, readCertificate, rowsOf, AllMeet, met-none, met-more, CertificateHolds}
 
 -- one proof: it reads, and meets the condition
 abbrev pub readOne : Obligation → Reader Proof

@@ -16,10 +16,10 @@ use Rattle.sheets.specs.Model.{Mode, Switch, Component, Model}
 use Rattle.sheets.specs.Locations.{modesAt, modeOf}
 use Rattle.sheets.specs.Joint.{joinAll}
 use Rattle.sheets.proofs.WellFormed.{Wide, GoodMode, GoodSwitch, GoodComponent, WellFormed}
-use Rattle.marking.specs.Runs.{conditionHolds, present, modesIn, difference}
-use Rattle.marking.specs.Obligations.{Hypothesis, nowhere, standing, onX, onNext, onRates, timeRow, stayingRows, modeRows, startHypotheses, flowHypotheses, unsafeHypotheses, jumpHypotheses}
-use Rattle.marking.proofs.Points.{on-x, on-next, on-rates, time-holds, staying-hold}
-use Rattle.marking.proofs.Shown.{Holding}
+use Rattle.rules.specs.Runs.{conditionHolds, present, modesIn, difference}
+use Rattle.rules.specs.Obligations.{Hypothesis, nowhere, standing, onX, onNext, onRates, timeRow, stayingRows, modeRows, startHypotheses, flowHypotheses, unsafeHypotheses, jumpHypotheses}
+use Rattle.rules.proofs.Points.{on-x, on-next, on-rates, time-holds, staying-hold}
+use Rattle.rules.proofs.Shown.{Holding}
 
 -- laws on what holds of all elements
 pub all-both : {A : Type 0} {P Q : A → Type 0} {xs : List A} → All P xs → All Q xs → All (λ a. P a × Q a) xs

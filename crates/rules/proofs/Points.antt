@@ -12,8 +12,8 @@ use Rattle.farkas.specs.declared.Row.{Row}
 use Rattle.farkas.specs.Rows.{item, dot, rowHolds}
 use Rattle.farkas.proofs.All.{All, none, more}
 use Rattle.farkas.proofs.Integers.{split, by-parts}
-use Rattle.marking.specs.Runs.{difference}
-use Rattle.marking.specs.Obligations.{onX, onNext, onRates, timeRow, unit, stayingRows}
+use Rattle.rules.specs.Runs.{difference}
+use Rattle.rules.specs.Obligations.{onX, onNext, onRates, timeRow, unit, stayingRows}
 
 -- products with joined lists
 pub dot-nothing : (xs : List ℤ) → dot xs [] ≡ pos 0

@@ -21,8 +21,8 @@ use Rattle.sheets.specs.Locations.{locationCount, modesAt}
 use Rattle.sheets.specs.Joint.{stays, switchOf, leaves, moves, oneMoves, allStay, isJoint, numbersFrom, joinAll}
 use Rattle.sheets.proofs.Gives.{and-left, and-right}
 use Rattle.sheets.proofs.Members.{all-in, in-map, in-joined}
-use Rattle.marking.specs.Runs.{State, conditionHolds, modesIn, sameValues, ratesHold, stillAtZero, flowRule, stayingVariables, movers, stayingKept, jumpRows, jumpRule}
-use Rattle.marking.specs.Obligations.{standing, onX, modeRows, unsafeHypotheses}
+use Rattle.rules.specs.Runs.{State, conditionHolds, modesIn, sameValues, ratesHold, stillAtZero, flowRule, stayingVariables, movers, stayingKept, jumpRows, jumpRule}
+use Rattle.rules.specs.Obligations.{standing, onX, modeRows, unsafeHypotheses}
 
 -- "Letting a zero-time flow drift"
 same-values : (xs ys : List ℤ) → T (sameValues xs ys) → xs ≡ ys

@@ -20,8 +20,8 @@ use Rattle.sheets.specs.Model.{Unsafe, Model}
 use Rattle.sheets.specs.Locations.{locationCount, modesAt}
 use Rattle.sheets.specs.Joint.{JointSwitch, joints, countUp, joinAll}
 use Rattle.sheets.proofs.Members.{all-in, all-left, all-right, in-count}
-use Rattle.marking.specs.Runs.{modesIn, modesFit, movers, stayingVariables}
-use Rattle.marking.specs.Obligations.{Hypothesis, Kind, atStart, afterFlow, clearOfUnsafe, afterJump, Obligation, zeroOnly, perRow, onX, onNext, startHypotheses, flowHypotheses, unsafeHypotheses, jumpHypotheses, startObligations, flowObligations, unsafeObligations, locationObligations, jumpObligations, jumpsObligations, obligationsOver, regionOf, obligations}
+use Rattle.rules.specs.Runs.{modesIn, modesFit, movers, stayingVariables}
+use Rattle.rules.specs.Obligations.{Hypothesis, Kind, atStart, afterFlow, clearOfUnsafe, afterJump, Obligation, zeroOnly, perRow, onX, onNext, startHypotheses, flowHypotheses, unsafeHypotheses, jumpHypotheses, startObligations, flowObligations, unsafeObligations, locationObligations, jumpObligations, jumpsObligations, obligationsOver, regionOf, obligations}
 
 -- some proof meets Farkas' condition for a goal from hypotheses
 pub record ShownBy (kind : Kind) (hypotheses : List Hypothesis) (goal : Row) : Type 0 where

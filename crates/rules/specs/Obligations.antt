@@ -12,7 +12,7 @@ use Rattle.sheets.specs.Rows.{SheetRow, Condition}
 use Rattle.sheets.specs.Model.{Mode, Switch, Unsafe, Model}
 use Rattle.sheets.specs.Locations.{locationCount, modesAt}
 use Rattle.sheets.specs.Joint.{JointSwitch, joints, countUp, joinAll}
-use Rattle.marking.specs.Runs.{modesIn, movers, stayingVariables, modesFit}
+use Rattle.rules.specs.Runs.{modesIn, movers, stayingVariables, modesFit}
 
 -- a hypothesis: its row over the obligation's unknowns, and where its bytes stand: sheet 0 is the model, 1 the certificate, and
 -- 2 no sheet, then with place 0 and size 0

@@ -16,8 +16,8 @@ use Rattle.sheets.specs.Counts.{memberCount}
 use Rattle.sheets.proofs.Gives.{and-left}
 use Rattle.sheets.proofs.JointCounts.{mask-members}
 use Rattle.sheets.proofs.JointList.{EachMoves, none-moves, member-moves, other-stays, all-members-move}
-use Rattle.marking.specs.Runs.{movers}
-use Rattle.marking.proofs.ListFacts.{is-true}
+use Rattle.rules.specs.Runs.{movers}
+use Rattle.rules.proofs.ListFacts.{is-true}
 
 -- a switch of a component that has at most 32 is not the number that stands for staying
 moving : (c : Component) (mode e i : ℕ) → length (c .switches) ≤ 32 → T (moves c mode e i) → eqb i stays ≡ false

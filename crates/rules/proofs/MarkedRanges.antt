@@ -28,12 +28,12 @@ use Rattle.sheets.proofs.Gives.{Gives, passes, gives-bind, gives-then, gives-gi
 use Rattle.sheets.proofs.Placed.{Fine, placed-then, placed-within, placed-u16, placed-u32, placed-header, placed-finished, placed-regions, placed-proof, placed-opening, placed-step, model-fine}
 use Rattle.sheets.proofs.Members.{all-members}
 use Rattle.sheets.proofs.RowPlaces.{RowsWithin, ModeWithin, ComponentWithin, ModelWithin, rows-within, regions-within}
-use Rattle.marking.specs.declared.Answer.{Answer}
-use Rattle.marking.specs.Runs.{State, present, modesIn, startAllowed, movers, stayingVariables, stepAllowed, after, modesFit, isUnsafe}
-use Rattle.marking.specs.Obligations.{Hypothesis, nowhere, standing, onX, onNext, onRates, timeRow, stayingRows, modeRows, startHypotheses, flowHypotheses, unsafeHypotheses, jumpHypotheses, Kind, atStart, afterFlow, afterJump, Obligation, zeroOnly, perRow, startObligations, flowObligations, unsafeObligations, locationObligations, jumpObligations, jumpsObligations, obligationsOver, regionOf, obligations}
-use Rattle.marking.specs.Marking.{answer, scoreOf, refusedScore, Marked, passed, stopped, testProof, markProof, markProofs, closeCertificate, markRegions, withModel, markCertificate, testStep, markStep, markSteps, closeRun, firstState, markOpening, markRun}
-use Rattle.marking.specs.Beside.{listAnswer, Found, found, unfound, noObligation, findIn, findAfter, findHypothesis, foundAnswer, showAnswer, sheetOf}
-use Rattle.marking.proofs.Hypotheses.{all-so, join-all}
+use Rattle.rules.specs.declared.Answer.{Answer}
+use Rattle.rules.specs.Runs.{State, present, modesIn, startAllowed, movers, stayingVariables, stepAllowed, after, modesFit, isUnsafe}
+use Rattle.rules.specs.Obligations.{Hypothesis, nowhere, standing, onX, onNext, onRates, timeRow, stayingRows, modeRows, startHypotheses, flowHypotheses, unsafeHypotheses, jumpHypotheses, Kind, atStart, afterFlow, afterJump, Obligation, zeroOnly, perRow, startObligations, flowObligations, unsafeObligations, locationObligations, jumpObligations, jumpsObligations, obligationsOver, regionOf, obligations}
+use Rattle.rules.specs.Marking.{answer, scoreOf, refusedScore, Marked, passed, stopped, testProof, markProof, markProofs, closeCertificate, markRegions, withModel, markCertificate, testStep, markStep, markSteps, closeRun, firstState, markOpening, markRun}
+use Rattle.rules.specs.Beside.{listAnswer, Found, found, unfound, noObligation, findIn, findAfter, findHypothesis, foundAnswer, showAnswer, sheetOf}
+use Rattle.rules.proofs.Hypotheses.{all-so, join-all}
 
 -- the fields of an answer on these two sheets, all but done, whose bound is each call's own
 pub record InRange (model second : List ℕ) (a : Answer) : Type 0 where

@@ -3,7 +3,7 @@ use mathlib.Core.Path.{_≡_, refl}
 use mathlib.Core.List.{List, [], _∷_, map}
 use lib.Count.{ones}
 use lib.ListN.{set}
-use Rattle.marking.specs.declared.Answer.{Answer}
+use Rattle.rules.specs.declared.Answer.{Answer}
 use Rattle.farkas.specs.Lists.{every, some}
 use Rattle.farkas.specs.Rows.{item, dot, rowHolds, zeroRow}
 use Rattle.farkas.specs.Farkas.{plus, addRow, addEntry, addEntries, summed, sameZ, coefficientsAgree, boundPasses, sumsTest, farkasTest}
@@ -15,10 +15,10 @@ use Rattle.sheets.specs.Joint.{stays, switchOf, leaves, moves, bit, scopeMask, 
 use Rattle.sheets.specs.ModelSheet.{examLimits, readModel}
 use Rattle.sheets.specs.Certificate.{readRegions, readEntry, readEntries, readProof}
 use Rattle.sheets.specs.RunSheet.{readValues, readOpening, readFlow, readJump, readStepOf, readStep}
-use Rattle.marking.specs.Runs.{conditionHolds, present, modesIn, admissible, startAllowed, difference, sameValues, ratesHold, stillAtZero, flowRule, movers, stayingVariables, stayingKept, jumpRows, jumpRule, after, ruleMet, stepAllowed, modesFit, isUnsafe}
-use Rattle.marking.specs.Obligations.{nowhere, standing, onX, onNext, onRates, timeRow, unit, stayingRows, modeRows, startHypotheses, flowHypotheses, unsafeHypotheses, jumpHypotheses, zeroOnly, perRow, startObligations, flowObligations, unsafeObligations, locationObligations, jumpObligations, jumpsObligations, obligationsOver, regionOf, obligations}
-use Rattle.marking.specs.Marking.{answer, scoreOf, refusedScore, testProof, markProof, markProofs, closeCertificate, markRegions, withModel, markCertificate, testStep, markStep, markSteps, closeRun, firstState, markOpening, markRun}
-use Rattle.marking.specs.Papers.{up, down, tUntil, t, tNine, tCut, one, c, cTurned, cTwice, cNine, still, flowing}
+use Rattle.rules.specs.Runs.{conditionHolds, present, modesIn, admissible, startAllowed, difference, sameValues, ratesHold, stillAtZero, flowRule, movers, stayingVariables, stayingKept, jumpRows, jumpRule, after, ruleMet, stepAllowed, modesFit, isUnsafe}
+use Rattle.rules.specs.Obligations.{nowhere, standing, onX, onNext, onRates, timeRow, unit, stayingRows, modeRows, startHypotheses, flowHypotheses, unsafeHypotheses, jumpHypotheses, zeroOnly, perRow, startObligations, flowObligations, unsafeObligations, locationObligations, jumpObligations, jumpsObligations, obligationsOver, regionOf, obligations}
+use Rattle.rules.specs.Marking.{answer, scoreOf, refusedScore, testProof, markProof, markProofs, closeCertificate, markRegions, withModel, markCertificate, testStep, markStep, markSteps, closeRun, firstState, markOpening, markRun}
+use Rattle.rules.specs.Papers.{up, down, tUntil, t, tNine, tCut, one, c, cTurned, cTwice, cNine, still, flowing}
 
 pub twelve :
     (markCertificate examLimits (set t 2 9) c

@@ -1,0 +1,12 @@
+pub mod ListFacts
+pub mod Points
+pub mod Shown
+pub mod Hypotheses
+pub mod Safety
+pub mod MarkedRanges
+pub mod CertificateExactly
+pub mod RunExactly
+pub mod Demand
+pub mod Rejected
+pub mod Movers
+pub mod Twelve
