@@ -1,22 +1,23 @@
 -- A tally of switches: what the loops that make it keep up, and the counts of joint switches from it. Assumes nothing.
-use mathlib.Core.Path.{_≡_, refl, sym, ap, _∙_}
+use mathlib.Core.Path.{_≡_, refl, sym, ap, ap₂, _∙_}
 use mathlib.Core.Bool.{Bool, true, false, cond, _&&_}
-use mathlib.Core.List.{List, [], _∷_, _++_}
-use Prim.Native.Nat.{ℕ, zero, suc, _+_, _*_, _-_, _≤_, _<_}
-use native.Mathlib.Decide.{ℕ-discrete}
+use mathlib.Core.List.{List, [], _∷_, _++_, map}
+use Prim.Native.Nat.{ℕ, zero, suc, _+_, _*_, _-_, _/_, _%_, _≤_, _<_}
+use native.Mathlib.Nat.{lt-irrefl}
+use native.Mathlib.Decide.{ℕ-discrete, decLe}
 use native.Mathlib.Omega.{arith}
 use borrow.Author.Count.{below-more}
-use borrow.Author.Tests.{eq-eqb, ne-eqb}
+use borrow.Author.Tests.{eq-eqb, ne-eqb, lt-ltb, le-ltb}
 use lib.Dec.{eqb}
 use lib.ListN.{length, getD, drop, set, replicate}
 use lib.Seq.{getD-set-same, getD-set-other, getD-take}
 use Rattle.farkas.proofs.All.{All, none, more}
 use Rattle.sheets.specs.Model.{Component, hasEvent}
 use Rattle.sheets.specs.Locations.{locationCount, modesAt}
-use Rattle.sheets.specs.Joint.{switchOf, leaves, bit, moverCount, leaving, together, switchesOf}
+use Rattle.sheets.specs.Joint.{switchOf, leaves, bit, moverCount, leaving, together, switchesOf, countUp}
 use Rattle.sheets.specs.Index.{entry, componentPlace, switchPlace, switchFrom, componentsFrom, GoodIndex, Kept}
 use Rattle.sheets.specs.Counts.{componentAt, perComponent, memberCount}
-use Rattle.sheets.specs.Tally.{tallyPlace, Blank, TalliedAt, SmallModes}
+use Rattle.sheets.specs.Tally.{tallyPlace, tallyNumber, tallyOf, Blank, TalliedAt, Tallied, SmallModes}
 use Rattle.sheets.proofs.WellFormed.{GoodComponent, GoodSwitch}
 use Rattle.sheets.proofs.Members.{all-below}
 use Rattle.sheets.proofs.Locations.{Modes, no-modes, mode-and, HaveModes, modes-at}
@@ -32,6 +33,44 @@ zero-at (suc n) (suc p) = zero-at n p
 
 pub zeros-blank : (n : ℕ) → Blank 0 (replicate n 0)
 zeros-blank n = record { blank = λ p h. zero-at n p }
+
+-- a list by its numbers
+pub by-numbers : (f : ℕ → ℕ) (xs : List ℕ) (i : ℕ) → ((p : ℕ) → p < length xs → getD xs p 0 ≡ f (i + p)) → xs ≡ map f (countUp i (length xs))
+unfolding countUp
+by-numbers f [] i h = refl
+by-numbers f (x ∷ xs) i h =
+    ap₂ _∷_ (h 0 (omega arith) ∙ ap f (nothing i)) (by-numbers f xs (suc i) (λ p l. h (suc p) (omega (arith, l)) ∙ ap f (one-later i p)))
+  where
+    nothing : (i : ℕ) → i + 0 ≡ i
+    nothing i = omega arith
+
+    one-later : (i p : ℕ) → i + suc p ≡ suc i + p
+    one-later i p = omega arith
+
+pub blank-after : (k v : ℕ) (xs : List ℕ) → Blank k xs → Blank (k + 1) (set xs k v)
+blank-after k v xs b = record { blank = λ p h. getD-set-other xs k p v 0 (λ e. lt-irrefl p (omega (arith, e, h))) ∙ b .blank p (omega (arith, h)) }
+
+-- the whole tally
+pub tally-whole : (s index t : List ℕ) → length t ≡ 512 → Tallied s index t → Blank (128 * entry index 1) t → t ≡ tallyOf s index
+unfolding tallyOf tallyNumber
+tally-whole s index t long told rest = by-numbers (tallyNumber s index) t 0 (λ p l. at p) ∙ ap (λ (n : ℕ). map (tallyNumber s index) (countUp 0 n)) long
+  where
+    place : (p : ℕ) → tallyPlace (p / 128) (p % 128 / 16) (p % 16) ≡ p
+    place p = omega arith
+
+    here : (p : ℕ) → Dec (entry index 1 ≤ p / 128) → getD t p 0 ≡ tallyNumber s index p
+    here p (yes h) = rest .blank p (omega (arith, h)) ∙ sym (ap (λ b. cond b (length (leaving (componentAt s index (p / 128)) (p % 128 / 16) (p % 16))) 0) (le-ltb (p / 128) (entry index 1) h))
+    here p (no f) =
+        let h : p / 128 < entry index 1 = omega (arith, f) in
+        ap (λ (q : ℕ). getD t q 0) (sym (place p))
+        ∙ told .components (p / 128) h .counted (p % 128 / 16) (p % 16) (omega arith) (omega arith)
+        ∙ sym (ap (λ b. cond b (length (leaving (componentAt s index (p / 128)) (p % 128 / 16) (p % 16))) 0) (lt-ltb (p / 128) (entry index 1) h))
+
+    start : (p : ℕ) → p ≡ 0 + p
+    start p = omega arith
+
+    at : (p : ℕ) → getD t p 0 ≡ tallyNumber s index (0 + p)
+    at p = here p (decLe (entry index 1) (p / 128)) ∙ ap (tallyNumber s index) (start p)
 
 -- a switch's mode and label are within the table
 module _ {s index : List ℕ} (g : GoodIndex s index) (k i : ℕ) (h : k < entry index 1) (l : i < length (componentAt s index k .switches)) where

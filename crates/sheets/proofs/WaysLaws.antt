@@ -2,21 +2,24 @@
 -- the loops over it count and take. Assumes nothing.
 use mathlib.Core.Path.{_≡_, refl, sym, ap, _∙_, subst}
 use mathlib.Core.Bool.{Bool, true, false, cond}
-use mathlib.Core.List.{List, [], _∷_, _++_}
+use mathlib.Core.List.{List, [], _∷_, _++_, map}
 use Prim.Native.Nat.{ℕ, zero, suc, _+_, _*_, _-_, _/_, _%_, _≤_, _<_}
-use native.Mathlib.Decide.{ℕ-discrete}
+use native.Mathlib.Decide.{ℕ-discrete, decLe}
 use native.Mathlib.Nat.{le-trans, div-one}
 use native.Mathlib.Omega.{arith}
 use lib.ListN.{length, getD, set, replicate}
 use lib.Seq.{getD-set-same, getD-set-other}
+use borrow.Author.Tests.{lt-ltb, le-ltb}
 use Rattle.sheets.specs.Model.{Component, hasEvent}
-use Rattle.sheets.specs.Joint.{stays, switchOf, leaves, bit, leaving, silent, together}
+use Rattle.sheets.specs.Joint.{stays, switchOf, leaves, bit, leaving, silent, together, countUp}
 use Rattle.sheets.specs.Index.{entry, Kept, GoodIndex, componentsFrom}
 use Rattle.sheets.specs.Counts.{componentAt, perComponent, fourSwitches, parts}
-use Rattle.sheets.specs.Ways.{waysOf, ListedAt, Ways}
+use Rattle.sheets.specs.Tally.{Blank}
+use Rattle.sheets.specs.Ways.{waysOf, wayCount, wayCounts, ListedAt, Ways}
 use Rattle.sheets.proofs.IndexLaws.{kept-none, kept-set, kept-then}
 use Rattle.sheets.proofs.GoodIndexLaws.{good-component}
 use Rattle.sheets.proofs.JointCounts.{leaving-few, stays-only, leavingFrom, leaving-all, leaving-none, leaving-count, leaving-skip, leaving-first, leaving-later}
+use Rattle.sheets.proofs.TallyLaws.{by-numbers}
 use Rattle.sheets.proofs.JointLoops.{quotient-left, silentOn, togetherOn, digitsOn, silent-starts, silent-goes-on, silent-found, silent-passed, together-starts, together-goes-on, parts-some, digits-start, digits-go-on}
 
 -- a component's ways, by the event
@@ -149,6 +152,23 @@ ways-none s index modes e table counts j h = absurd (omega arith)
 
 pub ways-all : (s index modes : List ℕ) (e k : ℕ) (table counts : List ℕ) → entry index 1 ≤ k → WaysTo s index modes e k table counts → Ways s index modes e table counts
 ways-all s index modes e k table counts h w = record { each = λ j l. w j (omega arith) }
+
+-- the counts as a list
+pub counts-whole : (s index modes : List ℕ) (e k : ℕ) (table counts : List ℕ) → length counts ≡ 4 → k ≡ entry index 1 → WaysTo s index modes e k table counts → Blank k counts → counts ≡ wayCounts s index modes e
+unfolding wayCounts wayCount
+counts-whole s index modes e k table counts long same told rest = by-numbers (wayCount s index modes e) counts 0 (λ p l. at p) ∙ ap (λ (n : ℕ). map (wayCount s index modes e) (countUp 0 n)) long
+  where
+    here : (p : ℕ) → Dec (entry index 1 ≤ p) → getD counts p 0 ≡ wayCount s index modes e p
+    here p (yes h) = rest .blank p (omega (arith, h, same)) ∙ sym (ap (λ b. cond b (length (waysOf (componentAt s index p) (getD modes p 0) e)) 0) (le-ltb p (entry index 1) h))
+    here p (no f) =
+        let h : p < entry index 1 = omega (arith, f) in
+        told p (omega (arith, h, same)) .counted ∙ sym (ap (λ b. cond b (length (waysOf (componentAt s index p) (getD modes p 0) e)) 0) (lt-ltb p (entry index 1) h))
+
+    start : (p : ℕ) → p ≡ 0 + p
+    start p = omega arith
+
+    at : (p : ℕ) → getD counts p 0 ≡ wayCount s index modes e (0 + p)
+    at p = here p (decLe (entry index 1) p) ∙ ap (wayCount s index modes e) (start p)
 
 module _ {s index : List ℕ} (g : GoodIndex s index) (modes : List ℕ) (e : ℕ) where
   ways-within : (k count : ℕ) (table : List ℕ) (from : ℕ) → k < entry index 1 → ListedAt (waysOf (componentAt s index k) (getD modes k 0) e) table from count → count ≤ 32

@@ -1,16 +1,28 @@
 -- A table of how many switches each component has, by the mode that they leave and their label: what the contracts on counting by it name.
 -- Assumes nothing.
 use mathlib.Core.Path.{_≡_}
-use mathlib.Core.List.{List}
-use Prim.Native.Nat.{ℕ, _+_, _*_, _≤_, _<_}
+use mathlib.Core.Bool.{cond}
+use mathlib.Core.List.{List, map}
+use Prim.Native.Nat.{ℕ, _+_, _*_, _/_, _%_, _≤_, _<_}
+use lib.Dec.{ltb}
 use lib.ListN.{length, getD}
-use Rattle.sheets.specs.Joint.{leaving}
+use Rattle.sheets.specs.Joint.{leaving, countUp}
 use Rattle.sheets.specs.Index.{entry}
 use Rattle.sheets.specs.Counts.{componentAt}
 
 -- where the switches of a component with a label that leave a mode are counted: 128 places to a component, 16 to a mode
 abbrev pub tallyPlace : ℕ → ℕ → ℕ → ℕ
 tallyPlace k mode e = 128 * k + 16 * mode + e
+
+-- what a tally has at a place, 0 where there is no such component; and the whole tally
+unfoldable pub tallyNumber : List ℕ → List ℕ → ℕ → ℕ
+tallyNumber s index p =
+    cond (ltb (p / 128) (entry index 1))
+    (length (leaving (componentAt s index (p / 128)) (p % 128 / 16) (p % 16)))
+    0
+
+unfoldable pub tallyOf : List ℕ → List ℕ → List ℕ
+tallyOf s index = map (tallyNumber s index) (countUp 0 512)
 
 -- from a place on nothing is counted
 pub record Blank (from : ℕ) (tally : List ℕ) : Type 0 where

@@ -1,10 +1,12 @@
 -- The ways in which each component takes part in an event, kept in a table: which numbers stand where. Assumes nothing.
-use mathlib.Core.List.{List}
+use mathlib.Core.Bool.{cond}
+use mathlib.Core.List.{List, map}
 use mathlib.Core.Path.{_≡_}
 use Prim.Native.Nat.{ℕ, zero, suc, _+_, _*_, _<_}
+use lib.Dec.{ltb}
 use lib.ListN.{length, getD}
 use Rattle.sheets.specs.Model.{Component}
-use Rattle.sheets.specs.Joint.{stays, leaving}
+use Rattle.sheets.specs.Joint.{stays, leaving, countUp}
 use Rattle.sheets.specs.Index.{entry}
 use Rattle.sheets.specs.Counts.{componentAt, parts}
 
@@ -12,6 +14,13 @@ use Rattle.sheets.specs.Counts.{componentAt, parts}
 unfoldable pub waysOf : Component → ℕ → ℕ → List ℕ
 waysOf c mode zero = leaving c mode 0
 waysOf c mode (suc e) = parts c mode (suc e)
+
+-- how many ways each component has, 0 for an absent one
+unfoldable pub wayCount : List ℕ → List ℕ → List ℕ → ℕ → ℕ → ℕ
+wayCount s index modes e k = cond (ltb k (entry index 1)) (length (waysOf (componentAt s index k) (getD modes k 0) e)) 0
+
+unfoldable pub wayCounts : List ℕ → List ℕ → List ℕ → ℕ → List ℕ
+wayCounts s index modes e = map (wayCount s index modes e) (countUp 0 4)
 
 -- so many numbers stand in a table from a place on, and they are these
 pub record ListedAt (numbers table : List ℕ) (from count : ℕ) : Type 0 where

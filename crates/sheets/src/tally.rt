@@ -12,7 +12,7 @@ ghost use Rattle.sheets.specs.Model.{hasEvent};
 ghost use Rattle.sheets.specs.Joint.{switchOf, leaving, silent, switchesOf};
 ghost use Rattle.sheets.specs.Index.{entry, GoodIndex, componentsFrom, Kept};
 ghost use Rattle.sheets.specs.Counts.{componentAt, perComponent, parts};
-ghost use Rattle.sheets.specs.Tally.{tallyPlace, Blank, TalliedAt, Tallied, SmallModes};
+ghost use Rattle.sheets.specs.Tally.{tallyPlace, tallyOf, Blank, TalliedAt, Tallied, SmallModes};
 
 // Where a switch is counted: by its component, the mode that it leaves and its label.
 fn place_of(s: &[u8], index: &[u16; 988], k: usize, i: usize) -> usize
@@ -46,6 +46,7 @@ fn tally_into(s: &[u8], index: &[u16; 988], table: &mut [u8])
     requires { ⌜ GoodIndex (now s) (now index) ⌝ }
     requires { ⌜ (512 ≤ length (now table)) × Blank 0 (now table) ⌝ }
     ensures { λ _. ⌜ Tallied (now (s .entry)) (now (index .entry)) (now (table .exit)) ⌝ }
+    ensures { λ _. ⌜ Blank (128 * entry (now (index .entry)) 1) (now (table .exit)) ⌝ }
 {
     let components = component_count(s, index);
     let mut k: usize = 0;
@@ -58,6 +59,7 @@ fn tally_into(s: &[u8], index: &[u16; 988], table: &mut [u8])
 // The tally of a model's switches.
 pub fn tally(s: &[u8], index: &[u16; 988]) -> [u8; 512]
     requires { ⌜ GoodIndex (now s) (now index) ⌝ }
+    ensures { λ r. ⌜ r ≡ tallyOf (now (s .entry)) (now (index .entry)) ⌝ }
     ensures { λ r. ⌜ Tallied (now (s .entry)) (now (index .entry)) r ⌝ }
 {
     let mut table = [0u8; 512];

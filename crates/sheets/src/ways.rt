@@ -11,7 +11,7 @@ ghost use lib.ListN.{length, getD, set, replicate};
 ghost use Rattle.sheets.specs.Joint.{stays, leaving, silent, together, switchesOf};
 ghost use Rattle.sheets.specs.Index.{entry, Kept, GoodIndex, componentsFrom};
 ghost use Rattle.sheets.specs.Counts.{componentAt, perComponent, fourSwitches};
-ghost use Rattle.sheets.specs.Ways.{waysOf, ListedAt, Ways};
+ghost use Rattle.sheets.specs.Ways.{waysOf, wayCounts, ListedAt, Ways};
 
 // Lists the switches of a component that have this label and leave this mode, and tells how many. A number that does not count is
 // overwritten by the next.
@@ -55,6 +55,7 @@ fn list_part(s: &[u8], index: &[u16; 988], k: usize, mode: u8, e: u32, ways: &mu
 pub fn list_ways(s: &[u8], index: &[u16; 988], modes: [u8; 4], e: u32, ways: &mut [u8]) -> [u32; 4]
     requires { ⌜ GoodIndex (now s) (now index) ⌝ }
     requires { ⌜ (e ≤ 15) × (128 ≤ length (now ways)) ⌝ }
+    ensures { λ r. ⌜ r ≡ wayCounts (now (s .entry)) (now (index .entry)) modes e ⌝ }
     ensures { λ r. ⌜ Ways (now (s .entry)) (now (index .entry)) modes e (now (ways .exit)) r ⌝ }
 {
     let components = index[1] as usize;

@@ -19,7 +19,7 @@ find-listed-requires : tie.Need-find-listed-requires
 find-listed-requires c κs =
     let p = c .before .before .before .before .before .before .pre in
     let told = c .before .before .list-ways in
-    (p .0, (p .1 .0, (p .1 .1, (omega (arith, told .kept .1 .1 .1 .1 .0), told .ensures))))
+    (p .0, (p .1 .0, (p .1 .1, (omega (arith, told .kept .1 .1 .1 .1 .0), told .ensures .1))))
 
 returns : tie.Need-returns
 returns c = search needs

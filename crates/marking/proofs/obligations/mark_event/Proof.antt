@@ -51,7 +51,7 @@ slice-aggregate-mark-switches c = search needs
 mark-switches-requires : tie.Need-mark-switches-requires
 mark-switches-requires c κs =
     let p = c .before .before .before .before .before .before .before .before .before .pre in
-    (p .0, ((p .1 .0, (p .1 .1 .0, (p .1 .1 .1 .0, p .1 .1 .1 .1 .0))), (search needs, (c .before .before .before .list-ways .ensures, c .before .before .before .before .before .before .tallied .ensures))))
+    (p .0, ((p .1 .0, (p .1 .1 .0, (p .1 .1 .1 .0, p .1 .1 .1 .1 .0))), (search needs, (c .before .before .before .list-ways .ensures .1, c .before .before .before .before .before .before .tallied .ensures))))
 
 returns-2 : tie.Need-returns-2
 returns-2 c = search needs

@@ -61,7 +61,7 @@ mark-joints-requires c κs =
     let r = c .before .before .before .before .before .mark-locations .result in
     let told : r ≡ standsAt (markTasks (tasks os) second (a .at) 0) = c .before .before .before .before .before .mark-locations .ensures ∙ ap (λ (ts : List Task). standsAt (markTasks ts second (a .at) 0)) (sym (location-tasks m regionAt (a .locations))) in
     let z : r .number ≡ 0 = c .before .before .before .if1 .left in
-    (p .0, (p .1 .0, (part-within second whole os rest (a .at) 0 r told (p .1 .1) z, (part-later second whole os rest (a .at) 0 r told (p .1 .1) z (omega arith), c .before .before .tally .ensures))))
+    (p .0, (p .1 .0, (part-within second whole os rest (a .at) 0 r told (p .1 .1) z, (part-later second whole os rest (a .at) 0 r told (p .1 .1) z (omega arith), c .before .before .tally .ensures .1))))
 
 returns-2 : tie.Need-returns-2
 returns-2 c =

@@ -17,7 +17,7 @@ way-at-requires : tie.Need-way-at-requires
 way-at-requires c κs =
     let p = c .before .before .before .before .before .pre in
     let told = c .before .before .list-ways in
-    (p .0, ((omega (arith, told .kept .1 .1 .1 .1 .0), told .ensures), p .1 .1))
+    (p .0, ((omega (arith, told .kept .1 .1 .1 .1 .0), told .ensures .1), p .1 .1))
 
 returns : tie.Need-returns
 returns c = search needs

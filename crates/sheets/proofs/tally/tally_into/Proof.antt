@@ -48,9 +48,11 @@ same-length : tie.Need-same-length Inv-loop μ-loop
 same-length c = c .before .loop .inv .1
 
 returns : tie.Need-returns Inv-loop μ-loop
-returns c = record {
-  components = λ k h. c .before .loop .inv .2 k (omega (arith, c .loop-test .left, c .before .before .component-count .ensures));
-}
+returns c =
+    let i = c .before .loop .inv in (
+      record { components = λ k h. i .2 k (omega (arith, c .loop-test .left, c .before .before .component-count .ensures)) },
+      record { blank = λ p h. i .3 .blank p (omega (arith, h, i .0, c .before .before .component-count .ensures)) },
+    )
 
 pub tally-into-spec : {M : Type 1} → statement M
 tally-into-spec =

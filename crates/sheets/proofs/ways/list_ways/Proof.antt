@@ -6,7 +6,9 @@ use borrow.Author.Needs.{needs}
 use denote.Ref.{now}
 use lib.ListN.{length, replicate, length-set}
 use Rattle.sheets.specs.Index.{entry}
-use Rattle.sheets.proofs.WaysLaws.{WaysTo, ways-none, ways-go-on, ways-all}
+use Rattle.sheets.specs.Tally.{Blank}
+use Rattle.sheets.proofs.TallyLaws.{zeros-blank, blank-after}
+use Rattle.sheets.proofs.WaysLaws.{WaysTo, ways-none, ways-go-on, ways-all, counts-whole}
 use Rattle.sheets.proofs.ways.list_ways.Statement.{statement}
 use Rattle.sheets.proofs.ways.list_ways.Tie as tie
 
@@ -14,7 +16,7 @@ abbrev Inv-loop : tie.InvT-loop
 Inv-loop s index e ways₀ modes components counts₀ k₀ ways counts k =
     (length ways ≡ length ways₀)
     × ((components ≡ entry index 1)
-    × ((k ≤ components) × ((length counts ≡ 4) × WaysTo s index modes e k ways counts)))
+    × ((k ≤ components) × ((length counts ≡ 4) × (WaysTo s index modes e k ways counts × Blank k counts))))
 
 abbrev μ-loop : tie.MeasureT-loop
 μ-loop s index e ways₀ modes components counts₀ k₀ ways counts k = components - k
@@ -30,7 +32,7 @@ loop-holds : tie.Need-loop-holds Inv-loop μ-loop
 unfolding entry
 loop-holds c =
     let a = c .before .before .before .args in
-    (refl, (refl, (omega arith, (refl, ways-none (now (a .s)) (now (a .index)) (a .t3) (a .e) (now (a .ways)) (replicate 4 0)))))
+    (refl, (refl, (omega arith, (refl, (ways-none (now (a .s)) (now (a .index)) (a .t3) (a .e) (now (a .ways)) (replicate 4 0), zeros-blank 4)))))
 
 array-read-list-part : tie.Need-array-read-list-part Inv-loop μ-loop
 array-read-list-part c =
@@ -67,7 +69,7 @@ loop-again c =
     let told = c .before .before .list-part in
     let h : l .k < entry (now (a .index)) 1 = omega (arith, c .before .before .before .before .loop-test .taken, i .1 .0) in
     let room : l .k < length (l .counts) = omega (arith, i .1 .1 .1 .0, p .0 .few) in
-    (told .kept .1 .1 .1 .1 .1 .0 ∙ i .0, (i .1 .0, (omega (arith, c .before .before .before .before .loop-test .taken), (simp length-set (i .1 .1 .1 .0), ways-go-on (p .0) (a .t3) (a .e) (l .k) (told .result) (l .ways) (told .last .1 .1 .1 .1 .1 .0) (l .counts) h room (i .1 .1 .1 .1) (told .ensures .0) (told .ensures .1)))))
+    (told .kept .1 .1 .1 .1 .1 .0 ∙ i .0, (i .1 .0, (omega (arith, c .before .before .before .before .loop-test .taken), (simp length-set (i .1 .1 .1 .0), (ways-go-on (p .0) (a .t3) (a .e) (l .k) (told .result) (l .ways) (told .last .1 .1 .1 .1 .1 .0) (l .counts) h room (i .1 .1 .1 .1 .0) (told .ensures .0) (told .ensures .1), blank-after (l .k) (told .result) (l .counts) (i .1 .1 .1 .1 .1))))))
 
 same-length : tie.Need-same-length Inv-loop μ-loop
 same-length c = c .before .loop .inv .0
@@ -77,7 +79,10 @@ returns c =
     let a = c .before .before .before .before .before .args in
     let l = c .before .loop in
     let i = l .inv in
-    ways-all (now (a .s)) (now (a .index)) (a .t3) (a .e) (l .k) (l .ways) (l .counts) (omega (arith, c .loop-test .left, i .1 .0)) (i .1 .1 .1 .1)
+    let all : l .k ≡ entry (now (a .index)) 1 = omega (arith, c .loop-test .left, i .1 .0, i .1 .1 .0) in (
+      counts-whole (now (a .s)) (now (a .index)) (a .t3) (a .e) (l .k) (l .ways) (l .counts) (i .1 .1 .1 .0) all (i .1 .1 .1 .1 .0) (i .1 .1 .1 .1 .1),
+      ways-all (now (a .s)) (now (a .index)) (a .t3) (a .e) (l .k) (l .ways) (l .counts) (omega (arith, all)) (i .1 .1 .1 .1 .0),
+    )
 
 pub list-ways-spec : {M : Type 1} → statement M
 list-ways-spec =
