@@ -5,9 +5,9 @@ use mathlib.Core.Path.{_≡_, sym, ap, _∙_}
 use mathlib.Core.List.{List, List·Memᴰ}
 use Prim.Native.Nat.{ℕ}
 use lib.Dec.{T}
-use Rattle.sheets.specs.Reading.{got}
-use Rattle.sheets.specs.Model.{Model}
-use Rattle.sheets.specs.ModelSheet.{examLimits, readModel}
+use Rattle.formats.specs.Reading.{got}
+use Rattle.formats.specs.Model.{Model}
+use Rattle.formats.specs.ModelSheet.{examLimits, readModel}
 use Rattle.rules.specs.declared.Answer.{Answer}
 use Rattle.rules.specs.Runs.{State, Run, visited, isUnsafe}
 use Rattle.rules.specs.Marking.{markCertificate, markRun}

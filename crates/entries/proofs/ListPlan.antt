@@ -2,25 +2,25 @@
 use mathlib.Core.Path.{_≡_, refl, sym, ap, ap₂, _∙_, subst}
 use mathlib.Core.Bool.{Bool, true, false, cond}
 use mathlib.Core.List.{List, [], _∷_, _++_, map}
-use Prim.Native.Nat.{ℕ, zero, suc, _+_, _-_, _≤_, _<_}
+use Prim.Native.Nat.{ℕ, zero, suc, _+_, _≤_, _<_}
 use native.Mathlib.Numerals.{add-one}
 use native.Mathlib.Omega.{arith}
 use lib.Dec.{leb}
 use lib.ListN.{length, take, drop, set, length-append, length-map, length-take, length-drop}
 use borrow.Author.Tests.{leb-true}
-use Rattle.sheets.specs.Reading.{Got, got, refused}
-use Rattle.sheets.specs.Model.{Model}
-use Rattle.sheets.specs.Locations.{locationCount}
-use Rattle.sheets.specs.Joint.{joints}
-use Rattle.sheets.specs.ModelSheet.{examLimits, readModel}
-use Rattle.sheets.specs.Index.{componentsFrom, modelFrom, GoodIndex}
+use Rattle.formats.specs.Reading.{Got, got, refused}
+use Rattle.formats.specs.Model.{Model}
+use Rattle.formats.specs.Locations.{locationCount}
+use Rattle.formats.specs.Joint.{joints}
+use Rattle.formats.specs.ModelSheet.{examLimits, readModel}
+use Rattle.models.specs.Index.{componentsFrom, modelFrom, GoodIndex}
 use Rattle.rules.specs.declared.Answer.{Answer}
 use Rattle.rules.specs.declared.Joint.{Joint}
 use Rattle.rules.specs.Marking.{answer, withModel}
 use Rattle.rules.specs.Beside.{recordOf, listAnswer, filled, tableAfter}
-use Rattle.beside.specs.Records.{recordsFrom, modelBy}
-use Rattle.marking.proofs.CloseLaws.{accepted}
-use Rattle.beside.proofs.RecordLaws.{whole-list, index-model}
+use Rattle.queries.specs.Records.{recordsFrom, modelBy}
+use Rattle.papers.proofs.PaperLaws.{accepted}
+use Rattle.queries.proofs.RecordLaws.{whole-list, index-model}
 
 -- how many records are written, which, and what the table is afterwards
 pub record Plan (model index : List ℕ) (count : ℕ) (table : List Joint) : Type 0 where

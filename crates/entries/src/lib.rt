@@ -2,12 +2,12 @@
 pub mod show;
 pub mod table;
 
-use marking::certificate::mark_certificate;
-use marking::run::mark_run;
+use certificates::certificate::mark_certificate;
 use rules::Answer;
+use runs::run::mark_run;
 ghost use mathlib.Core.Path.{_≡_};
 ghost use Rattle.rules.specs.Marking.{markCertificate, markRun};
-ghost use Rattle.sheets.specs.ModelSheet.{examLimits};
+ghost use Rattle.formats.specs.ModelSheet.{examLimits};
 
 // The answer for a certificate beside a model.
 #[no_mangle]

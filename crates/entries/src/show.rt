@@ -1,12 +1,12 @@
 // Beside the marking: where the row of a hypothesis stands, and which obligation has a number.
-use beside::Which;
-use beside::show::show_answer;
-use beside::show::which;
+use queries::Which;
+use queries::show::show_answer;
+use queries::show::which;
 use rules::Answer;
 ghost use mathlib.Core.Path.{_≡_};
 ghost use Rattle.rules.specs.Beside.{showAnswer};
-ghost use Rattle.beside.specs.Finding.{whichObligation};
-ghost use Rattle.sheets.specs.ModelSheet.{examLimits};
+ghost use Rattle.queries.specs.Finding.{whichObligation};
+ghost use Rattle.formats.specs.ModelSheet.{examLimits};
 
 // The sister of show row: the number, with the row's sheet and offset.
 #[no_mangle]

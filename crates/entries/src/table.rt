@@ -1,15 +1,15 @@
 // The joint list, written record after record into a table that the exam desk lends.
-use beside::joint_list::answer_for;
-use beside::joint_list::list_index;
-use beside::joint_list::list_start;
-use beside::joint_list::next_record;
-use beside::joint_list::record_count;
+use queries::joint_list::answer_for;
+use queries::joint_list::list_index;
+use queries::joint_list::list_start;
+use queries::joint_list::next_record;
+use queries::joint_list::record_count;
 use rules::Answer;
 use rules::Joint;
 ghost use mathlib.Core.Path.{_≡_};
 ghost use lib.ListN.{length};
 ghost use Rattle.rules.specs.Beside.{listAnswer, tableAfter};
-ghost use Rattle.sheets.specs.ModelSheet.{examLimits};
+ghost use Rattle.formats.specs.ModelSheet.{examLimits};
 
 // The joint list of a model, in order; later records of the table keep their content, and a refusal writes nothing.
 #[no_mangle]

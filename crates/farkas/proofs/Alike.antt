@@ -10,14 +10,10 @@ use lib.IntN.{ℤ, pos, _+ℤ_, _*ℤ_}
 use lib.ListN.{getD, replicate}
 use lib.Signed.{leZ}
 use Rattle.farkas.specs.declared.Row.{Row}
-use Rattle.farkas.specs.Rows.{item, dot, rowHolds, zeroRow, noSums}
+use Rattle.farkas.specs.Rows.{Alike, item, dot, rowHolds, zeroRow, noSums}
 use Rattle.farkas.specs.Farkas.{Entry, plus, addRow, addEntry, addEntries, coefficientsAgree, boundPasses, sumsTest}
 use Rattle.farkas.proofs.Order.{zero-plus-nothing}
 use Rattle.farkas.proofs.Test.{item-plus, agree-means}
-
-pub record Alike (r s : Row) : Type 0 where
-  pub coefficient : (i : ℕ) → item (r .coefficients) i ≡ item (s .coefficients) i
-  pub bound : r .bound ≡ s .bound
 
 pub alike-refl : (r : Row) → Alike r r
 alike-refl r = record { coefficient = λ i. refl; bound = refl }

@@ -7,11 +7,7 @@ use Prim.Native.Nat.{ℕ, zero, suc}
 use lib.Dec.{T}
 use lib.ListN.{getD}
 use mir.Facts.{and-yes, yes-and}
-use Rattle.farkas.specs.Lists.{every}
-
-pub data All {A : Type 0} (P : A → Type 0) : List A → Type 0 where
-  none : All P []
-  more : {a : A} {xs : List A} → P a → All P xs → All P (a ∷ xs)
+use Rattle.farkas.specs.Lists.{every, All, none, more}
 
 pub all-append : {A : Type 0} {P : A → Type 0} {xs ys : List A} → All P xs → All P ys → All P (xs ++ ys)
 all-append none k = k

@@ -8,3 +8,4 @@ pub mod All
 pub mod Test
 pub mod Alike
 pub mod Soundness
+pub mod Promise

@@ -13,9 +13,9 @@ use lib.Seq.{take-suc, take-length}
 use Rattle.farkas.specs.declared.Row.{Row}
 use Rattle.farkas.specs.Rows.{item, zeroRow, noSums}
 use Rattle.farkas.specs.Farkas.{Entry, addRow, addEntry, addEntries, summed}
-use Rattle.farkas.specs.Sizes.{Within, Room}
+use Rattle.farkas.specs.Sizes.{Within, Room, noEntry, entryAt, Bounded, SumsHold}
 use Rattle.farkas.proofs.Bits.{size-+*}
-use Rattle.farkas.proofs.All.{All, all-at}
+use Rattle.farkas.proofs.All.{all-at}
 use Rattle.farkas.proofs.Test.{item-plus}
 
 -- a larger size serves too
@@ -67,25 +67,6 @@ module _ (n m : ℕ) (s r : Row) (sums : Within (n * 2 ^ 55) s) (small : m < 2 ^
         coefficient = λ i. rw (item-plus m (s .coefficients) (r .coefficients) i) (omega (arith, size-+* (item (s .coefficients) i) (pos m) (item (r .coefficients) i), sums .coefficient i, product m (natAbs (item (r .coefficients) i)) small (row .coefficient i)));
         bound = omega (arith, size-+* (s .bound) (pos m) (r .bound), product m (natAbs (r .bound)) small (row .bound));
       }
-
--- the entry at i; past the end, one that adds nothing
-unfoldable pub noEntry : Entry
-noEntry = record { hypothesis = 0; multiplier = 0 }
-
-unfoldable pub entryAt : List Entry → ℕ → Entry
-entryAt es i = getD es i noEntry
-
--- what 01 lets a proof have: rows of numbers of 32 bits and their opposites, multipliers below 2 ^ 24, at most 128 entries
-pub record Bounded (hypotheses : List Row) (es : List Entry) : Type 0 where
-  pub rows : All (Within (2 ^ 31)) hypotheses
-  pub multipliers : All (λ e. e .multiplier < 2 ^ 24) es
-  pub few : length es ≤ 128
-
--- the sums hold in 64 bits: after each entry, and with room for the next
-pub record SumsHold (hypotheses : List Row) (es : List Entry) : Type 0 where
-  pub whole : Within (length es * 2 ^ 55) (summed hypotheses es)
-  pub part : (i : ℕ) → i ≤ length es → Within (i * 2 ^ 55) (summed hypotheses (take i es))
-  pub next : (i : ℕ) → i < length es → Room (summed hypotheses (take i es)) (entryAt es i .multiplier) (getD hypotheses (entryAt es i .hypothesis) zeroRow)
 
 -- entries in two parts are summed one part after the other
 pub entries-append : (hs : List Row) (s : Row) (es fs : List Entry) → addEntries hs s (es ++ fs) ≡ addEntries hs (addEntries hs s es) fs

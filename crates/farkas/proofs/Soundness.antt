@@ -6,17 +6,17 @@ use mathlib.Core.Logic.{_↔_}
 use mathlib.Core.List.{List, [], _∷_}
 use Prim.Native.Nat.{ℕ, _≤_}
 use native.Mathlib.Omega.{arith}
-use lib.Dec.{T}
 use lib.IntN.{ℤ, pos, _+ℤ_, _*ℤ_, +ℤ-idl, zero-*ℤ}
 use lib.ListN.{getD}
 use lib.Signed.{_≤ℤ_, ≤ℤ-refl, clashℤ}
 use Rattle.farkas.specs.declared.Row.{Row}
-use Rattle.farkas.specs.Rows.{item, dot, rowHolds, zeroRow}
-use Rattle.farkas.specs.Farkas.{Entry, Proof, plus, addRow, addEntry, addEntries, summed, SumsMeet, Meets}
+use Rattle.farkas.specs.Rows.{Holds, item, dot, rowHolds, zeroRow}
+use Rattle.farkas.specs.Farkas.{Entry, Proof, Agree, plus, addRow, addEntry, addEntries, summed, SumsMeet, Meets}
 use Rattle.farkas.proofs.Integers.{split, by-parts, *-assoc, +-*, ≤-trans, ≤-+, ≤-*}
 use Rattle.farkas.proofs.Order.{plus-nothing, ≤-times, ≤-cancel, <-times}
-use Rattle.farkas.proofs.All.{All, all-at}
-use Rattle.farkas.proofs.Test.{Agree, item-plus}
+use Rattle.farkas.specs.Lists.{All}
+use Rattle.farkas.proofs.All.{all-at}
+use Rattle.farkas.proofs.Test.{item-plus}
 use Rattle.farkas.proofs.Alike.{dot-items}
 
 -- a sum's product with a point
@@ -45,18 +45,15 @@ dot-multiple k ss gs ps h =
 
 -- At a point x over q
 module _ (q : ℕ) (x : List ℤ) where
-  abbrev pub Holds : Row → Type 0
-  Holds r = T (rowHolds q x r)
-
-  pub holds-means : (r : Row) → Holds r ↔ (dot (r .coefficients) x ≤ℤ (r .bound *ℤ pos q))
+  pub holds-means : (r : Row) → Holds q x r ↔ (dot (r .coefficients) x ≤ℤ (r .bound *ℤ pos q))
   unfolding rowHolds
   holds-means r = (λ t. record { le = t }, λ h. h .le)
 
-  pub zero-row-holds : Holds zeroRow
+  pub zero-row-holds : Holds q x zeroRow
   unfolding zeroRow dot
   zero-row-holds = holds-means zeroRow .1 (rw (zero-*ℤ (pos q)) (≤ℤ-refl (pos 0)))
 
-  pub add-row-holds : (sums : Row) (m : ℕ) (r : Row) → Holds sums → Holds r → Holds (addRow sums m r)
+  pub add-row-holds : (sums : Row) (m : ℕ) (r : Row) → Holds q x sums → Holds q x r → Holds q x (addRow sums m r)
   unfolding addRow
   add-row-holds sums m r s h =
       holds-means (addRow sums m r) .1
@@ -66,24 +63,24 @@ module _ (q : ℕ) (x : List ℤ) where
       (≤-* m (dot (r .coefficients) x) (r .bound *ℤ pos q) (holds-means r .0 h))))
 
   -- hypotheses that hold
-  module _ (hypotheses : List Row) (holds : (i : ℕ) → Holds (getD hypotheses i zeroRow)) where
-    pub add-entries-holds : (es : List Entry) (sums : Row) → Holds sums → Holds (addEntries hypotheses sums es)
+  module _ (hypotheses : List Row) (holds : (i : ℕ) → Holds q x (getD hypotheses i zeroRow)) where
+    pub add-entries-holds : (es : List Entry) (sums : Row) → Holds q x sums → Holds q x (addEntries hypotheses sums es)
     unfolding addEntries addEntry
     add-entries-holds [] sums s = s
     add-entries-holds (e ∷ es) sums s =
         let r = getD hypotheses (e .hypothesis) zeroRow in
         add-entries-holds es (addRow sums (e .multiplier) r) (add-row-holds sums (e .multiplier) r s (holds (e .hypothesis)))
 
-    pub summed-holds : (es : List Entry) → Holds (summed hypotheses es)
+    pub summed-holds : (es : List Entry) → Holds q x (summed hypotheses es)
     unfolding summed
     summed-holds es = add-entries-holds es zeroRow zero-row-holds
 
   -- sums that hold and meet the condition
-  module _ (k : ℕ) (sums goal : Row) (meet : SumsMeet k sums goal) (s : Holds sums) where
+  module _ (k : ℕ) (sums goal : Row) (meet : SumsMeet k sums goal) (s : Holds q x sums) where
     multiple : dot (sums .coefficients) x ≡ pos k *ℤ dot (goal .coefficients) x
     multiple = dot-multiple k (sums .coefficients) (goal .coefficients) x (meet .coefficients)
 
-    pub goal-holds : 1 ≤ k → Holds goal
+    pub goal-holds : 1 ≤ k → Holds q x goal
     goal-holds h =
         holds-means goal .1
         (≤-cancel k (dot (goal .coefficients) x) (goal .bound *ℤ pos q) h

@@ -10,20 +10,13 @@ use native.Mathlib.Omega.{arith}
 use lib.Dec.{T, T-not, not-T}
 use lib.IntN.{ℤ, pos, _+ℤ_, _*ℤ_, +ℤ-idl, *ℤ-zero}
 use lib.ListN.{getD}
-use lib.Signed.{leZ, _≤ℤ_, _<ℤ_}
+use lib.Signed.{leZ}
 use mir.Facts.{and-yes, yes-and}
 use Rattle.farkas.specs.declared.Row.{Row}
 use Rattle.farkas.specs.Rows.{item}
 use Rattle.farkas.specs.Lists.{every}
-use Rattle.farkas.specs.Farkas.{Proof, plus, sameZ, coefficientsAgree, boundPasses, sumsTest, farkasTest, summed, SumsMeet, Meets}
+use Rattle.farkas.specs.Farkas.{Proof, Agree, BoundMet, plus, sameZ, coefficientsAgree, boundPasses, sumsTest, farkasTest, summed, SumsMeet, Meets}
 use Rattle.farkas.proofs.Order.{≤-antisym, ≤-of-≡, plus-nothing}
-
--- The two parts of Farkas' condition: the coefficients agree at every unknown; the bound is met
-abbrev pub Agree : ℕ → List ℤ → List ℤ → Type 0
-Agree k ss gs = (i : ℕ) → item ss i ≡ pos k *ℤ item gs i
-
-abbrev pub BoundMet : ℕ → ℤ → ℤ → Type 0
-BoundMet k s g = (1 ≤ k → s ≤ℤ (pos k *ℤ g)) × (k ≡ 0 → s <ℤ pos 0)
 
 -- an unknown's sum after one more row
 pub item-plus : (m : ℕ) (ss xs : List ℤ) (i : ℕ) → item (plus m ss xs) i ≡ item ss i +ℤ pos m *ℤ item xs i

@@ -1,7 +1,7 @@
 -- Proofs by Farkas' lemma (01, Certificate): what a proof is, what it sums to, when it is good, and the test for that.
 -- Assumes nothing.
 use mathlib.Core.Path.{_≡_}
-use mathlib.Core.Bool.{Bool, true, false, cond, _&&_}
+use mathlib.Core.Bool.{Bool, cond, _&&_}
 use mathlib.Core.List.{List, [], _∷_}
 use Prim.Native.Nat.{ℕ, zero, suc, _≤_}
 use lib.IntN.{ℤ, pos, _+ℤ_, _*ℤ_}
@@ -42,6 +42,13 @@ addEntries hypotheses sums (e ∷ es) = addEntries hypotheses (addEntry hypothes
 
 unfoldable pub summed : List Row → List Entry → Row
 summed hypotheses es = addEntries hypotheses zeroRow es
+
+-- Two parts of Farkas' condition, by themselves: the coefficients agree at every unknown; the bound is met
+abbrev pub Agree : ℕ → List ℤ → List ℤ → Type 0
+Agree k ss gs = (i : ℕ) → item ss i ≡ pos k *ℤ item gs i
+
+abbrev pub BoundMet : ℕ → ℤ → ℤ → Type 0
+BoundMet k s g = (1 ≤ k → s ≤ℤ (pos k *ℤ g)) × (k ≡ 0 → s <ℤ pos 0)
 
 -- Farkas' condition on sums, as a proposition. "The multiplied hypotheses must sum to k times the goal's coefficients, at every
 -- unknown. The summed bound must be at most k times the goal's bound, or, at k = 0, below 0."

@@ -3,7 +3,9 @@
 -- are counted from 0, and a coefficient or a value that a list does not reach counts as 0. Assumes nothing.
 use mathlib.Core.Bool.{Bool}
 use mathlib.Core.List.{List, [], _∷_}
+use mathlib.Core.Path.{_≡_}
 use Prim.Native.Nat.{ℕ}
+use lib.Dec.{T}
 use lib.IntN.{ℤ, pos, _+ℤ_, _*ℤ_}
 use lib.ListN.{getD, replicate}
 use lib.Signed.{leZ}
@@ -23,6 +25,10 @@ dot (a ∷ xs) (p ∷ ps) = a *ℤ p +ℤ dot xs ps
 unfoldable pub rowHolds : ℕ → List ℤ → Row → Bool
 rowHolds q p r = leZ (dot (r .coefficients) p) (r .bound *ℤ pos q)
 
+-- the same as a proposition
+abbrev pub Holds : ℕ → List ℤ → Row → Type 0
+Holds q p r = T (rowHolds q p r)
+
 -- the row 0 ≤ 0, which holds everywhere
 unfoldable pub zeroRow : Row
 zeroRow = record { coefficients = []; bound = pos 0 }
@@ -30,3 +36,8 @@ zeroRow = record { coefficients = []; bound = pos 0 }
 -- the sums of no entries, as the code holds them: 0 at each of the 17 unknowns
 unfoldable pub noSums : Row
 noSums = record { coefficients = replicate 17 (pos 0); bound = pos 0 }
+
+-- rows of which each coefficient and the bound are the same: they differ only in zeros at the end
+pub record Alike (r s : Row) : Type 0 where
+  pub coefficient : (i : ℕ) → item (r .coefficients) i ≡ item (s .coefficients) i
+  pub bound : r .bound ≡ s .bound

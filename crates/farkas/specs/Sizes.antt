@@ -1,9 +1,13 @@
 -- The sizes of a row's numbers, and the room that a sum needs in 64 bits ("Entries are at most 128, so signed 64-bit sums hold",
 -- 01, Certificate). Assumes nothing.
+use mathlib.Core.List.{List}
 use Prim.Native.Nat.{ℕ, _+_, _*_, _^_, _≤_, _<_}
 use lib.IntN.{natAbs}
+use lib.ListN.{length, getD, take}
 use Rattle.farkas.specs.declared.Row.{Row}
-use Rattle.farkas.specs.Rows.{item}
+use Rattle.farkas.specs.Rows.{item, zeroRow}
+use Rattle.farkas.specs.Lists.{All}
+use Rattle.farkas.specs.Farkas.{Entry, summed}
 
 -- no number of the row is larger than the size
 pub record Within (size : ℕ) (r : Row) : Type 0 where
@@ -14,3 +18,22 @@ pub record Within (size : ℕ) (r : Row) : Type 0 where
 pub record Room (sums : Row) (m : ℕ) (r : Row) : Type 0 where
   pub coefficient : (i : ℕ) → natAbs (item (sums .coefficients) i) + m * natAbs (item (r .coefficients) i) < 2 ^ 63
   pub bound : natAbs (sums .bound) + m * natAbs (r .bound) < 2 ^ 63
+
+-- the entry at i; past the end, one that adds nothing
+unfoldable pub noEntry : Entry
+noEntry = record { hypothesis = 0; multiplier = 0 }
+
+unfoldable pub entryAt : List Entry → ℕ → Entry
+entryAt es i = getD es i noEntry
+
+-- what 01 lets a proof have: rows of numbers of 32 bits and their opposites, multipliers below 2 ^ 24, at most 128 entries
+pub record Bounded (hypotheses : List Row) (es : List Entry) : Type 0 where
+  pub rows : All (Within (2 ^ 31)) hypotheses
+  pub multipliers : All (λ e. e .multiplier < 2 ^ 24) es
+  pub few : length es ≤ 128
+
+-- the sums hold in 64 bits: after each entry, and with room for the next
+pub record SumsHold (hypotheses : List Row) (es : List Entry) : Type 0 where
+  pub whole : Within (length es * 2 ^ 55) (summed hypotheses es)
+  pub part : (i : ℕ) → i ≤ length es → Within (i * 2 ^ 55) (summed hypotheses (take i es))
+  pub next : (i : ℕ) → i < length es → Room (summed hypotheses (take i es)) (entryAt es i .multiplier) (getD hypotheses (entryAt es i .hypothesis) zeroRow)

@@ -9,8 +9,8 @@ use lib.Dec.{leb, eqb}
 use lib.ListN.{length, getD, take, drop, drop-of-length-le}
 use lib.Seq.{take-all, take-length, drop-length}
 use borrow.Author.Tests.{leb-true, leb-false, lt-ltb, le-ltb, le-leb, lt-leb, eq-eqb, ne-eqb}
-use Rattle.sheets.specs.ModelSheet.{examLimits}
-use Rattle.sheets.proofs.FieldLaws.{two-at}
+use Rattle.formats.specs.ModelSheet.{examLimits}
+use Rattle.formats.proofs.FieldLaws.{two-at}
 use Rattle.rules.specs.declared.Answer.{Answer}
 use Rattle.rules.specs.Marking.{markCertificate, markRun}
 use Rattle.rules.specs.Program.{Line, safe, unsafe, turnedDown, firstLength, firstSheet, secondSheet, refusedLine, lineFor, isRun, markLine}

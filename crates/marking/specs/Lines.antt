@@ -4,7 +4,7 @@ use mathlib.Core.Bool.{true, false}
 use mathlib.Core.List.{List}
 use Prim.Native.Nat.{ℕ, min}
 use lib.ListN.{length}
-use Rattle.sheets.specs.ModelSheet.{examLimits}
+use Rattle.formats.specs.ModelSheet.{examLimits}
 use Rattle.marking.specs.declared.Line as coded
 use Rattle.marking.specs.declared.Line.the-variants as line
 use Rattle.rules.specs.Marking.{markCertificate, markRun}

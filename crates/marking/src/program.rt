@@ -1,8 +1,8 @@
 // The line for any input: the input is cut into two sheets, and the second is marked as a run or as a certificate.
 use crate::Line;
-use crate::certificate::mark_certificate;
-use crate::run::mark_run;
+use certificates::certificate::mark_certificate;
 use rules::Answer;
+use runs::run::mark_run;
 ghost use mathlib.Core.Path.{_≡_};
 ghost use Rattle.rules.specs.Program.{safe, unsafe, isRun, refusedLine, lineFor, markLine};
 ghost use Rattle.marking.specs.Lines.{lineOf, cutAt, sheetsLine};

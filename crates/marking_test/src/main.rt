@@ -3,14 +3,14 @@
 // A paper: the label's length and the label, a kind, a number in two bytes, a sheet's length in two bytes, and the sheet. Kind 0 takes
 // the sheet as the model for the papers that follow, 1 marks it as a certificate, 2 as a run; 3 asks for the joint list's answer with
 // so many records lent as the number says; 4 asks for the program's line for the sheet's bytes as its input.
-use beside::list::list_answer;
+use certificates::certificate::mark_certificate;
 use libc::STDIN_FILENO;
 use libc::STDOUT_FILENO;
 use marking::Line;
-use marking::certificate::mark_certificate;
 use marking::program::mark_input;
-use marking::run::mark_run;
+use queries::list::list_answer;
 use rules::Answer;
+use runs::run::mark_run;
 ghost use Prim.Native.Nat.{_^_, _<_};
 
 // Writes a number after a separator.

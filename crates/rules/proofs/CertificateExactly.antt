@@ -2,20 +2,19 @@
 -- reads and tests proof by proof; that is the same as reading all proofs and then testing all. Assumes nothing.
 use mathlib.Core.Path.{_≡_, refl, sym, ap, _∙_, subst}
 use mathlib.Core.Logic.{_↔_}
-use mathlib.Core.Bool.{Bool, true, false}
-use mathlib.Core.List.{List, [], _∷_, map}
+use mathlib.Core.List.{List, [], _∷_}
 use Prim.Native.Nat.{ℕ, zero, suc, _+_, _≤_}
 use native.Mathlib.Omega.{arith}
 use lib.ListN.{length}
 use Rattle.farkas.specs.Farkas.{Proof, Meets, farkasTest}
-use Rattle.farkas.proofs.Test.{proof-zero-means}
-use Rattle.sheets.specs.Reading.{Got, got, refused, Reader, andThen, _>>=_, _>>_, give, each, header, finished}
-use Rattle.sheets.specs.Rows.{Condition}
-use Rattle.sheets.specs.Model.{Model}
-use Rattle.sheets.specs.ModelSheet.{Limits, readModel}
-use Rattle.sheets.specs.Certificate.{readRegions, readProof}
-use Rattle.sheets.proofs.Gives.{Passed, passes, got-value, each-got, bind-got, then-got}
-use Rattle.sheets.proofs.Placed.{Fine, placed-finished, model-fine}
+use Rattle.farkas.proofs.Promise.{zero-means}
+use Rattle.formats.specs.Reading.{Got, got, refused, Reader, _>>=_, _>>_, give, each, header, finished}
+use Rattle.formats.specs.Rows.{Condition}
+use Rattle.formats.specs.Model.{Model}
+use Rattle.formats.specs.ModelSheet.{Limits, readModel}
+use Rattle.formats.specs.Certificate.{readRegions, readProof}
+use Rattle.formats.proofs.Gives.{passes, got-value, each-got, bind-got, then-got}
+use Rattle.formats.proofs.Placed.{Fine, placed-finished, model-fine}
 use Rattle.rules.specs.declared.Answer.{Answer}
 use Rattle.rules.specs.Obligations.{Obligation, zeroOnly, obligations}
 use Rattle.rules.specs.Marking.{answer, scoreOf, refusedScore, Marked, passed, stopped, testProof, markProof, markProofs, closeCertificate, markRegions, withModel, markCertificate}
@@ -30,17 +29,17 @@ proof-step : (o : Obligation) (place n : ℕ) (p q : Proof) (next at : ℕ) → 
 proof-step o place zero p q next at e h = (h, e)
 proof-step o place (suc k) p q next at e h = let z : _≡_ {A = ℕ} 0 1 = cc in absurd (omega arith)
 
-tested-proof : (o : Obligation) (place : ℕ) (g : Got Proof) (q : Proof) (at : ℕ) → testProof o place g ≡ got q at → (g ≡ got q at) × Meets (rowsOf o) (o .goal) q
+pub tested-proof : (o : Obligation) (place : ℕ) (g : Got Proof) (q : Proof) (at : ℕ) → testProof o place g ≡ got q at → (g ≡ got q at) × Meets (rowsOf o) (o .goal) q
 unfolding testProof rowsOf
 tested-proof o place (refused number p) q at h = let z : _≡_ {A = ℕ} 0 1 = cc in absurd (omega arith)
 tested-proof o place (got p next) q at h =
     let w = proof-step o place (farkasTest (rowsOf o) (o .goal) p) p q next at refl h in
     let same : p ≡ q = let e = w .0 in cc in
-    (w .0, subst (λ x. Meets (rowsOf o) (o .goal) x) same (proof-zero-means (rowsOf o) (o .goal) p .0 (w .1)))
+    (w .0, subst (λ x. Meets (rowsOf o) (o .goal) x) same (zero-means (rowsOf o) (o .goal) p .0 (w .1)))
 
 test-passes : (o : Obligation) (place : ℕ) (p : Proof) (next : ℕ) → Meets (rowsOf o) (o .goal) p → testProof o place (got p next) ≡ got p next
 unfolding testProof rowsOf
-test-passes o place p next h = go (farkasTest (rowsOf o) (o .goal) p) (proof-zero-means (rowsOf o) (o .goal) p .1 h)
+test-passes o place p next h = go (farkasTest (rowsOf o) (o .goal) p) (zero-means (rowsOf o) (o .goal) p .1 h)
   where
     go : (n : ℕ) → n ≡ 0 → _≡_ {A = Got Proof} (elim n [ zero ↦ got p next | suc k ↦ refused (suc k) place ]) (got p next)
     go zero e = refl
@@ -137,25 +136,25 @@ unfolding markRegions answer
 regions-read m s (refused n at) fine h = absurd (omega (arith, fine .0))
 regions-read m s (got regions place) fine h = record { regions = regions; place = place; read = refl; within = fine .1; rest = h }
 
-record Closed (s : List ℕ) (k : Marked (Unit {0})) : Type 0 where
+record CertificateClosed (s : List ℕ) (k : Marked (Unit {0})) : Type 0 where
   next : ℕ
   done : ℕ
   end : ℕ
   passes : k ≡ passed tt next done
   finishes : finished s next ≡ got tt end
 
-close-step : (total next done : ℕ) (s : List ℕ) (g : Got (Unit {0})) → finished s next ≡ g → (elim g as (λ x. Answer) [ got v k ↦ answer 0 1 (length s) done (scoreOf done total) | refused n at ↦ answer n 1 at done (refusedScore done total) ]) .number ≡ 0 → Fine s next g → Closed s (passed tt next done)
+close-step : (total next done : ℕ) (s : List ℕ) (g : Got (Unit {0})) → finished s next ≡ g → (elim g as (λ x. Answer) [ got v k ↦ answer 0 1 (length s) done (scoreOf done total) | refused n at ↦ answer n 1 at done (refusedScore done total) ]) .number ≡ 0 → Fine s next g → CertificateClosed s (passed tt next done)
 unfolding answer
 close-step total next done s (got v k) e h fine = record { next = next; done = done; end = k; passes = refl; finishes = e }
 close-step total next done s (refused n at) e h fine = absurd (omega (arith, fine .0))
 
-close-read : (total : ℕ) (s : List ℕ) (k : Marked (Unit {0})) → ((number at d : ℕ) → k ≡ stopped number at d → 1 ≤ number) → ((u : Unit {0}) (next d : ℕ) → k ≡ passed u next d → next ≤ length s) → closeCertificate total s k .number ≡ 0 → Closed s k
+close-read : (total : ℕ) (s : List ℕ) (k : Marked (Unit {0})) → ((number at d : ℕ) → k ≡ stopped number at d → 1 ≤ number) → ((u : Unit {0}) (next d : ℕ) → k ≡ passed u next d → next ≤ length s) → closeCertificate total s k .number ≡ 0 → CertificateClosed s k
 unfolding closeCertificate answer
 close-read total s (stopped n at d) stop on h = absurd (omega (arith, stop n at d refl))
 close-read total s (passed u next d) stop on h = close-step total next d s (finished s next) refl h (placed-finished {least = 0} .fine s next (omega arith) (on u next d refl))
 
 -- the second sheet's parts, put together
-whole-certificate : (m : Model) (s : List ℕ) (regions : List Condition) (place next end : ℕ) (proofs : List Proof) → (header 2 >> readRegions m) s 0 ≡ got regions place → readProofs (obligations m regions) s place ≡ got proofs next → finished s next ≡ got tt end → readCertificate m s 0 ≡ got (record { regions = regions; proofs = proofs }) end
+pub whole-certificate : (m : Model) (s : List ℕ) (regions : List Condition) (place next end : ℕ) (proofs : List Proof) → (header 2 >> readRegions m) s 0 ≡ got regions place → readProofs (obligations m regions) s place ≡ got proofs next → finished s next ≡ got tt end → readCertificate m s 0 ≡ got (record { regions = regions; proofs = proofs }) end
 unfolding readCertificate _>>_ give
 whole-certificate m s regions place next end proofs r p f =
     let h = passes (header 2 s 0) (λ v. readRegions m) s regions place r in
@@ -183,7 +182,7 @@ accepted-holds limits model second h =
     }
 
 -- and taken apart
-pub record Parts (m : Model) (s : List ℕ) (c : Certificate) : Type 0 where
+pub record CertificateParts (m : Model) (s : List ℕ) (c : Certificate) : Type 0 where
   pub place : ℕ
   pub next : ℕ
   pub end : ℕ
@@ -191,11 +190,11 @@ pub record Parts (m : Model) (s : List ℕ) (c : Certificate) : Type 0 where
   pub proofs : readProofs (obligations m (c .regions)) s place ≡ got (c .proofs) next
   pub finishes : finished s next ≡ got tt end
 
-parts-from : (m : Model) (s : List ℕ) (c : Certificate) (regions : List Condition) (proofs : List Proof) (place next end : ℕ) → (header 2 >> readRegions m) s 0 ≡ got regions place → readProofs (obligations m regions) s place ≡ got proofs next → finished s next ≡ got tt end → record { regions = regions; proofs = proofs } ≡ c → Parts m s c
+parts-from : (m : Model) (s : List ℕ) (c : Certificate) (regions : List Condition) (proofs : List Proof) (place next end : ℕ) → (header 2 >> readRegions m) s 0 ≡ got regions place → readProofs (obligations m regions) s place ≡ got proofs next → finished s next ≡ got tt end → record { regions = regions; proofs = proofs } ≡ c → CertificateParts m s c
 parts-from m s c regions proofs place next end r p f same =
-    subst (λ x. Parts m s x) same (record { place = place; next = next; end = end; regions = r; proofs = p; finishes = f })
+    subst (λ x. CertificateParts m s x) same (record { place = place; next = next; end = end; regions = r; proofs = p; finishes = f })
 
-pub parts-of : (m : Model) (s : List ℕ) (c : Certificate) (end : ℕ) → readCertificate m s 0 ≡ got c end → Parts m s c
+pub parts-of : (m : Model) (s : List ℕ) (c : Certificate) (end : ℕ) → readCertificate m s 0 ≡ got c end → CertificateParts m s c
 unfolding readCertificate _>>_ _>>=_ give
 parts-of m s c end e =
     let h = passes (header 2 s 0) (λ v. readRegions m >>= λ x. readProofs (obligations m x) >>= λ y. finished >> give (record { regions = x; proofs = y })) s c end e in

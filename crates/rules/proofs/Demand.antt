@@ -1,31 +1,30 @@
 -- Demand 3, whole: with an accepted certificate, no run that the model allows visits an unsafe state, at its start or after any step.
 -- The claim is about runs as specs/Runs.antt defines them from the model, and about the whole list of steps of each: any steps, any
 -- start, any values and times over any q of at least 1. Assumes nothing.
-use mathlib.Core.Path.{_≡_, refl, sym, ap, _∙_, subst}
+use mathlib.Core.Path.{_≡_, sym, _∙_, subst}
 use mathlib.Core.Bool.{Bool, true, false, cond}
 use mathlib.Core.List.{List, [], _∷_, List·Memᴰ}
-use Prim.Native.Nat.{ℕ, zero, suc, _-_, _^_, _≤_}
+use Prim.Native.Nat.{ℕ, zero, _-_, _^_, _≤_}
 use native.Mathlib.Omega.{arith}
 use lib.Dec.{T}
 use lib.ListN.{length}
 use Rattle.farkas.specs.Farkas.{Proof}
-use Rattle.farkas.proofs.All.{All, none, more}
-use Rattle.sheets.specs.Reading.{Got, got, Reader, _>>=_, _>>_, give, each, header}
-use Rattle.sheets.specs.Rows.{Condition}
-use Rattle.sheets.specs.Model.{Model}
-use Rattle.sheets.specs.ModelSheet.{Limits, readModel}
-use Rattle.sheets.specs.Certificate.{readRegions, readProof}
-use Rattle.sheets.proofs.Gives.{passes, got-value, gives-then}
-use Rattle.sheets.proofs.Members.{all-in}
-use Rattle.sheets.proofs.WellFormed.{WellFormed, well-formed, regions-give, GoodProof, proof-gives}
+use Rattle.farkas.specs.Lists.{All, none, more}
+use Rattle.formats.specs.Reading.{got, _>>=_, give, each, header}
+use Rattle.formats.specs.Rows.{Condition}
+use Rattle.formats.specs.Model.{Model}
+use Rattle.formats.specs.ModelSheet.{Limits, readModel}
+use Rattle.formats.proofs.Gives.{passes, got-value, gives-then}
+use Rattle.formats.proofs.Members.{all-in}
+use Rattle.formats.proofs.WellFormed.{WellFormed, well-formed, regions-give, proof-gives}
 use Rattle.rules.specs.Runs.{State, Run, visited, isUnsafe}
-use Rattle.rules.specs.Obligations.{Kind, Obligation, zeroOnly, obligations}
+use Rattle.rules.specs.Obligations.{Obligation, zeroOnly, obligations}
 use Rattle.rules.specs.Marking.{markCertificate, markRun}
-use Rattle.rules.specs.ReadWell.{readProofs, rowsOf, AllMeet, met-none, met-more, CertificateHolds}
-use Rattle.rules.proofs.Shown.{ShownBy, Shown}
+use Rattle.rules.specs.ReadWell.{readProofs, rowsOf, AllMeet}
+use Rattle.rules.proofs.Shown.{Shown}
 use Rattle.rules.proofs.Safety.{Regions, start-inside, steps-safe}
 use Rattle.rules.proofs.RunExactly.{run-exactly, run-of, run-unsafe}
-use Rattle.rules.proofs.CertificateExactly.{readOne, Parts, parts-of, meet-head, meet-tail, accepted-holds}
+use Rattle.rules.proofs.CertificateExactly.{readOne, parts-of, meet-head, meet-tail, accepted-holds}
 
 -- proofs that are read and meet the condition show their obligations
 zero-k : (unsafe : Bool) (k : ℕ) → k ≤ cond unsafe 0 (2 ^ 24 - 1) → T unsafe → k ≡ 0

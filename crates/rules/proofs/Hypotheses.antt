@@ -1,23 +1,21 @@
 -- The hypotheses of each kind of obligation hold at the point that a start, a flow, an unsafe state or a jump gives. Assumes nothing.
-use mathlib.Core.Path.{_≡_, refl, sym, ap, _∙_, subst}
-use mathlib.Core.Bool.{Bool, true, false, _&&_}
+use mathlib.Core.Path.{_≡_, sym, _∙_, subst}
 use mathlib.Core.List.{List, [], _∷_, _++_, map, append-nil}
-use Prim.Native.Nat.{ℕ, zero, suc, _+_, _*_, _≤_, _<_}
-use native.Mathlib.Omega.{arith}
-use lib.Dec.{T, eqb}
+use Prim.Native.Nat.{ℕ, _<_}
+use lib.Dec.{T}
 use lib.IntN.{ℤ, pos}
-use lib.ListN.{length, length-append}
+use lib.ListN.{length}
 use Rattle.farkas.specs.declared.Row.{Row}
-use Rattle.farkas.specs.Lists.{every}
+use Rattle.farkas.specs.Lists.{every, All, none, more}
 use Rattle.farkas.specs.Rows.{item, rowHolds}
-use Rattle.farkas.proofs.All.{All, none, more, all-append, all-map, all-at, every-all, all-every}
-use Rattle.sheets.specs.Rows.{SheetRow, Condition}
-use Rattle.sheets.specs.Model.{Mode, Switch, Component, Model}
-use Rattle.sheets.specs.Locations.{modesAt, modeOf}
-use Rattle.sheets.specs.Joint.{joinAll}
-use Rattle.sheets.proofs.WellFormed.{Wide, GoodMode, GoodSwitch, GoodComponent, WellFormed}
-use Rattle.rules.specs.Runs.{conditionHolds, present, modesIn, difference}
-use Rattle.rules.specs.Obligations.{Hypothesis, nowhere, standing, onX, onNext, onRates, timeRow, stayingRows, modeRows, startHypotheses, flowHypotheses, unsafeHypotheses, jumpHypotheses}
+use Rattle.farkas.proofs.All.{all-append, all-map, all-at, every-all, all-every}
+use Rattle.formats.specs.Rows.{Condition}
+use Rattle.formats.specs.Model.{Mode, Switch, Component}
+use Rattle.formats.specs.Locations.{modeOf}
+use Rattle.formats.specs.Joint.{joinAll}
+use Rattle.formats.proofs.WellFormed.{Wide, GoodMode, GoodComponent}
+use Rattle.rules.specs.Runs.{conditionHolds, present, difference}
+use Rattle.rules.specs.Obligations.{nowhere, standing, onX, onNext, onRates, stayingRows, modeRows, startHypotheses, flowHypotheses, unsafeHypotheses, jumpHypotheses}
 use Rattle.rules.proofs.Points.{on-x, on-next, on-rates, time-holds, staying-hold}
 use Rattle.rules.proofs.Shown.{Holding}
 

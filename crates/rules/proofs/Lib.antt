@@ -6,7 +6,13 @@ pub mod Safety
 pub mod MarkedRanges
 pub mod CertificateExactly
 pub mod RunExactly
+pub mod Outcomes
+pub mod Ranges
+pub mod HypothesesExactly
 pub mod Demand
+pub mod Between
 pub mod Rejected
 pub mod Movers
 pub mod Twelve
+pub mod PairPaper
+pub mod NotConstant

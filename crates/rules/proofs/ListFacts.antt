@@ -8,7 +8,7 @@ use native.Mathlib.Omega.{arith}
 use borrow.Author.Tests.{not-true, not-false}
 use lib.Dec.{T}
 use lib.ListN.{length, getD, length-append}
-use Rattle.sheets.specs.Joint.{countUp, joinAll}
+use Rattle.formats.specs.Joint.{countUp, joinAll}
 
 -- lists that are joined
 pub joined-few : {A B : Type 0} (f : A → List B) (b : ℕ) → ((a : A) → length (f a) ≤ b) → (xs : List A) → length (joinAll f xs) ≤ b * length xs

@@ -11,23 +11,23 @@ use lib.Dec.{leb, ltb, eqb}
 use lib.ListN.{length, getD}
 use borrow.Author.Tests.{leb-true, leb-false}
 use Rattle.farkas.specs.declared.Row.{Row}
-use Rattle.farkas.specs.Lists.{every}
+use Rattle.farkas.specs.Lists.{every, All, none, more}
 use Rattle.farkas.specs.Rows.{zeroRow}
 use Rattle.farkas.specs.Farkas.{Proof, farkasTest}
-use Rattle.farkas.proofs.All.{All, none, more, all-append, all-map, all-at}
-use Rattle.farkas.proofs.Test.{proof-only-three}
-use Rattle.sheets.specs.Reading.{Got, got, refused, _>>=_, _>>_, u8, u16, u32, within, below, andThen, give, here, header, finished}
-use Rattle.sheets.specs.Rows.{Condition}
-use Rattle.sheets.specs.Model.{Mode, Component, Unsafe, Model}
-use Rattle.sheets.specs.Locations.{locationCount, modesAt, modeOf}
-use Rattle.sheets.specs.Joint.{stays, switchOf, JointSwitch, joints, joinAll}
-use Rattle.sheets.specs.ModelSheet.{Limits, readModel}
-use Rattle.sheets.specs.Certificate.{readRegions}
-use Rattle.sheets.specs.RunSheet.{Step, Opening, readValues, readOpening}
-use Rattle.sheets.proofs.Gives.{Gives, passes, gives-bind, gives-then, gives-give, gives-any, gives-within}
-use Rattle.sheets.proofs.Placed.{Fine, placed-then, placed-within, placed-u16, placed-u32, placed-header, placed-finished, placed-regions, placed-proof, placed-opening, placed-step, model-fine}
-use Rattle.sheets.proofs.Members.{all-members}
-use Rattle.sheets.proofs.RowPlaces.{RowsWithin, ModeWithin, ComponentWithin, ModelWithin, rows-within, regions-within}
+use Rattle.farkas.proofs.All.{all-append, all-map, all-at}
+use Rattle.farkas.proofs.Promise.{only-three}
+use Rattle.formats.specs.Reading.{Got, got, refused, _>>=_, _>>_, u8, u16, u32, within, below, andThen, give, here, header, finished}
+use Rattle.formats.specs.Rows.{Condition}
+use Rattle.formats.specs.Model.{Mode, Component, Unsafe, Model}
+use Rattle.formats.specs.Locations.{locationCount, modesAt, modeOf}
+use Rattle.formats.specs.Joint.{stays, switchOf, JointSwitch, joints, joinAll}
+use Rattle.formats.specs.ModelSheet.{Limits, readModel}
+use Rattle.formats.specs.Certificate.{readRegions}
+use Rattle.formats.specs.RunSheet.{Step, Opening, readValues, readOpening}
+use Rattle.formats.proofs.Gives.{Gives, passes, gives-bind, gives-then, gives-give, gives-any, gives-within}
+use Rattle.formats.proofs.Placed.{Fine, placed-then, placed-within, placed-u16, placed-u32, placed-header, placed-finished, placed-regions, placed-proof, placed-opening, placed-step, model-fine}
+use Rattle.formats.proofs.Members.{all-members}
+use Rattle.formats.proofs.RowPlaces.{RowsWithin, ModeWithin, ComponentWithin, ModelWithin, rows-within, regions-within}
 use Rattle.rules.specs.declared.Answer.{Answer}
 use Rattle.rules.specs.Runs.{State, present, modesIn, startAllowed, movers, stayingVariables, stepAllowed, after, modesFit, isUnsafe}
 use Rattle.rules.specs.Obligations.{Hypothesis, nowhere, standing, onX, onNext, onRates, timeRow, stayingRows, modeRows, startHypotheses, flowHypotheses, unsafeHypotheses, jumpHypotheses, Kind, atStart, afterFlow, afterJump, Obligation, zeroOnly, perRow, startObligations, flowObligations, unsafeObligations, locationObligations, jumpObligations, jumpsObligations, obligationsOver, regionOf, obligations}
@@ -36,7 +36,7 @@ use Rattle.rules.specs.Beside.{listAnswer, Found, found, unfound, noObli
 use Rattle.rules.proofs.Hypotheses.{all-so, join-all}
 
 -- the fields of an answer on these two sheets, all but done, whose bound is each call's own
-pub record InRange (model second : List ℕ) (a : Answer) : Type 0 where
+pub record AnswerRange (model second : List ℕ) (a : Answer) : Type 0 where
   pub number : a .number ≤ 15
   pub sheet : a .sheet ≤ 2
   pub inModel : a .sheet ≡ 0 → a .place ≤ length model
@@ -71,7 +71,7 @@ marks-next s all done (refused number at) rest h j k = omega arith
 
 farkas-number : (hypotheses : List Row) (goal : Row) (p : Proof) → farkasTest hypotheses goal p ≤ 11
 farkas-number hypotheses goal p =
-    ⊎-elim (λ e. omega arith) (λ d. ⊎-elim (λ e. omega arith) (λ e. omega arith) d) (proof-only-three hypotheses goal p)
+    ⊎-elim (λ e. omega arith) (λ d. ⊎-elim (λ e. omega arith) (λ e. omega arith) d) (only-three hypotheses goal p)
 
 proof-judged : (o : Obligation) (s : List ℕ) (p : ℕ) (g : Got Proof) → p ≤ length s → Fine s p g → Judged s (testProof o p g)
 unfolding testProof
@@ -92,7 +92,7 @@ proofs-mark (o ∷ rest) s p done total h e =
 
 -- in range, with at most so many done
 abbrev Within : List ℕ → List ℕ → ℕ → Answer → Type 0
-Within model second most a = InRange model second a × (a .done ≤ most)
+Within model second most a = AnswerRange model second a × (a .done ≤ most)
 
 close-certificate : (model second : List ℕ) (total : ℕ) (k : Marked (Unit {0})) → Marks second total k → Within model second total (closeCertificate total second k)
 unfolding closeCertificate answer
@@ -121,7 +121,7 @@ pub data ProofsDone (limits : Limits) (model second : List ℕ) (done : ℕ) : T
   of-obligations : {m : Model} {modelEnd : ℕ} {regions : List Condition} {place : ℕ} → readModel limits model ≡ got m modelEnd → (header 2 >> readRegions m) second 0 ≡ got regions place → done ≤ length (obligations m regions) → ProofsDone limits model second done
 
 abbrev CertificateRange : Limits → List ℕ → List ℕ → Answer → Type 0
-CertificateRange limits model second a = InRange model second a × ProofsDone limits model second (a .done)
+CertificateRange limits model second a = AnswerRange model second a × ProofsDone limits model second (a .done)
 
 regions-marked : (limits : Limits) (model second : List ℕ) (m : Model) (modelEnd : ℕ) (g : Got (List Condition)) → readModel limits model ≡ got m modelEnd → (header 2 >> readRegions m) second 0 ≡ g → Fine second 0 g → CertificateRange limits model second (markRegions m second g)
 unfolding markRegions answer
@@ -138,7 +138,7 @@ certificate-ranges limits model second =
     (λ number at i j k. (omega arith, before-proofs refl))
     (λ m next e. regions-marked limits model second m next _ e refl (regions-fine m second))
 
-pub certificate-in-range : (limits : Limits) (model second : List ℕ) → InRange model second (markCertificate limits model second)
+pub certificate-in-range : (limits : Limits) (model second : List ℕ) → AnswerRange model second (markCertificate limits model second)
 certificate-in-range limits model second = certificate-ranges limits model second .0
 
 pub certificate-done : (limits : Limits) (model second : List ℕ) → ProofsDone limits model second (markCertificate limits model second .done)
@@ -211,7 +211,7 @@ pub data StepsDone (limits : Limits) (model second : List ℕ) (done : ℕ) : Ty
   of-opening : {m : Model} {modelEnd : ℕ} {o : Opening} {place : ℕ} → readModel limits model ≡ got m modelEnd → (header 3 >> readOpening m) second 0 ≡ got o place → done ≤ o .steps → StepsDone limits model second done
 
 abbrev RunRange : Limits → List ℕ → List ℕ → Answer → Type 0
-RunRange limits model second a = InRange model second a × StepsDone limits model second (a .done)
+RunRange limits model second a = AnswerRange model second a × StepsDone limits model second (a .done)
 
 opening-marked : (limits : Limits) (model second : List ℕ) (m : Model) (modelEnd : ℕ) (g : Got Opening) → readModel limits model ≡ got m modelEnd → (header 3 >> readOpening m) second 0 ≡ g → Fine second 0 g → RunRange limits model second (markOpening m second g)
 unfolding markOpening answer _>>_
@@ -235,7 +235,7 @@ run-ranges limits model second =
     (λ number at i j k. (omega arith, before-steps refl))
     (λ m next e. opening-marked limits model second m next _ e refl (opening-fine m second))
 
-pub run-in-range : (limits : Limits) (model second : List ℕ) → InRange model second (markRun limits model second)
+pub run-in-range : (limits : Limits) (model second : List ℕ) → AnswerRange model second (markRun limits model second)
 run-in-range limits model second = run-ranges limits model second .0
 
 pub run-done : (limits : Limits) (model second : List ℕ) → StepsDone limits model second (markRun limits model second .done)
@@ -260,7 +260,7 @@ pub record Needs (limits : Limits) (model : List ℕ) (lent : ℕ) (a : Answer) 
   pub short : lent < a .place
 
 pub record ListRange (limits : Limits) (model second : List ℕ) (lent : ℕ) (a : Answer) : Type 0 where
-  pub range : InRange model second a
+  pub range : AnswerRange model second a
   pub done : a .done ≤ lent
   pub needs : a .number ≡ 15 → Needs limits model lent a
 
@@ -281,7 +281,7 @@ list-in-range limits model second lent =
         }
 
 -- a hypothesis stands within the sheet that it names; one in no sheet has no bytes
-pub record Stands (model second : List ℕ) (h : Hypothesis) : Type 0 where
+pub record RowStands (model second : List ℕ) (h : Hypothesis) : Type 0 where
   pub sheet : h .sheet ≤ 2
   pub ends : h .place + h .size ≤ length (sheetOf model second (h .sheet))
 
@@ -290,15 +290,15 @@ all-either true h k = h
 all-either false h k = k
 
 module _ (model second : List ℕ) where
-  rows-stand : (sheet : ℕ) (put : Row → Row) {rows : Condition} → sheet ≤ 2 → RowsWithin (sheetOf model second sheet) rows → All (Stands model second) (map (standing sheet put) rows)
+  rows-stand : (sheet : ℕ) (put : Row → Row) {rows : Condition} → sheet ≤ 2 → RowsWithin (sheetOf model second sheet) rows → All (RowStands model second) (map (standing sheet put) rows)
   unfolding standing
   rows-stand sheet put h w = all-map (standing sheet put) (all-so (λ r k. record { sheet = h; ends = k }) w)
 
-  nowhere-stand : (rows : List Row) → All (Stands model second) (map nowhere rows)
+  nowhere-stand : (rows : List Row) → All (RowStands model second) (map nowhere rows)
   unfolding nowhere sheetOf
   nowhere-stand rows = all-map nowhere (all-members rows (λ r d. record { sheet = omega arith; ends = omega arith }))
 
-  modes-stand : (of : Mode → Condition) (put : Row → Row) {modes : List Mode} → All (λ mode. RowsWithin model (of mode)) modes → All (Stands model second) (modeRows of put modes)
+  modes-stand : (of : Mode → Condition) (put : Row → Row) {modes : List Mode} → All (λ mode. RowsWithin model (of mode)) modes → All (RowStands model second) (modeRows of put modes)
   unfolding modeRows sheetOf
   modes-stand of put w = join-all _ (all-so (λ mode k. rows-stand 0 put (omega arith) k) w)
 
@@ -320,9 +320,9 @@ module _ (model second : List ℕ) where
 
   -- every hypothesis of an obligation
   abbrev Standing : Obligation → Type 0
-  Standing o = All (Stands model second) (o .hypotheses)
+  Standing o = All (RowStands model second) (o .hypotheses)
 
-  per-row-standing : (kind : Kind) (subject : ℕ) {hypotheses : List Hypothesis} (put : Row → Row) (line : ℕ) (region : Condition) → All (Stands model second) hypotheses → All Standing (perRow kind subject hypotheses put line region)
+  per-row-standing : (kind : Kind) (subject : ℕ) {hypotheses : List Hypothesis} (put : Row → Row) (line : ℕ) (region : Condition) → All (RowStands model second) hypotheses → All Standing (perRow kind subject hypotheses put line region)
   unfolding perRow
   per-row-standing kind subject put line [] h = none
   per-row-standing kind subject put line (r ∷ region) h = more h (per-row-standing kind subject put (suc line) region h)
@@ -332,11 +332,11 @@ module _ (model second : List ℕ) where
     unfolding modesIn
     modes-at-within location = present-within (modesAt (m .components) location) (modelRows .components)
 
-    region-stands : (location : ℕ) → All (Stands model second) (map (standing 1 onX) (regionOf regions location))
+    region-stands : (location : ℕ) → All (RowStands model second) (map (standing 1 onX) (regionOf regions location))
     unfolding regionOf sheetOf
     region-stands location = rows-stand 1 onX (omega arith) (all-at [] none regionRows location)
 
-    invariants-stand : (put : Row → Row) (location : ℕ) → All (Stands model second) (modeRows (λ mode. mode .invariant) put (modesIn m location))
+    invariants-stand : (put : Row → Row) (location : ℕ) → All (RowStands model second) (modeRows (λ mode. mode .invariant) put (modesIn m location))
     invariants-stand put location = modes-stand _ put (all-so (λ mode w. w .invariant) (modes-at-within location))
 
     start-standing : (location : ℕ) → All Standing (startObligations m (regionOf regions) location)
@@ -392,16 +392,16 @@ module _ (model second : List ℕ) where
 
 -- what is found stands within its sheet, and so does the place of a refusal
 abbrev FoundWell : List ℕ → List ℕ → Found → Type 0
-FoundWell model second (found h) = Stands model second h
+FoundWell model second (found h) = RowStands model second h
 FoundWell model second (unfound number sheet place) = (number ≤ 9) × (sheet ≤ 2) × (place ≤ length (sheetOf model second sheet))
 
-in-sheet : (model second : List ℕ) (number sheet place : ℕ) → number ≤ 9 → sheet ≤ 2 → place ≤ length (sheetOf model second sheet) → InRange model second (answer number sheet place 0 0)
+in-sheet : (model second : List ℕ) (number sheet place : ℕ) → number ≤ 9 → sheet ≤ 2 → place ≤ length (sheetOf model second sheet) → AnswerRange model second (answer number sheet place 0 0)
 unfolding answer sheetOf
 in-sheet model second number zero place i j k = omega arith
 in-sheet model second number (suc zero) place i j k = omega arith
 in-sheet model second number (suc (suc sheet)) place i j k = omega arith
 
-answer-in-range : (model second : List ℕ) (f : Found) → FoundWell model second f → InRange model second (foundAnswer f)
+answer-in-range : (model second : List ℕ) (f : Found) → FoundWell model second f → AnswerRange model second (foundAnswer f)
 unfolding foundAnswer
 answer-in-range model second (found h) w = in-sheet model second 0 (h .sheet) (h .place) (omega arith) (w .sheet) (omega (arith, w .ends))
 answer-in-range model second (unfound number sheet place) w = in-sheet model second number sheet place (w .0) (w .1) (w .2)
@@ -436,10 +436,10 @@ module _ (limits : Limits) (model second : List ℕ) (o h : ℕ) where
           after-well m _ (rows-within limits model m next e) refl (regions-fine m second)
       go (refused number at) e x = omega arith
 
-  pub found-within : (x : Hypothesis) → findHypothesis limits model second o h ≡ found x → Stands model second x
+  pub found-within : (x : Hypothesis) → findHypothesis limits model second o h ≡ found x → RowStands model second x
   found-within x e = subst (FoundWell model second) e found-well
 
-  pub show-in-range : InRange model second (showAnswer limits model second o h)
+  pub show-in-range : AnswerRange model second (showAnswer limits model second o h)
   unfolding showAnswer
   show-in-range = answer-in-range model second (findHypothesis limits model second o h) found-well
 

@@ -9,13 +9,13 @@ use native.Mathlib.Omega.{arith}
 use lib.Dec.{T, ltb, eqb, ltb→lt}
 use lib.ListN.{length}
 use borrow.Author.Tests.{eq-eqb, ne-eqb}
-use Rattle.farkas.proofs.All.{All, none, more}
-use Rattle.sheets.specs.Model.{Switch, Component, hasEvent}
-use Rattle.sheets.specs.Joint.{stays, switchOf, leaves, moves, bit, moverCount, isJoint}
-use Rattle.sheets.specs.Counts.{memberCount}
-use Rattle.sheets.proofs.Gives.{and-left}
-use Rattle.sheets.proofs.JointCounts.{mask-members}
-use Rattle.sheets.proofs.JointList.{EachMoves, none-moves, member-moves, other-stays, all-members-move}
+use Rattle.farkas.specs.Lists.{All, none, more}
+use Rattle.formats.specs.Model.{Switch, Component, hasEvent}
+use Rattle.formats.specs.Joint.{stays, switchOf, leaves, moves, bit, moverCount, isJoint}
+use Rattle.formats.specs.Parts.{memberCount}
+use Rattle.formats.proofs.Gives.{and-left}
+use Rattle.formats.proofs.JointCounts.{mask-members}
+use Rattle.formats.proofs.JointList.{EachMoves, none-moves, member-moves, other-stays, all-members-move}
 use Rattle.rules.specs.Runs.{movers}
 use Rattle.rules.proofs.ListFacts.{is-true}
 

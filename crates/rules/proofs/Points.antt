@@ -10,7 +10,7 @@ use lib.ListN.{length, getD, set, replicate, length-append, length-set, length-m
 use lib.Signed.{_≤ℤ_}
 use Rattle.farkas.specs.declared.Row.{Row}
 use Rattle.farkas.specs.Rows.{item, dot, rowHolds}
-use Rattle.farkas.proofs.All.{All, none, more}
+use Rattle.farkas.specs.Lists.{All, none, more}
 use Rattle.farkas.proofs.Integers.{split, by-parts}
 use Rattle.rules.specs.Runs.{difference}
 use Rattle.rules.specs.Obligations.{onX, onNext, onRates, timeRow, unit, stayingRows}
@@ -95,7 +95,7 @@ pub on-x : (q : ℕ) (p rest : List ℤ) (r : Row) → length (r .coefficients) 
 unfolding onX
 on-x q p rest r h t = holds-by q (p ++ rest) r (rw (dot-first (r .coefficients) p rest h) (holds-so q p r t))
 
-length-zeros : (n : ℕ) → length (replicate n (pos 0)) ≡ n
+pub length-zeros : (n : ℕ) → length (replicate n (pos 0)) ≡ n
 length-zeros n = lib.ListN.length-replicate n (pos 0)
 
 dot-next : (n : ℕ) (p next rest : List ℤ) (r : Row) → length p ≡ n → length (r .coefficients) ≡ length next → dot (onNext n r .coefficients) (p ++ (next ++ rest)) ≡ dot (r .coefficients) next
@@ -116,11 +116,11 @@ unfolding onNext
 from-next n q p next rest r h k t = holds-by q next r (rw (← dot-next n p next rest r h k) (holds-so q (p ++ (next ++ rest)) (onNext n r) t))
 
 -- on rates
-dot-one : (a p : ℤ) → dot (a ∷ []) (p ∷ []) ≡ a *ℤ p
+pub dot-one : (a p : ℤ) → dot (a ∷ []) (p ∷ []) ≡ a *ℤ p
 unfolding dot
 dot-one a p = +ℤ-idr (a *ℤ p)
 
-dot-rates : (p next : List ℤ) (δ : ℕ) (r : Row) → length (r .coefficients) ≡ length p → length (r .coefficients) ≡ length next → dot (onRates r .coefficients) (p ++ (next ++ (pos δ ∷ []))) ≡ negℤ (dot (r .coefficients) p) +ℤ (dot (r .coefficients) next +ℤ negℤ (r .bound) *ℤ pos δ)
+pub dot-rates : (p next : List ℤ) (δ : ℕ) (r : Row) → length (r .coefficients) ≡ length p → length (r .coefficients) ≡ length next → dot (onRates r .coefficients) (p ++ (next ++ (pos δ ∷ []))) ≡ negℤ (dot (r .coefficients) p) +ℤ (dot (r .coefficients) next +ℤ negℤ (r .bound) *ℤ pos δ)
 unfolding onRates
 dot-rates p next δ r h k =
     dot-append (map negℤ (r .coefficients)) (r .coefficients ++ (negℤ (r .bound) ∷ [])) p (next ++ (pos δ ∷ [])) (length-map (r .coefficients) negℤ ∙ h)
@@ -157,7 +157,7 @@ length-unit : (n v : ℕ) (a : ℤ) → length (unit n v a) ≡ n
 unfolding unit
 length-unit n v a = length-set (replicate n (pos 0)) v a ∙ length-zeros n
 
-dot-units : (n v : ℕ) (a b : ℤ) (p next : List ℤ) → length p ≡ n → v < n → dot (unit n v a ++ unit n v b) (p ++ next) ≡ a *ℤ item p v +ℤ b *ℤ item next v
+pub dot-units : (n v : ℕ) (a b : ℤ) (p next : List ℤ) → length p ≡ n → v < n → dot (unit n v a ++ unit n v b) (p ++ next) ≡ a *ℤ item p v +ℤ b *ℤ item next v
 unfolding unit
 dot-units n v a b p next h l =
     dot-append (unit n v a) (unit n v b) p next (length-unit n v a ∙ sym h)

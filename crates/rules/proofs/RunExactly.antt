@@ -9,12 +9,12 @@ use native.Mathlib.Omega.{arith}
 use lib.Dec.{T}
 use lib.ListN.{length}
 use mir.Facts.{and-yes, yes-and}
-use Rattle.sheets.specs.Reading.{Got, got, refused, Reader, andThen, _>>=_, _>>_, give, passing, many, header, finished}
-use Rattle.sheets.specs.Model.{Model}
-use Rattle.sheets.specs.ModelSheet.{Limits, readModel}
-use Rattle.sheets.specs.RunSheet.{Step, Opening, readOpening, readStep}
-use Rattle.sheets.proofs.Gives.{got-value, got-next, passes, Tested, tested, gives-then}
-use Rattle.sheets.proofs.Placed.{Fine, placed-finished, model-fine}
+use Rattle.formats.specs.Reading.{Got, got, refused, Reader, andThen, _>>=_, _>>_, give, passing, many, header, finished}
+use Rattle.formats.specs.Model.{Model}
+use Rattle.formats.specs.ModelSheet.{Limits, readModel}
+use Rattle.formats.specs.RunSheet.{Step, Opening, readOpening, readStep}
+use Rattle.formats.proofs.Gives.{got-value, got-next, passes, Tested, tested, gives-then}
+use Rattle.formats.proofs.Placed.{Fine, placed-finished, model-fine}
 use Rattle.rules.specs.declared.Answer.{Answer}
 use Rattle.rules.specs.Runs.{State, startAllowed, stepAllowed, stepsAllowed, after, Run, visited, endOf, isUnsafe}
 use Rattle.rules.specs.Marking.{answer, Marked, passed, stopped, withModel, testStep, markStep, markSteps, closeRun, firstState, markOpening, markRun}
@@ -39,36 +39,36 @@ step-tested m q v place (got t next) = refl
 step-tested m q v place (refused number at) = refl
 
 -- steps that read well one after the other, and are allowed
-record Stepped (m : Model) (q : ℕ) (sheet : List ℕ) (v : State) (n place : ℕ) (end : State) (next : ℕ) : Type 0 where
-  steps : List Step
-  read : many n (readStep m) sheet place ≡ got steps next
-  allowed : T (stepsAllowed m q v steps)
-  ends : end ≡ endOf m v steps
+pub record Stepped (m : Model) (q : ℕ) (sheet : List ℕ) (v : State) (n place : ℕ) (end : State) (next : ℕ) : Type 0 where
+  pub steps : List Step
+  pub read : many n (readStep m) sheet place ≡ got steps next
+  pub allowed : T (stepsAllowed m q v steps)
+  pub ends : end ≡ endOf m v steps
 
 module _ (m : Model) (q : ℕ) (sheet : List ℕ) where
-  step-passed : (v : State) (place : ℕ) (t : Step) (next : ℕ) → markStep m q v sheet place ≡ got t next → Tested (stepAllowed m q v) (readStep m sheet place) t next
+  pub step-passed : (v : State) (place : ℕ) (t : Step) (next : ℕ) → markStep m q v sheet place ≡ got t next → Tested (stepAllowed m q v) (readStep m sheet place) t next
   unfolding markStep
   step-passed v place t next e = tested _ 13 place (readStep m sheet place) t next (sym (step-tested m q v place (readStep m sheet place)) ∙ e)
 
-  pass-step : (v : State) (place : ℕ) (t : Step) (next : ℕ) → readStep m sheet place ≡ got t next → T (stepAllowed m q v t) → markStep m q v sheet place ≡ got t next
+  pub pass-step : (v : State) (place : ℕ) (t : Step) (next : ℕ) → readStep m sheet place ≡ got t next → T (stepAllowed m q v t) → markStep m q v sheet place ≡ got t next
   unfolding markStep testStep
   pass-step v place t next e d = rw (e, is-true (stepAllowed m q v t) d)
 
-  many-more : (n place : ℕ) (t : Step) (mid : ℕ) (steps : List Step) (next : ℕ) → readStep m sheet place ≡ got t mid → many n (readStep m) sheet mid ≡ got steps next → many (suc n) (readStep m) sheet place ≡ got (t ∷ steps) next
+  pub many-more : (n place : ℕ) (t : Step) (mid : ℕ) (steps : List Step) (next : ℕ) → readStep m sheet place ≡ got t mid → many n (readStep m) sheet mid ≡ got steps next → many (suc n) (readStep m) sheet place ≡ got (t ∷ steps) next
   unfolding many give
   many-more n place t mid steps next e d = bind-got (readStep m) e _ ∙ bind-got (many n (readStep m)) d _
 
   -- a step that passes leads on, and one that does not stops the marking
-  steps-onward : (v : State) (n place done : ℕ) (t : Step) (mid : ℕ) → markStep m q v sheet place ≡ got t mid → markSteps m q v (suc n) sheet place done ≡ markSteps m q (after m v t) n sheet mid (suc done)
+  pub steps-onward : (v : State) (n place done : ℕ) (t : Step) (mid : ℕ) → markStep m q v sheet place ≡ got t mid → markSteps m q v (suc n) sheet place done ≡ markSteps m q (after m v t) n sheet mid (suc done)
   unfolding markSteps
   steps-onward v n place done t mid e = rw (e, markSteps)
 
-  steps-stop : (v : State) (n place done number at : ℕ) → markStep m q v sheet place ≡ refused number at → markSteps m q v (suc n) sheet place done ≡ stopped number at done
+  pub steps-stop : (v : State) (n place done number at : ℕ) → markStep m q v sheet place ≡ refused number at → markSteps m q v (suc n) sheet place done ≡ stopped number at done
   unfolding markSteps
   steps-stop v n place done number at e = rw (e, markSteps)
 
   -- steps that passed are read and allowed; steps that are read and allowed pass
-  steps-passed : (v : State) (n place done : ℕ) (end : State) (next count : ℕ) → markSteps m q v n sheet place done ≡ passed end next count → Stepped m q sheet v n place end next
+  pub steps-passed : (v : State) (n place done : ℕ) (end : State) (next count : ℕ) → markSteps m q v n sheet place done ≡ passed end next count → Stepped m q sheet v n place end next
   unfolding markSteps many give stepsAllowed endOf
   steps-passed v zero place done end next count e = record { steps = []; read = cc; allowed = tt; ends = cc }
   steps-passed v (suc n) place done end next count e =
@@ -89,7 +89,7 @@ module _ (m : Model) (q : ℕ) (sheet : List ℕ) where
           let z : _≡_ {A = ℕ} 0 1 = cc in
           absurd (omega arith)
 
-  pass-steps : (v : State) (n place done total : ℕ) (steps : List Step) (next : ℕ) → done + n ≡ total → many n (readStep m) sheet place ≡ got steps next → T (stepsAllowed m q v steps) → markSteps m q v n sheet place done ≡ passed (endOf m v steps) next total
+  pub pass-steps : (v : State) (n place done total : ℕ) (steps : List Step) (next : ℕ) → done + n ≡ total → many n (readStep m) sheet place ≡ got steps next → T (stepsAllowed m q v steps) → markSteps m q v n sheet place done ≡ passed (endOf m v steps) next total
   unfolding markSteps many give _>>=_ stepsAllowed endOf
   pass-steps v zero place done total steps next h e t =
       let c : done ≡ total = omega arith in
@@ -104,14 +104,14 @@ module _ (m : Model) (q : ℕ) (sheet : List ℕ) where
       ∙ ap₂ (λ l p. passed (endOf m v l) p total) f (got-next (x .second)))
 
 -- a run sheet reads well where its parts do, one after the other
-record Parts (m : Model) (second : List ℕ) (sheet : RunSheet) (end : ℕ) : Type 0 where
-  openingEnd : ℕ
-  opening : (header 3 >> readOpening m) second 0 ≡ got (sheet .opening) openingEnd
-  stepsEnd : ℕ
-  steps : many (sheet .opening .steps) (readStep m) second openingEnd ≡ got (sheet .steps) stepsEnd
-  finish : finished second stepsEnd ≡ got tt end
+pub record RunParts (m : Model) (second : List ℕ) (sheet : RunSheet) (end : ℕ) : Type 0 where
+  pub openingEnd : ℕ
+  pub opening : (header 3 >> readOpening m) second 0 ≡ got (sheet .opening) openingEnd
+  pub stepsEnd : ℕ
+  pub steps : many (sheet .opening .steps) (readStep m) second openingEnd ≡ got (sheet .steps) stepsEnd
+  pub finish : finished second stepsEnd ≡ got tt end
 
-parts-read : (m : Model) (second : List ℕ) (sheet : RunSheet) (end : ℕ) → Parts m second sheet end → readRunSheet m second 0 ≡ got sheet end
+pub parts-read : (m : Model) (second : List ℕ) (sheet : RunSheet) (end : ℕ) → RunParts m second sheet end → readRunSheet m second 0 ≡ got sheet end
 unfolding readRunSheet _>>_ give
 parts-read m second sheet end w =
     let h = passes (header 3 second 0) _ second (sheet .opening) (w .openingEnd) (w .opening) in
@@ -119,14 +119,14 @@ parts-read m second sheet end w =
     ∙ (bind-got (readOpening m) (h .second) _
     ∙ (bind-got (many (sheet .opening .steps) (readStep m)) (w .steps) _ ∙ then-got finished (w .finish) _))
 
-read-parts : (m : Model) (second : List ℕ) (sheet : RunSheet) (end : ℕ) → readRunSheet m second 0 ≡ got sheet end → Parts m second sheet end
+read-parts : (m : Model) (second : List ℕ) (sheet : RunSheet) (end : ℕ) → readRunSheet m second 0 ≡ got sheet end → RunParts m second sheet end
 unfolding readRunSheet _>>_ _>>=_ give
 read-parts m second sheet end e =
     let h = passes (header 3 second 0) _ second sheet end e in
     let o = passes (readOpening m second (h .place)) _ second sheet end (h .second) in
     let s = passes (many (o .value .steps) (readStep m) second (o .place)) _ second sheet end (o .second) in
     let f = passes (finished second (s .place)) _ second sheet end (s .second) in
-    subst₂ (Parts m second) (got-value (f .second)) (got-next (f .second))
+    subst₂ (RunParts m second) (got-value (f .second)) (got-next (f .second))
     (record {
       openingEnd = o .place;
       opening = then-got (header 3) (h .first) (readOpening m) ∙ o .first;
@@ -148,7 +148,7 @@ run-accepted limits model second h =
     rw (h .modelReads, w .opening, starts, k, w .finish, ends, markOpening, closeRun)
 
 -- an end with number 0: the steps passed, nothing is left, and the state is unsafe
-record Closed (m : Model) (q : ℕ) (second : List ℕ) (k : Marked State) : Type 0 where
+record RunClosed (m : Model) (q : ℕ) (second : List ℕ) (k : Marked State) : Type 0 where
   end : State
   place : ℕ
   done : ℕ
@@ -157,7 +157,7 @@ record Closed (m : Model) (q : ℕ) (second : List ℕ) (k : Marked State) : Typ
   finish : finished second place ≡ got tt next
   unsafe : T (isUnsafe m q end)
 
-run-closed : (m : Model) (q : ℕ) (second : List ℕ) (total : ℕ) (k : Marked State) → Marks second total k → closeRun m q second k .number ≡ 0 → Closed m q second k
+run-closed : (m : Model) (q : ℕ) (second : List ℕ) (total : ℕ) (k : Marked State) → Marks second total k → closeRun m q second k .number ≡ 0 → RunClosed m q second k
 unfolding closeRun answer
 run-closed m q second total (stopped number at done) w e = absurd (omega arith)
 run-closed m q second total (passed v place done) w e =
@@ -167,7 +167,7 @@ run-closed m q second total (passed v place done) w e =
     verdict true h = tt
     verdict false h = absurd (omega arith)
 
-    go : (g : Got (Unit {0})) → finished second place ≡ g → Fine second place g → (elim g as (λ x. Answer) [ got u next ↦ cond (isUnsafe m q v) (answer 0 1 (length second) done 100) (answer 14 1 (length second) done 0) | refused number at ↦ answer number 1 at done 0 ]) .number ≡ 0 → Closed m q second (passed v place done)
+    go : (g : Got (Unit {0})) → finished second place ≡ g → Fine second place g → (elim g as (λ x. Answer) [ got u next ↦ cond (isUnsafe m q v) (answer 0 1 (length second) done 100) (answer 14 1 (length second) done 0) | refused number at ↦ answer number 1 at done 0 ]) .number ≡ 0 → RunClosed m q second (passed v place done)
     go (got u next) d x h =
         record { end = v; place = place; done = done; next = next; steps = refl; finish = d; unsafe = verdict (isUnsafe m q v) h }
     go (refused number at) d x h = absurd (omega arith)

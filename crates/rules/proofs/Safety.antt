@@ -1,34 +1,32 @@
 -- Where all obligations of a model and its regions are shown, no run of the model visits an unsafe state. One induction over the run's
 -- list of steps: each state visited lies in a location, is admissible, and lies inside the location's region. Assumes nothing.
-use mathlib.Core.Path.{_≡_, refl, sym, ap, _∙_, subst}
-use mathlib.Core.Logic.{⊎-elim}
-use mathlib.Core.Bool.{Bool, true, false, not, _&&_, _||_}
-use mathlib.Core.List.{List, [], _∷_, _++_, map, append-nil}
-use Prim.Native.Nat.{ℕ, zero, suc, _+_, _*_, _-_, _≤_, _<_}
+use mathlib.Core.Path.{_≡_, sym, _∙_, subst}
+use mathlib.Core.Bool.{Bool, true, false, _&&_, _||_}
+use mathlib.Core.List.{List, [], _∷_, _++_, append-nil}
+use Prim.Native.Nat.{ℕ, _≤_, _<_}
 use native.Mathlib.Omega.{arith}
 use lib.Dec.{T, ltb, eqb, ltb→lt, eqb→eq}
 use lib.IntN.{ℤ, pos}
 use lib.ListN.{length, getD}
-use Rattle.farkas.specs.declared.Row.{Row}
-use Rattle.farkas.specs.Lists.{every, some}
-use Rattle.farkas.specs.Rows.{item, rowHolds, zeroRow}
+use Rattle.farkas.specs.Lists.{every, some, All, none, more}
+use Rattle.farkas.specs.Rows.{item, rowHolds}
 use Rattle.farkas.specs.Farkas.{sameZ}
-use Rattle.farkas.proofs.All.{All, none, more, all-at, every-all}
-use Rattle.farkas.proofs.Test.{same-means}
-use Rattle.sheets.specs.Rows.{SheetRow, Condition}
-use Rattle.sheets.specs.Model.{Mode, Component, Unsafe, Model}
-use Rattle.sheets.specs.Locations.{locationCount, modesAt, locationOf}
-use Rattle.sheets.specs.Joint.{stays, isJoint, modesAfter, numbersFrom}
-use Rattle.sheets.specs.RunSheet.{Step, flow, jump}
-use Rattle.sheets.proofs.Gives.{and-left, and-right}
-use Rattle.sheets.proofs.Members.{all-members, numbers-in}
-use Rattle.sheets.proofs.WellFormed.{Wide, GoodMode, GoodComponent, WellFormed}
-use Rattle.sheets.proofs.Locations.{HaveModes, modes-at, location-of}
-use Rattle.sheets.proofs.Joint.{jointFrom, joint-listed, joint-known, modes-after}
-use Rattle.rules.specs.Runs.{State, conditionHolds, modesIn, admissible, startAllowed, difference, ratesHold, stillAtZero, flowRule, movers, stayingVariables, stayingKept, jumpRows, jumpRule, after, ruleMet, stepAllowed, stepsAllowed, visited, modesFit, isUnsafe}
-use Rattle.rules.specs.Obligations.{clearOfUnsafe, onX, onNext, unsafeHypotheses, zeroOnly, regionOf, obligations}
+use Rattle.farkas.proofs.All.{all-at, every-all}
+use Rattle.farkas.proofs.Promise.{same-means}
+use Rattle.formats.specs.Rows.{Condition}
+use Rattle.formats.specs.Model.{Model}
+use Rattle.formats.specs.Locations.{locationCount, modesAt}
+use Rattle.formats.specs.Joint.{stays, isJoint}
+use Rattle.formats.specs.RunSheet.{Step, flow, jump}
+use Rattle.formats.proofs.Gives.{and-left, and-right}
+use Rattle.formats.proofs.Members.{all-members, numbers-in}
+use Rattle.formats.proofs.WellFormed.{Wide, GoodMode, WellFormed}
+use Rattle.formats.proofs.Locations.{HaveModes, modes-at, location-of}
+use Rattle.formats.proofs.Joint.{jointFrom, joint-listed, joint-known, modes-after}
+use Rattle.rules.specs.Runs.{State, conditionHolds, modesIn, admissible, startAllowed, ratesHold, stillAtZero, flowRule, movers, stayingVariables, stayingKept, jumpRows, jumpRule, after, ruleMet, stepAllowed, stepsAllowed, visited, modesFit, isUnsafe}
+use Rattle.rules.specs.Obligations.{onX, zeroOnly, regionOf, obligations}
 use Rattle.rules.proofs.Points.{from-next}
-use Rattle.rules.proofs.Shown.{ShownBy, Shown, Holding, shown-goal, shown-clear, at-start, at-flow, at-unsafe, at-jump}
+use Rattle.rules.proofs.Shown.{Shown, shown-goal, shown-clear, at-start, at-flow, at-unsafe, at-jump}
 use Rattle.rules.proofs.Hypotheses.{all-both, all-so, good-modes, hold-rows, start-hypotheses, unsafe-hypotheses, flow-hypotheses, jump-hypotheses}
 
 -- regions with rows as wide as there are variables

@@ -1,25 +1,24 @@
 -- Obligations that are shown: some proof meets Farkas' condition. Where an obligation's hypotheses hold, its goal does; an unsafe one's
 -- cannot. And where each obligation stands in the list of all. Assumes nothing.
-use mathlib.Core.Path.{_≡_, refl, sym, ap, _∙_, subst}
+use mathlib.Core.Path.{_≡_, refl, sym, subst}
 use mathlib.Core.Logic.{⊎-elim}
-use mathlib.Core.Bool.{Bool, true, false, _&&_}
+use mathlib.Core.Bool.{Bool, true, false}
 use mathlib.Core.List.{List, [], _∷_, _++_, map, List·Memᴰ, List·Memᴰ·not-nil, List·Memᴰ·cases-cons}
 use Prim.Native.Nat.{ℕ, zero, suc, _≤_, _<_}
 use native.Mathlib.Omega.{arith}
 use lib.Dec.{T, eqb}
 use lib.IntN.{ℤ}
-use lib.ListN.{length}
 use Rattle.farkas.specs.declared.Row.{Row}
-use Rattle.farkas.specs.Lists.{every}
+use Rattle.farkas.specs.Lists.{every, All, none, more}
 use Rattle.farkas.specs.Rows.{rowHolds, zeroRow}
 use Rattle.farkas.specs.Farkas.{Proof, Meets}
-use Rattle.farkas.proofs.All.{All, none, more, all-map}
-use Rattle.farkas.proofs.Soundness.{sound, sound-unsafe}
-use Rattle.sheets.specs.Rows.{SheetRow, Condition}
-use Rattle.sheets.specs.Model.{Unsafe, Model}
-use Rattle.sheets.specs.Locations.{locationCount, modesAt}
-use Rattle.sheets.specs.Joint.{JointSwitch, joints, countUp, joinAll}
-use Rattle.sheets.proofs.Members.{all-in, all-left, all-right, in-count}
+use Rattle.farkas.proofs.All.{all-map}
+use Rattle.farkas.proofs.Promise.{sound, sound-unsafe}
+use Rattle.formats.specs.Rows.{Condition}
+use Rattle.formats.specs.Model.{Unsafe, Model}
+use Rattle.formats.specs.Locations.{locationCount, modesAt}
+use Rattle.formats.specs.Joint.{JointSwitch, joints, countUp, joinAll}
+use Rattle.formats.proofs.Members.{all-in, all-left, all-right, in-count}
 use Rattle.rules.specs.Runs.{modesIn, modesFit, movers, stayingVariables}
 use Rattle.rules.specs.Obligations.{Hypothesis, Kind, atStart, afterFlow, clearOfUnsafe, afterJump, Obligation, zeroOnly, perRow, onX, onNext, startHypotheses, flowHypotheses, unsafeHypotheses, jumpHypotheses, startObligations, flowObligations, unsafeObligations, locationObligations, jumpObligations, jumpsObligations, obligationsOver, regionOf, obligations}
 

@@ -1,24 +1,20 @@
 -- Beside the marking (01): the joint list, show row and its sister. Assumes nothing.
-use mathlib.Core.Bool.{Bool, true, false, cond, _&&_}
-use mathlib.Core.List.{List, [], _∷_, _++_, map}
+use mathlib.Core.Bool.{true, false, cond, _&&_}
+use mathlib.Core.List.{List, [], _++_, map}
 use Prim.Native.Nat.{ℕ, zero, suc}
 use lib.Dec.{leb, ltb}
 use lib.ListN.{length, getD, take, drop}
 use Rattle.rules.specs.declared.Answer.{Answer}
 use Rattle.rules.specs.declared.Joint.{Joint}
 use Rattle.farkas.specs.Rows.{zeroRow}
-use Rattle.sheets.specs.Reading.{Got, got, refused, _>>_, header}
-use Rattle.sheets.specs.Rows.{Condition}
-use Rattle.sheets.specs.Model.{Model}
-use Rattle.sheets.specs.Joint.{JointSwitch, joints, stays}
-use Rattle.sheets.specs.ModelSheet.{Limits, readModel}
-use Rattle.sheets.specs.Certificate.{readRegions}
+use Rattle.formats.specs.Reading.{Got, got, refused, _>>_, header}
+use Rattle.formats.specs.Rows.{Condition}
+use Rattle.formats.specs.Model.{Model}
+use Rattle.formats.specs.Joint.{JointSwitch, joints, fourSwitches}
+use Rattle.formats.specs.ModelSheet.{Limits, readModel}
+use Rattle.formats.specs.Certificate.{readRegions}
 use Rattle.rules.specs.Obligations.{Hypothesis, nowhere, Obligation, afterFlow, obligations}
 use Rattle.rules.specs.Marking.{answer, withModel}
-
--- "four switch numbers (255 for a staying or absent component)"
-unfoldable pub fourSwitches : List ℕ → List ℕ
-fourSwitches switches = take 4 (switches ++ (stays ∷ stays ∷ stays ∷ stays ∷ []))
 
 -- "A record is the source location, event, four switch numbers .. and target location"
 unfoldable pub recordOf : JointSwitch → Joint

@@ -1,7 +1,10 @@
 pub mod Runs
+pub mod Between
 pub mod Obligations
 pub mod Marking
 pub mod ReadWell
+pub mod Outcomes
 pub mod Beside
 pub mod Program
 pub mod Papers
+pub mod PairPaper

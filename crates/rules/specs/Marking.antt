@@ -1,19 +1,18 @@
 -- Marking (01, Certificate, Run sheet and What is handed back): the five numbers for any two sheets. Assumes nothing.
-use mathlib.Core.Bool.{Bool, true, false, cond}
+use mathlib.Core.Bool.{true, false, cond}
 use mathlib.Core.List.{List, [], _∷_, map}
-use Prim.Native.Nat.{ℕ, zero, suc, _+_, _*_, _/_, min}
-use lib.Dec.{eqb}
+use Prim.Native.Nat.{ℕ, zero, suc, _*_, _/_, min}
 use lib.ListN.{length}
 use Rattle.rules.specs.declared.Answer.{Answer}
 use Rattle.farkas.specs.Farkas.{Proof, farkasTest}
-use Rattle.sheets.specs.Reading.{Reader, Got, got, refused, _>>_, _>>=_, header, finished}
-use Rattle.sheets.specs.Rows.{Condition}
-use Rattle.sheets.specs.Model.{Model}
-use Rattle.sheets.specs.ModelSheet.{Limits, readModel}
-use Rattle.sheets.specs.Certificate.{readRegions, readProof}
-use Rattle.sheets.specs.RunSheet.{Step, Opening, readOpening, readStep}
+use Rattle.formats.specs.Reading.{Reader, Got, got, refused, _>>_, header, finished}
+use Rattle.formats.specs.Rows.{Condition}
+use Rattle.formats.specs.Model.{Model}
+use Rattle.formats.specs.ModelSheet.{Limits, readModel}
+use Rattle.formats.specs.Certificate.{readRegions, readProof}
+use Rattle.formats.specs.RunSheet.{Step, Opening, readOpening, readStep}
 use Rattle.rules.specs.Runs.{State, startAllowed, stepAllowed, after, isUnsafe}
-use Rattle.rules.specs.Obligations.{Hypothesis, Obligation, zeroOnly, obligations}
+use Rattle.rules.specs.Obligations.{Obligation, zeroOnly, obligations}
 
 unfoldable pub answer : ℕ → ℕ → ℕ → ℕ → ℕ → Answer
 answer number sheet place done score =

@@ -1,5 +1,5 @@
 -- The obligations of a certificate (01, Certificate), in order, each with its hypotheses in order and its goal. Assumes nothing.
-use mathlib.Core.Bool.{Bool, true, false, cond}
+use mathlib.Core.Bool.{Bool, true, false}
 use mathlib.Core.List.{List, [], _∷_, _++_, map}
 use Prim.Native.Nat.{ℕ, suc, _+_, _*_}
 use lib.Dec.{eqb}
@@ -8,10 +8,10 @@ use lib.ListN.{length, getD, set, replicate}
 use Rattle.farkas.specs.declared.Row.{Row}
 use Rattle.farkas.specs.Lists.{every}
 use Rattle.farkas.specs.Rows.{zeroRow}
-use Rattle.sheets.specs.Rows.{SheetRow, Condition}
-use Rattle.sheets.specs.Model.{Mode, Switch, Unsafe, Model}
-use Rattle.sheets.specs.Locations.{locationCount, modesAt}
-use Rattle.sheets.specs.Joint.{JointSwitch, joints, countUp, joinAll}
+use Rattle.formats.specs.Rows.{SheetRow, Condition}
+use Rattle.formats.specs.Model.{Mode, Switch, Unsafe, Model}
+use Rattle.formats.specs.Locations.{locationCount, modesAt}
+use Rattle.formats.specs.Joint.{JointSwitch, joints, countUp, joinAll}
 use Rattle.rules.specs.Runs.{modesIn, movers, stayingVariables, modesFit}
 
 -- a hypothesis: its row over the obligation's unknowns, and where its bytes stand: sheet 0 is the model, 1 the certificate, and

@@ -4,8 +4,8 @@ use Prim.Native.Nat.{ℕ}
 use lib.ListN.{set, take}
 
 -- a row of one coefficient and its bound, by their last bytes: where both are from 0 to 255, and where both are from −256 to −1
-unfoldable pub up : ℕ → ℕ → List ℕ
-up a b = 0 ∷ 0 ∷ 0 ∷ a ∷ 0 ∷ 0 ∷ 0 ∷ b ∷ []
+unfoldable pub upperRow : ℕ → ℕ → List ℕ
+upperRow a b = 0 ∷ 0 ∷ 0 ∷ a ∷ 0 ∷ 0 ∷ 0 ∷ b ∷ []
 
 unfoldable pub down : ℕ → ℕ → List ℕ
 down a b = 255 ∷ 255 ∷ 255 ∷ a ∷ 255 ∷ 255 ∷ 255 ∷ b ∷ []
@@ -15,12 +15,12 @@ down a b = 255 ∷ 255 ∷ 255 ∷ a ∷ 255 ∷ 255 ∷ 255 ∷ b ∷ []
 unfoldable pub tUntil : List ℕ
 tUntil =
     (0 ∷ 64 ∷ 1 ∷ 1 ∷ 1 ∷ 1 ∷ 1 ∷ 0 ∷ 0 ∷ 0 ∷ 1 ∷ 0 ∷ 1 ∷ 2 ∷ [])
-    ++ (up 1 5
+    ++ (upperRow 1 5
     ++ (down 255 251
     ++ ((1 ∷ [])
-    ++ (up 1 10
+    ++ (upperRow 1 10
     ++ ((2 ∷ [])
-    ++ (up 1 2
+    ++ (upperRow 1 2
     ++ ((255 ∷ 255 ∷ 255 ∷ 255 ∷ 0 ∷ 0 ∷ 0 ∷ 0 ∷ [])
     ++ (0 ∷ 1 ∷ []))))))))
 
@@ -42,7 +42,7 @@ one = 0 ∷ 0 ∷ 0 ∷ 1 ∷ []
 unfoldable pub c : List ℕ
 c =
     (0 ∷ 47 ∷ 1 ∷ 2 ∷ 1 ∷ 1 ∷ [])
-    ++ (up 1 10
+    ++ (upperRow 1 10
     ++ (one ++ ((1 ∷ 2 ∷ []) ++ (one
     ++ (one ++ ((1 ∷ 2 ∷ []) ++ (one
     ++ ((0 ∷ 0 ∷ 0 ∷ 0 ∷ 2 ∷ 0 ∷ []) ++ (one ++ ((2 ∷ []) ++ one))))))))))
@@ -65,4 +65,4 @@ still x = 0 ∷ 13 ∷ 1 ∷ 3 ∷ 0 ∷ 0 ∷ 0 ∷ 1 ∷ 0 ∷ 0 ∷ 0 ∷ 0 �
 
 unfoldable pub flowing : ℕ → ℕ → ℕ → List ℕ
 flowing x δ next =
-    (0 ∷ 22 ∷ 1 ∷ 3 ∷ 0 ∷ 0 ∷ 0 ∷ 1 ∷ 0 ∷ 1 ∷ 0 ∷ 0 ∷ 0 ∷ 0 ∷ x ∷ []) ++ (0 ∷ up δ next)
+    (0 ∷ 22 ∷ 1 ∷ 3 ∷ 0 ∷ 0 ∷ 0 ∷ 1 ∷ 0 ∷ 1 ∷ 0 ∷ 0 ∷ 0 ∷ 0 ∷ x ∷ []) ++ (0 ∷ upperRow δ next)

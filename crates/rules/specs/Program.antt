@@ -5,9 +5,9 @@ use Prim.Native.Nat.{ℕ, zero, suc, _+_, _/_, _%_}
 use lib.Dec.{ltb, leb, eqb}
 use lib.ListN.{length, getD, take, drop}
 use Rattle.rules.specs.declared.Answer.{Answer}
-use Rattle.sheets.specs.Reading.{bigEndian}
-use Rattle.sheets.specs.ModelSheet.{examLimits}
-use Rattle.rules.specs.Marking.{answer, markCertificate, markRun}
+use Rattle.formats.specs.Reading.{bigEndian}
+use Rattle.formats.specs.ModelSheet.{examLimits}
+use Rattle.rules.specs.Marking.{markCertificate, markRun}
 
 -- "Lines: `SAFE done`, `UNSAFE done`, `REFUSED number sheet place done score`"
 pub data Line : Type 0 where

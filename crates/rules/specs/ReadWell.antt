@@ -7,14 +7,14 @@ use lib.Dec.{T}
 use lib.ListN.{length}
 use Rattle.farkas.specs.declared.Row.{Row}
 use Rattle.farkas.specs.Farkas.{Proof, Meets}
-use Rattle.sheets.specs.Reading.{Reader, Got, got, _>>=_, _>>_, give, many, each, header, finished}
-use Rattle.sheets.specs.Rows.{Condition}
-use Rattle.sheets.specs.Model.{Model}
-use Rattle.sheets.specs.ModelSheet.{Limits, readModel}
-use Rattle.sheets.specs.Certificate.{readRegions, readProof}
-use Rattle.sheets.specs.RunSheet.{Step, Opening, readOpening, readStep}
-use Rattle.rules.specs.Runs.{State, startAllowed, stepsAllowed, endOf, isUnsafe}
-use Rattle.rules.specs.Obligations.{Hypothesis, Obligation, zeroOnly, obligations}
+use Rattle.formats.specs.Reading.{Reader, got, _>>=_, _>>_, give, many, each, header, finished}
+use Rattle.formats.specs.Rows.{Condition}
+use Rattle.formats.specs.Model.{Model}
+use Rattle.formats.specs.ModelSheet.{Limits, readModel}
+use Rattle.formats.specs.Certificate.{readRegions, readProof}
+use Rattle.formats.specs.RunSheet.{Step, Opening, readOpening, readStep}
+use Rattle.rules.specs.Runs.{startAllowed, stepsAllowed, endOf, isUnsafe}
+use Rattle.rules.specs.Obligations.{Obligation, zeroOnly, obligations}
 use Rattle.rules.specs.Marking.{firstState}
 
 -- a certificate: regions, then a proof per obligation

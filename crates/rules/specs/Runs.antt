@@ -1,7 +1,7 @@
 -- Runs of a model (01, Runs): states, steps, the runs that a model allows, the states that a run visits, and unsafe states.
 -- Each rule is a test that computes; a run's rules are the tests passed. Assumes nothing.
 use mathlib.Core.Bool.{Bool, true, false, not, _&&_, _||_}
-use mathlib.Core.List.{List, [], _∷_, _++_, map}
+use mathlib.Core.List.{List, [], _∷_, _++_}
 use Prim.Native.Nat.{ℕ, _≤_}
 use lib.Dec.{T, ltb, eqb}
 use lib.IntN.{ℤ, _-ℤ_}
@@ -9,11 +9,11 @@ use lib.ListN.{length, getD}
 use Rattle.farkas.specs.Lists.{every, some}
 use Rattle.farkas.specs.Rows.{item, rowHolds}
 use Rattle.farkas.specs.Farkas.{sameZ}
-use Rattle.sheets.specs.Rows.{SheetRow, Condition}
-use Rattle.sheets.specs.Model.{Mode, Switch, Component, Unsafe, Model}
-use Rattle.sheets.specs.Locations.{locationCount, modesAt, locationOf, modeOf}
-use Rattle.sheets.specs.Joint.{stays, switchOf, isJoint, modesAfter, numbersFrom}
-use Rattle.sheets.specs.RunSheet.{Step, flow, jump}
+use Rattle.formats.specs.Rows.{Condition}
+use Rattle.formats.specs.Model.{Mode, Switch, Component, Model}
+use Rattle.formats.specs.Locations.{locationCount, modesAt, locationOf, modeOf}
+use Rattle.formats.specs.Joint.{stays, switchOf, isJoint, modesAfter, numbersFrom}
+use Rattle.formats.specs.RunSheet.{Step, flow, jump}
 
 -- "a state is whole numbers p over a whole q of at least 1, and one q serves a run"; a state stands in a location
 pub record State : Type 0 where
@@ -137,9 +137,10 @@ unfoldable pub endOf : Model → State → List Step → State
 endOf m s [] = s
 endOf m s (t ∷ steps) = endOf m (after m s t) steps
 
--- "a mode or 255 for any"
+-- "a mode or 255 for any", one byte per component: lists of unequal length do not fit
 unfoldable pub modesFit : List ℕ → List ℕ → Bool
-modesFit [] modes = true
+modesFit [] [] = true
+modesFit [] (mode ∷ modes) = false
 modesFit (u ∷ asked) [] = false
 modesFit (u ∷ asked) (mode ∷ modes) = (eqb u 255 || eqb u mode) && modesFit asked modes
 

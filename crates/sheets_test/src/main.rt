@@ -1,24 +1,27 @@
 // Reads papers from standard input and writes what reading each gives: its label, the refusal's number, or 0, and the place of the
 // refusal, or where reading ended. tests/sheet_papers.py writes the papers, and says what must be written for each.
 // A paper: the label's length and the label, a kind, three arguments, the sheet's length in two bytes, and the sheet.
+use fields::Field;
+use fields::Next;
+use fields::header::header;
 use libc::STDIN_FILENO;
 use libc::STDOUT_FILENO;
-use sheets::EntryRead;
-use sheets::Field;
-use sheets::HeadRead;
-use sheets::Next;
-use sheets::OpeningRead;
-use sheets::StepRead;
-use sheets::certificate::entry;
-use sheets::certificate::proof_head;
-use sheets::certificate::read_regions;
-use sheets::header::header;
-use sheets::joints::location_count;
-use sheets::run::opening;
-use sheets::run::step;
-use sheets::sheet::read_model;
+use model_sheets::joints::location_count;
+use model_sheets::sheet::read_model;
+use models::layout::Index;
+use models::layout::VARIABLES_AT;
+use second_sheets::EntryRead;
+use second_sheets::HeadRead;
+use second_sheets::OpeningRead;
+use second_sheets::StepRead;
+use second_sheets::certificate::entry;
+use second_sheets::certificate::proof_head;
+use second_sheets::certificate::read_regions;
+use second_sheets::ranges::REGIONS_LENGTH;
+use second_sheets::run::opening;
+use second_sheets::run::step;
 ghost use Prim.Native.Nat.{_^_, _<_};
-ghost use Rattle.sheets.specs.Index.{GoodIndex};
+ghost use Rattle.models.specs.Index.{GoodIndex};
 
 // Writes a number and a place.
 fn answer(number: u32, place: usize) {
@@ -45,18 +48,18 @@ fn try_model(s: &[u8]) {
 }
 
 // Reads a certificate's header and regions.
-fn try_regions(model: &[u8], index: &[u16; 988], s: &[u8])
+fn try_regions(model: &[u8], index: &Index, s: &[u8])
     requires { ⌜ GoodIndex (now model) (now index) ⌝ }
 {
     match header(s, 2) {
         Field::Refused(number, place) => answer(number, place),
         Field::Value(_, at) => {
-            let n = index[0] as usize;
+            let n = index[VARIABLES_AT] as usize;
             let locations = location_count(model, index);
             if s.len() > 32768 || n > 8 || locations > 64 {
                 return;
             }
-            let mut regions = [0u16; 128];
+            let mut regions = [0u16; REGIONS_LENGTH];
             answer_next(read_regions(s, at, n, locations, &mut regions));
         }
     }
@@ -79,7 +82,7 @@ fn try_entry(s: &[u8], at: usize, hypotheses: u32, least: u32) {
 }
 
 // Reads a run's header and opening.
-fn try_opening(model: &[u8], index: &[u16; 988], s: &[u8])
+fn try_opening(model: &[u8], index: &Index, s: &[u8])
     requires { ⌜ GoodIndex (now model) (now index) ⌝ }
 {
     match header(s, 3) {
@@ -97,7 +100,7 @@ fn try_opening(model: &[u8], index: &[u16; 988], s: &[u8])
 }
 
 // Reads a step of a run.
-fn try_step(model: &[u8], index: &[u16; 988], s: &[u8], at: usize)
+fn try_step(model: &[u8], index: &Index, s: &[u8], at: usize)
     requires { ⌜ GoodIndex (now model) (now index) ⌝ }
 {
     let read = step(model, index, s, at);

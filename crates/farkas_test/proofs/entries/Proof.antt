@@ -2,7 +2,7 @@
 use Prim.Native.Nat.{_+_, _*_, _-_, _^_, _≤_}
 use native.Mathlib.Omega.{arith}
 use Rattle.farkas.specs.Sizes.{Within}
-use Rattle.farkas.proofs.Sizes.{wider, room, grown}
+use Rattle.farkas.proofs.Promise.{wider, room, grown}
 use Rattle.farkas_test.proofs.entries.Statement.{statement}
 use Rattle.farkas_test.proofs.entries.Tie as tie
 

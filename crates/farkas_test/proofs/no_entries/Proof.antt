@@ -6,7 +6,7 @@ use lib.Dec.{lit≤}
 use Rattle.farkas.specs.Rows.{noSums}
 use Rattle.farkas.specs.Lists.{every}
 use Rattle.farkas.specs.Farkas.{sameZ, coefficientsAgree, boundPasses, sumsTest}
-use Rattle.farkas.proofs.Sizes.{wider}
+use Rattle.farkas.proofs.Promise.{wider}
 use Rattle.farkas_test.proofs.no_entries.Statement.{statement}
 use Rattle.farkas_test.proofs.no_entries.Tie as tie
 

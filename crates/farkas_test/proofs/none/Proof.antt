@@ -1,6 +1,6 @@
 -- The sums of no entries are all 0.
 use borrow.Author.Needs.{needs}
-use Rattle.farkas.proofs.Sizes.{none-within}
+use Rattle.farkas.proofs.Promise.{none-within}
 use Rattle.farkas_test.proofs.none.Statement.{statement}
 use Rattle.farkas_test.proofs.none.Tie as tie
 

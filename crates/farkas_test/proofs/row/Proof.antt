@@ -7,7 +7,7 @@ use mir.Syntax.{w64}
 use mir.Val.{toZ, ofZ}
 use Rattle.farkas.specs.Rows.{item}
 use Rattle.farkas.proofs.Bits.{read-size}
-use Rattle.farkas.proofs.Sizes.{zeros-within, set-within}
+use Rattle.farkas.proofs.Promise.{zeros-within, set-within}
 use borrow.Author.Needs.{needs}
 use Rattle.farkas_test.proofs.row.Statement.{statement}
 use Rattle.farkas_test.proofs.row.Tie as tie

@@ -2,13 +2,13 @@
 use mathlib.Core.Path.{_≡_}
 use mathlib.Core.List.{List}
 use Prim.Native.Nat.{ℕ}
-use Rattle.sheets.specs.declared.Next.{Next}
-use Rattle.sheets.specs.declared.Next.the-variants as next
-use Rattle.sheets.specs.Index.{modelFrom, GoodIndex}
-use Rattle.sheets.specs.Answers.{gotAs}
-use Rattle.sheets.specs.ModelSheet.{examLimits, readModel}
-use Rattle.sheets.proofs.GoodIndexLaws.{index-good}
-use Rattle.sheets.proofs.ChainLaws.{told-at}
+use Rattle.fields.specs.declared.Next.{Next}
+use Rattle.fields.specs.declared.Next.the-variants as next
+use Rattle.models.specs.Index.{modelFrom, GoodIndex}
+use Rattle.fields.specs.Answers.{gotAs}
+use Rattle.formats.specs.ModelSheet.{examLimits, readModel}
+use Rattle.models.proofs.GoodIndexLaws.{index-good}
+use Rattle.fields.proofs.ChainLaws.{told-at}
 use borrow.Author.Needs.{needs}
 use Rattle.sheets_test.proofs.try_beside.Statement.{statement}
 use Rattle.sheets_test.proofs.try_beside.Tie as tie

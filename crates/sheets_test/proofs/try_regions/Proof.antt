@@ -1,7 +1,7 @@
 -- The index of a model has at most 8 variables. Assumes nothing.
 use native.Mathlib.Omega.{arith}
 use borrow.Author.Needs.{needs}
-use Rattle.sheets.specs.Index.{entry}
+use Rattle.models.specs.Index.{entry}
 use Rattle.sheets_test.proofs.try_regions.Statement.{statement}
 use Rattle.sheets_test.proofs.try_regions.Tie as tie
 

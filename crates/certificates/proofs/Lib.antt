@@ -1,0 +1,4 @@
+pub mod MarkLaws
+pub mod MarkLoops
+pub mod JointMarks
+pub mod CloseLaws

@@ -1,0 +1,254 @@
+-- Marking, proof by proof: what one proof passed or failed does to the whole, and how far reading has come. Assumes nothing.
+use mathlib.Core.Path.{_≡_, refl, sym, ap, ap₂, _∙_, subst}
+use mathlib.Core.Bool.{Bool, true, false, cond}
+use mathlib.Core.List.{List, [], _∷_, _++_, map}
+use Prim.Native.Nat.{ℕ, zero, suc, _+_, _*_, _-_, _≤_, _<_}
+use native.Mathlib.Numerals.{add-one}
+use native.Mathlib.Omega.{arith}
+use lib.Dec.{leb}
+use lib.ListN.{length, getD, drop, take, replicate, length-map, length-replicate}
+use borrow.Author.Tests.{leb-true}
+use Rattle.farkas.specs.declared.Row.{Row}
+use Rattle.farkas.specs.Rows.{zeroRow, noSums}
+use Rattle.farkas.specs.Farkas.{Proof, farkasTest, summed}
+use Rattle.farkas.proofs.Promise.{alike-refl, alike-padded, alike-test}
+use Rattle.fields.specs.declared.Next.{Next}
+use Rattle.fields.specs.declared.Next.the-variants as next
+use Rattle.formats.specs.Reading.{Got, got, refused, _>>=_, bigEndian, give, field, u8, u32, must, within}
+use Rattle.formats.specs.Rows.{SheetRow}
+use Rattle.fields.specs.Places.{rowAt, rowsFrom}
+use Rattle.formats.specs.Certificate.{readEntries, readProof}
+use Rattle.formats.proofs.Gives.{passes, tested, got-next}
+use Rattle.formats.proofs.Placed.{Fine, Placed, placed-bind, placed-give, placed-within, placed-u8, placed-entries}
+use Rattle.rules.specs.Obligations.{Obligation, zeroOnly, onNext}
+use Rattle.rules.specs.Marking.{Marked, passed, stopped, testProof, markProof, markProofs}
+use Rattle.hypotheses.specs.Tables.{padded, hypothesesFrom, hypothesisRows, testWith, markWith}
+use Rattle.papers.specs.Paper.{heldNext}
+use Rattle.hypotheses.specs.Listing.{Task, noTask, taskOf, tasks, tasksFrom, tasksOf, goalsOf, markTask, markTasks}
+use Rattle.certificates.specs.Passed.{standsAt}
+use Rattle.hypotheses.specs.declared.Group.{Group}
+use Rattle.formats.proofs.JointCounts.{mapped-at}
+use Rattle.fields.proofs.ConditionLaws.{length-rows}
+use Rattle.rules.proofs.MarkedRanges.{Marks}
+
+-- a goal as the code holds it
+padded-test : (rows : List Row) (goal : Row) (x : Proof) → farkasTest rows (padded goal) x ≡ farkasTest rows goal x
+unfolding farkasTest padded
+padded-test rows goal x =
+    alike-test (x .k) (alike-refl (summed rows (x .entries))) (alike-padded (17 - length (goal .coefficients)) (goal .coefficients) (goal .bound))
+
+padded-tested : (rows : List Row) (goal : Row) (p : ℕ) (g : Got Proof) → testWith rows (padded goal) p g ≡ testWith rows goal p g
+unfolding testWith
+padded-tested rows goal p (refused number at) = refl
+padded-tested rows goal p (got x after) = ap (λ (n : ℕ). elim n [ zero ↦ got x after | suc k ↦ refused (suc k) p ]) (padded-test rows goal x)
+
+pub mark-padded : (rows : List Row) (zeroK : Bool) (goal : Row) (s : List ℕ) (p : ℕ) → markWith rows zeroK (padded goal) s p ≡ markWith rows zeroK goal s p
+unfolding markWith
+mark-padded rows zeroK goal s p = padded-tested rows goal p (readProof (length rows) zeroK s p)
+
+-- obligations are marked as what they have to prove
+same-test : (o : Obligation) (p : ℕ) (g : Got Proof) → testProof o p g ≡ testWith (hypothesisRows (o .hypotheses)) (o .goal) p g
+unfolding testProof testWith hypothesisRows
+same-test o p (refused number at) = refl
+same-test o p (got x after) = refl
+
+mark-task : (o : Obligation) (s : List ℕ) (p : ℕ) → markProof o s p ≡ markWith (hypothesisRows (o .hypotheses)) (zeroOnly (o .kind)) (o .goal) s p
+unfolding markProof markWith hypothesisRows
+mark-task o s p =
+    same-test o p (readProof (length (o .hypotheses)) (zeroOnly (o .kind)) s p)
+    ∙ ap (λ (n : ℕ). testWith (hypothesisRows (o .hypotheses)) (o .goal) p (readProof n (zeroOnly (o .kind)) s p)) (sym (length-map (o .hypotheses) (λ h. h .row)))
+
+pub mark-tasks : (os : List Obligation) (s : List ℕ) (p d : ℕ) → markProofs os s p d ≡ markTasks (tasks os) s p d
+unfolding markProofs markTasks markTask tasks taskOf
+mark-tasks [] s p d = refl
+mark-tasks (o ∷ rest) s p d =
+    both (markProof o s p) (λ after. mark-tasks rest s after (suc d))
+    ∙ ap (λ (g : Got Proof). elim g [ got x after ↦ markTasks (tasks rest) s after (suc d) | refused number at ↦ stopped number at d ]) (mark-task o s p)
+  where
+    both : (g : Got Proof) → ((after : ℕ) → markProofs rest s after (suc d) ≡ markTasks (tasks rest) s after (suc d)) → _≡_ {A = Marked (Unit {0})} (elim g [ got x after ↦ markProofs rest s after (suc d) | refused number at ↦ stopped number at d ]) (elim g [ got x after ↦ markTasks (tasks rest) s after (suc d) | refused number at ↦ stopped number at d ])
+    both (got x after) r = r after
+    both (refused number at) r = refl
+
+-- a proof that passed, and one that failed
+abbrev placeOf : Next → ℕ
+placeOf (next.At p) = p
+placeOf (next.Refused number p) = p
+
+abbrev numberOf : Next → ℕ
+numberOf (next.At p) = 0
+numberOf (next.Refused number p) = suc number
+
+pub record Went {A : Type 0} (g : Got A) (p : ℕ) : Type 0 where
+  pub value : A
+  pub here : g ≡ got value p
+
+pub went : {A : Type 0} (g : Got A) (p : ℕ) → heldNext g ≡ next.At p → Went g p
+unfolding heldNext
+went (got a q) p e = record { value = a; here = ap (got a) (ap placeOf e) }
+went (refused number place) p e = let z : suc number ≡ 0 = ap numberOf e in absurd (omega (arith, z))
+
+pub stopped-at : {A : Type 0} (g : Got A) (number p : ℕ) → heldNext g ≡ next.Refused number p → g ≡ refused number p
+unfolding heldNext
+stopped-at (got a q) number p e = let z : 0 ≡ suc number = ap numberOf e in absurd (omega (arith, z))
+stopped-at (refused n q) number p e =
+    let a : suc n ≡ suc number = ap numberOf e in
+    let b : n ≡ number = omega (arith, a) in
+    ap₂ (λ (i j : ℕ). refused i j) b (ap placeOf e)
+
+pub task-passed : (t : Task) (rest : List Task) (s : List ℕ) (p d q : ℕ) → heldNext (markTask t s p) ≡ next.At q → markTasks (t ∷ rest) s p d ≡ markTasks rest s q (d + 1)
+unfolding markTasks
+task-passed t rest s p d q e =
+    ap (λ (g : Got Proof). elim g [ got x after ↦ markTasks rest s after (suc d) | refused number at ↦ stopped number at d ]) (went (markTask t s p) q e .here)
+    ∙ ap (markTasks rest s q) (sym (add-one d))
+
+pub task-failed : (t : Task) (rest : List Task) (s : List ℕ) (p d number at : ℕ) → heldNext (markTask t s p) ≡ next.Refused number at → markTasks (t ∷ rest) s p d ≡ stopped number at d
+unfolding markTasks
+task-failed t rest s p d number at e =
+    ap (λ (g : Got Proof). elim g [ got x after ↦ markTasks rest s after (suc d) | refused n q ↦ stopped n q d ]) (stopped-at (markTask t s p) number at e)
+
+-- how far a proof's reading has come
+abbrev outcome : {A : Type 0} → Got A → ℕ
+outcome (got a p) = 0
+outcome (refused number p) = 1
+
+no-value : {A : Type 0} {number place q : ℕ} {a : A} → _≡_ {A = Got A} (refused number place) (got a q) → ⊥
+no-value e = let z : _≡_ {A = ℕ} 1 0 = ap outcome e in omega (arith, z)
+
+field-ends : (size : ℕ) (s : List ℕ) (p v q : ℕ) → field size s p ≡ got v q → (q ≡ p + size) × (p + size ≤ length s)
+unfolding field
+field-ends size s p v q e = go (leb (p + size) (length s)) refl e
+  where
+    go : (b : Bool) → leb (p + size) (length s) ≡ b → cond b (got (bigEndian (take size (drop p s))) (p + size)) (refused 4 p) ≡ got v q → (q ≡ p + size) × (p + size ≤ length s)
+    go true l e = (sym (got-next e), leb-true (p + size) (length s) l)
+    go false l e = absurd (no-value e)
+
+rest-placed : {least : ℕ} (hypotheses k : ℕ) → Placed {A = Proof} least (within 0 128 u8 >>= λ count. readEntries hypotheses 0 count >>= λ entries. give (record { k = k; entries = entries }))
+rest-placed hypotheses k = placed-bind (placed-within 0 128 placed-u8) (λ count. placed-bind (placed-entries hypotheses 0 count) (λ entries. placed-give _))
+
+pub proof-advances : (hypotheses : ℕ) (zeroK : Bool) (s : List ℕ) (p : ℕ) (x : Proof) (q : ℕ) → readProof hypotheses zeroK s p ≡ got x q → (p < q) × (q ≤ length s)
+unfolding readProof _>>=_ within must u32
+proof-advances hypotheses zeroK s p x q e =
+    let two = passes _ _ s x q e in
+    let ends = field-ends 4 s p (two .value) (two .place) (tested _ 5 p (field 4 s p) (two .value) (two .place) (two .first) .read) in
+    let fine : Fine s (two .place) (got x q) = subst (Fine s (two .place)) (two .second) (rest-placed {least = 0} hypotheses (two .value) .fine s (two .place) (omega arith) (omega (arith, ends .0, ends .1))) in
+    (omega (arith, ends .0, fine .0), fine .1)
+
+test-kept : (rows : List Row) (goal : Row) (p : ℕ) (g : Got Proof) (x : Proof) (q : ℕ) → testWith rows goal p g ≡ got x q → g ≡ got x q
+unfolding testWith
+test-kept rows goal p (refused number at) x q e = absurd (no-value e)
+test-kept rows goal p (got y r) x q e = go (farkasTest rows goal y) e
+  where
+    go : (n : ℕ) → elim n [ zero ↦ got y r | suc k ↦ refused (suc k) p ] ≡ got x q → got y r ≡ got x q
+    go zero e = e
+    go (suc n) e = absurd (no-value e)
+
+pub task-advances : (t : Task) (s : List ℕ) (p q : ℕ) → heldNext (markTask t s p) ≡ next.At q → (p < q) × (q ≤ length s)
+unfolding markTask markWith
+task-advances t s p q e =
+    let w = went (markTask t s p) q e in
+    proof-advances (length (t .rows)) (t .zeroK) s p (w .value) q (test-kept (t .rows) (t .goal) p (readProof (length (t .rows)) (t .zeroK) s p) (w .value) q (w .here))
+
+-- tasks in two parts
+abbrev pub placeWhere : Marked (Unit {0}) → ℕ
+placeWhere (passed u place done) = place
+placeWhere (stopped number place done) = place
+
+abbrev pub doneWhere : Marked (Unit {0}) → ℕ
+doneWhere (passed u place done) = done
+doneWhere (stopped number place done) = done
+
+abbrev endsWhere : Marked (Unit {0}) → ℕ
+endsWhere (passed u place done) = 0
+endsWhere (stopped number place done) = 1
+
+pub not-passed : {number place done p d : ℕ} → _≡_ {A = Marked (Unit {0})} (stopped number place done) (passed tt p d) → ⊥
+not-passed h = let z : _≡_ {A = ℕ} 1 0 = ap endsWhere h in omega (arith, z)
+
+pub parts-passed : (xs ys : List Task) (s : List ℕ) (p d q e : ℕ) → markTasks xs s p d ≡ passed tt q e → markTasks (xs ++ ys) s p d ≡ markTasks ys s q e
+unfolding markTasks
+parts-passed [] ys s p d q e h = ap₂ (markTasks ys s) (ap placeWhere h) (ap doneWhere h)
+parts-passed (t ∷ xs) ys s p d q e h = go (markTask t s p) (λ after. parts-passed xs ys s after (suc d) q e) h
+  where
+    go : (g : Got Proof) → ((after : ℕ) → markTasks xs s after (suc d) ≡ passed tt q e → markTasks (xs ++ ys) s after (suc d) ≡ markTasks ys s q e) → _≡_ {A = Marked (Unit {0})} (elim g [ got x after ↦ markTasks xs s after (suc d) | refused number at ↦ stopped number at d ]) (passed tt q e) → _≡_ {A = Marked (Unit {0})} (elim g [ got x after ↦ markTasks (xs ++ ys) s after (suc d) | refused number at ↦ stopped number at d ]) (markTasks ys s q e)
+    go (got x after) r h = r after h
+    go (refused number at) r h = absurd (not-passed h)
+
+pub parts-stopped : (xs ys : List Task) (s : List ℕ) (p d number at e : ℕ) → markTasks xs s p d ≡ stopped number at e → markTasks (xs ++ ys) s p d ≡ stopped number at e
+unfolding markTasks
+parts-stopped [] ys s p d number at e h = absurd (not-passed (sym h))
+parts-stopped (t ∷ xs) ys s p d number at e h = go (markTask t s p) (λ after. parts-stopped xs ys s after (suc d) number at e) h
+  where
+    go : (g : Got Proof) → ((after : ℕ) → markTasks xs s after (suc d) ≡ stopped number at e → markTasks (xs ++ ys) s after (suc d) ≡ stopped number at e) → _≡_ {A = Marked (Unit {0})} (elim g [ got x after ↦ markTasks xs s after (suc d) | refused n q ↦ stopped n q d ]) (stopped number at e) → _≡_ {A = Marked (Unit {0})} (elim g [ got x after ↦ markTasks (xs ++ ys) s after (suc d) | refused n q ↦ stopped n q d ]) (stopped number at e)
+    go (got x after) r h = r after h
+    go (refused n q) r h = h
+
+-- where marking stands
+pub stands-passed : (k : Marked (Unit {0})) (s : List ℕ) (all : ℕ) → Marks s all k → standsAt k .number ≡ 0 → k ≡ passed tt (standsAt k .place) (standsAt k .done)
+unfolding standsAt
+stands-passed (passed tt place done) s all m e = refl
+stands-passed (stopped number place done) s all m e = absurd (omega (arith, m .0, e))
+
+pub stands-stopped : (k : Marked (Unit {0})) → (standsAt k .number ≡ 0 → ⊥) → k ≡ stopped (standsAt k .number) (standsAt k .place) (standsAt k .done)
+unfolding standsAt
+stands-stopped (passed tt place done) f = absurd (f refl)
+stands-stopped (stopped number place done) f = refl
+
+-- the goals of a group, by their numbers
+all-zero : (n i : ℕ) → getD (replicate n zeroRow) i zeroRow ≡ zeroRow
+all-zero zero i = refl
+all-zero (suc n) zero = refl
+all-zero (suc n) (suc i) = all-zero n i
+
+row-at : {B : Type 0} (f : SheetRow → B) (s : List ℕ) (n p count j : ℕ) (d : B) → j < count → getD (map f (rowsFrom s n p count)) j d ≡ f (rowAt s n (p + 4 * (n + 1) * j))
+unfolding rowsFrom
+row-at f s n p zero j d h = absurd (omega (arith, h))
+row-at f s n p (suc count) zero d h = ap (λ (q : ℕ). f (rowAt s n q)) (first p n)
+  where
+    first : (p n : ℕ) → p ≡ p + 4 * (n + 1) * zero
+    first p n = omega arith
+row-at f s n p (suc count) (suc j) d h = row-at f s n (p + 4 * (n + 1)) count j d (omega (arith, h)) ∙ ap (λ (q : ℕ). f (rowAt s n q)) (later p n j)
+  where
+    later : (p n j : ℕ) → p + 4 * (n + 1) + 4 * (n + 1) * j ≡ p + 4 * (n + 1) * suc j
+    later p n j = omega arith
+
+pub no-goal : (second : List ℕ) (n : ℕ) (g : Group) (goal : ℕ) → g .zero ≡ true → noSums ≡ padded (getD (goalsOf second n g) goal zeroRow)
+unfolding goalsOf padded zeroRow noSums
+no-goal second n g goal e =
+    sym
+    (ap (λ (b : Bool). padded (getD (elim b [ true ↦ replicate (g .goals) zeroRow | false ↦ map (λ r. onNext (g .shift) (r .row)) (rowsFrom second n (g .from) (g .goals)) ]) goal zeroRow)) e
+    ∙ ap padded (all-zero (g .goals) goal))
+
+pub goal-at : (second : List ℕ) (n : ℕ) (g : Group) (goal : ℕ) → g .zero ≡ false → goal < g .goals → getD (goalsOf second n g) goal zeroRow ≡ onNext (g .shift) (rowAt second n (g .from + 4 * (n + 1) * goal) .row)
+unfolding goalsOf
+goal-at second n g goal e h =
+    ap (λ (b : Bool). getD (elim b [ true ↦ replicate (g .goals) zeroRow | false ↦ map (λ r. onNext (g .shift) (r .row)) (rowsFrom second n (g .from) (g .goals)) ]) goal zeroRow) e
+    ∙ row-at (λ r. onNext (g .shift) (r .row)) second n (g .from) (g .goals) goal zeroRow h
+
+-- the tasks of a group, by their numbers
+zero-length : (second : List ℕ) (n : ℕ) (g : Group) → g .zero ≡ true → length (goalsOf second n g) ≡ g .goals
+unfolding goalsOf
+zero-length second n g e =
+    ap (λ (b : Bool). length {A = Row} (elim b [ true ↦ replicate (g .goals) zeroRow | false ↦ map (λ r. onNext (g .shift) (r .row)) (rowsFrom second n (g .from) (g .goals)) ])) e
+    ∙ length-replicate (g .goals) zeroRow
+
+row-length : (second : List ℕ) (n : ℕ) (g : Group) → g .zero ≡ false → length (goalsOf second n g) ≡ g .goals
+unfolding goalsOf
+row-length second n g e =
+    ap (λ (b : Bool). length {A = Row} (elim b [ true ↦ replicate (g .goals) zeroRow | false ↦ map (λ r. onNext (g .shift) (r .row)) (rowsFrom second n (g .from) (g .goals)) ])) e
+    ∙ length-map (rowsFrom second n (g .from) (g .goals)) _
+    ∙ length-rows second n (g .from) (g .goals)
+
+pub goals-length : (second : List ℕ) (n : ℕ) (g : Group) → length (goalsOf second n g) ≡ g .goals
+goals-length second n g = go (g .zero) refl
+  where
+    go : (b : Bool) → g .zero ≡ b → length (goalsOf second n g) ≡ g .goals
+    go true e = zero-length second n g e
+    go false e = row-length second n g e
+
+pub tasks-length : (model second : List ℕ) (n : ℕ) (table : List ℕ) (g : Group) → length (tasksOf model second n table g) ≡ g .goals
+unfolding tasksOf tasksFrom
+tasks-length model second n table g = length-map (goalsOf second n g) _ ∙ goals-length second n g
+
+pub task-at : (model second : List ℕ) (n : ℕ) (table : List ℕ) (g : Group) (goal : ℕ) → goal < g .goals → getD (tasksOf model second n table g) goal noTask ≡ record { rows = hypothesisRows (hypothesesFrom model second n table (g .hypotheses)); zeroK = g .zero; goal = getD (goalsOf second n g) goal zeroRow }
+unfolding tasksOf tasksFrom
+task-at model second n table g goal h = mapped-at _ (goalsOf second n g) goal zeroRow noTask (omega (arith, h, goals-length second n g))

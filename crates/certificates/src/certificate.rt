@@ -1,0 +1,126 @@
+// Marking a certificate: its regions, the proofs of all obligations, and its end.
+use crate::Marking;
+use crate::obligations::mark_obligations;
+use fields::Field;
+use fields::Next;
+use fields::header::finished;
+use fields::header::header;
+use model_sheets::joints::location_count;
+use model_sheets::sheet::read_model;
+use models::layout::Index;
+use models::layout::VARIABLES_AT;
+use papers::answers::on_model;
+use papers::answers::on_second;
+use rules::Answer;
+use scores::counting::obligation_count;
+use scores::counting::refused_score;
+use second_sheets::certificate::read_regions;
+use second_sheets::ranges::REGIONS_LENGTH;
+use second_sheets::ranges::Regions;
+ghost use mathlib.Core.Path.{_≡_};
+ghost use Prim.Native.Nat.{_≤_};
+ghost use lib.ListN.{length};
+ghost use Rattle.formats.specs.Locations.{locationCount};
+ghost use Rattle.formats.specs.Joint.{joints};
+ghost use Rattle.models.specs.Index.{entry, componentsFrom, modelFrom, variablesIn};
+ghost use Rattle.formats.specs.ModelSheet.{examLimits};
+ghost use Rattle.formats.specs.Certificate.{readRegions};
+ghost use Rattle.second_sheets.specs.CertificateAnswers.{regionsFrom};
+ghost use Rattle.rules.specs.Obligations.{obligations};
+ghost use Rattle.rules.specs.Marking.{answer, refusedScore, passed, markProofs, closeCertificate, markRegions, markCertificate};
+ghost use Rattle.papers.specs.Paper.{GoodPaper, Accepted, certificateRegions};
+
+// The answer where a proof was refused. Only then are the obligations counted, for the score.
+fn stop_certificate(
+    model: &[u8],
+    index: &Index,
+    second: &[u8],
+    regions: &Regions,
+    locations: u32,
+    marked: Marking,
+) -> Answer
+    requires { ⌜ GoodPaper (now model) (now index) (now second) (now regions) ⌝ }
+    requires { ⌜ (locations ≡ locationCount (componentsFrom (now model) (now index))) × (length (joints (componentsFrom (now model) (now index))) ≤ 4096) ⌝ }
+    requires { ⌜ (marked .place ≤ 32768) × (marked .done ≤ 1000000) ⌝ }
+    ensures { λ r. ⌜ r ≡ answer (marked .number) 1 (marked .place) (marked .done) (refusedScore (marked .done) (length (obligations (modelFrom (now (model .entry)) (now (index .entry))) (regionsFrom (now (second .entry)) (variablesIn (now (index .entry))) (now (regions .entry)) locations)))) ⌝ }
+{
+    let total = obligation_count(model, index, second, regions, locations);
+    let score = refused_score(marked.done, total);
+    on_second(marked.number, marked.place, marked.done, score)
+}
+
+// The end of a certificate whose proofs have all passed: no bytes are left.
+fn end_certificate(second: &[u8], place: usize, done: u32) -> Answer
+    requires { ⌜ (length (now second) ≤ 32768) × (place ≤ length (now second)) ⌝ }
+    ensures { λ r. ⌜ r ≡ closeCertificate done (now (second .entry)) (passed tt place done) ⌝ }
+{
+    match finished(second, place) {
+        Next::Refused(number, cut) => on_second(number, cut, done, 99),
+        Next::At(_) => on_second(0, second.len(), done, 100),
+    }
+}
+
+// A certificate after its regions: its proofs, then its end.
+fn mark_rest(
+    model: &[u8],
+    index: &Index,
+    second: &[u8],
+    regions: &Regions,
+    locations: u32,
+    at: usize,
+) -> Answer
+    requires { ⌜ GoodPaper (now model) (now index) (now second) (now regions) ⌝ }
+    requires { ⌜ (locations ≡ locationCount (componentsFrom (now model) (now index))) × (length (joints (componentsFrom (now model) (now index))) ≤ 4096) ⌝ }
+    requires { ⌜ at ≤ length (now second) ⌝ }
+    ensures { λ r. ⌜ r ≡ closeCertificate (length (obligations (modelFrom (now (model .entry)) (now (index .entry))) (regionsFrom (now (second .entry)) (variablesIn (now (index .entry))) (now (regions .entry)) locations))) (now (second .entry)) (markProofs (obligations (modelFrom (now (model .entry)) (now (index .entry))) (regionsFrom (now (second .entry)) (variablesIn (now (index .entry))) (now (regions .entry)) locations)) (now (second .entry)) at 0) ⌝ }
+{
+    let marked = mark_obligations(model, index, second, regions, locations, at);
+    if marked.number != 0 {
+        return stop_certificate(model, index, second, regions, locations, marked);
+    }
+    end_certificate(second, marked.place, marked.done)
+}
+
+// A certificate after its header: its regions, then its proofs and its end.
+fn mark_body(model: &[u8], index: &Index, second: &[u8]) -> Answer
+    requires { ⌜ Accepted (now model) (now index) ⌝ }
+    requires { ⌜ (4 ≤ length (now second)) × (length (now second) ≤ 32768) ⌝ }
+    ensures { λ r. ⌜ r ≡ markRegions (modelFrom (now (model .entry)) (now (index .entry))) (now (second .entry)) (readRegions (modelFrom (now (model .entry)) (now (index .entry))) (now (second .entry)) 4) ⌝ }
+{
+    let locations = location_count(model, index);
+    let mut regions = [0u16; REGIONS_LENGTH];
+    match read_regions(
+        second,
+        4,
+        index[VARIABLES_AT] as usize,
+        locations,
+        &mut regions,
+    ) {
+        Next::Refused(number, place) => on_second(number, place, 0, 0),
+        Next::At(place) => mark_rest(model, index, second, &regions, locations, place),
+    }
+}
+
+// A certificate sheet, whole, on a model that was read.
+fn mark_sheet(model: &[u8], index: &Index, second: &[u8]) -> Answer
+    requires { ⌜ Accepted (now model) (now index) ⌝ }
+    ensures { λ r. ⌜ r ≡ markRegions (modelFrom (now (model .entry)) (now (index .entry))) (now (second .entry)) (certificateRegions (modelFrom (now (model .entry)) (now (index .entry))) (now (second .entry)) 0) ⌝ }
+{
+    match header(second, 2) {
+        Field::Refused(number, place) => on_second(number, place, 0, 0),
+        Field::Value(_, _) => mark_body(model, index, second),
+    }
+}
+
+// Marks a certificate: the model goes first, then the certificate sheet.
+pub fn mark_certificate(model: &[u8], second: &[u8]) -> Answer
+    ensures { λ r. ⌜ r ≡ markCertificate examLimits (now (model .entry)) (now (second .entry)) ⌝ }
+{
+    let read = read_model(model);
+    let index = read.index;
+    let next = read.next;
+    match next {
+        Next::Refused(number, place) => on_model(number, place),
+        Next::At(_) => mark_sheet(model, &index, second),
+    }
+}

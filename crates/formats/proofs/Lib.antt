@@ -1,0 +1,11 @@
+pub mod FieldLaws
+pub mod Gives
+pub mod Members
+pub mod WellFormed
+pub mod Locations
+pub mod Joint
+pub mod JointOrder
+pub mod JointList
+pub mod JointCounts
+pub mod RowPlaces
+pub mod Placed

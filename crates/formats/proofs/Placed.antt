@@ -1,0 +1,268 @@
+-- Where readings end: a value is followed by a place that is no earlier, within the sheet; a refusal has a number from 1 to 9 and a
+-- place within the sheet. A law for each way of putting readings together, then each reading. Assumes nothing.
+use mathlib.Core.Path.{_≡_, refl}
+use mathlib.Core.Bool.{Bool, true, false, cond}
+use mathlib.Core.List.{List, [], _∷_}
+use Prim.Native.Nat.{ℕ, zero, suc, _+_, _*_, _-_, _^_, _≤_}
+use native.Mathlib.Omega.{arith}
+use lib.Dec.{leb}
+use lib.ListN.{length}
+use borrow.Author.Tests.{leb-true}
+use Rattle.formats.specs.Reading.{Got, got, refused, Reader, andThen, _>>=_, _>>_, give, here, expect, field, u8, u16, u32, s32, passing, must, within, below, many, each, lengthRight, sized, header, finished, withinSigned}
+use Rattle.formats.specs.Rows.{readRow, readCondition}
+use Rattle.formats.specs.Model.{Component, Model, readMode, readSwitch, readComponent, readUnsafe, readModelBody}
+use Rattle.formats.specs.ModelSheet.{Limits, readModel}
+use Rattle.formats.specs.Certificate.{readRegions, readEntry, readEntries, readProof}
+use Rattle.formats.specs.RunSheet.{readValues, readOpening, readFlow, readJump, readStepOf, readStep}
+
+-- what a reading from p on comes to
+abbrev pub Fine : {A : Type 0} → List ℕ → ℕ → Got A → Type 0
+Fine s p (got a next) = (p ≤ next) × (next ≤ length s)
+Fine s p (refused number place) = (1 ≤ number) × (number ≤ 9) × (place ≤ length s)
+
+-- a reading from any place of a sheet, no earlier than some place
+pub record Placed {A : Type 0} (least : ℕ) (r : Reader A) : Type 0 where
+  pub fine : (s : List ℕ) (p : ℕ) → least ≤ p → p ≤ length s → Fine s p (r s p)
+
+later : {A : Type 0} (s : List ℕ) (p q : ℕ) (g : Got A) → p ≤ q → Fine s q g → Fine s p g
+later s p q (got a next) h w = (omega arith, w .1)
+later s p q (refused number place) h w = w
+
+then-fine : {A B : Type 0} (least : ℕ) (s : List ℕ) (p : ℕ) (g : Got A) (f : A → Reader B) → least ≤ p → Fine s p g → ((a : A) → Placed least (f a)) → Fine s p (andThen g f s)
+unfolding andThen
+then-fine least s p (got a next) f h w k = later s p next (f a s next) (w .0) (k a .fine s next (omega arith) (w .1))
+then-fine least s p (refused number place) f h w k = w
+
+pub placed-bind : {A B : Type 0} {least : ℕ} {r : Reader A} {f : A → Reader B} → Placed least r → ((a : A) → Placed least (f a)) → Placed least (r >>= f)
+unfolding _>>=_
+placed-bind {least = least} {r = r} {f = f} g k = record { fine = λ s p h l. then-fine least s p (r s p) f h (g .fine s p h l) k }
+
+pub placed-then : {A B : Type 0} {least : ℕ} {r : Reader A} {t : Reader B} → Placed least r → Placed least t → Placed least (r >> t)
+unfolding _>>_
+placed-then {least = least} {r = r} {t = t} g k = record { fine = λ s p h l. then-fine least s p (r s p) (λ a. t) h (g .fine s p h l) (λ a. k) }
+
+-- the place that is read here is a place no earlier for what follows
+pub placed-here : {B : Type 0} {least : ℕ} {f : ℕ → Reader B} → ((place : ℕ) → Placed place (f place)) → Placed least (here >>= f)
+unfolding _>>=_ here andThen
+placed-here k = record { fine = λ s p h l. k p .fine s p (omega arith) l }
+
+pub placed-give : {A : Type 0} {least : ℕ} (a : A) → Placed least (give a)
+unfolding give
+placed-give a = record { fine = λ s p h l. (omega arith, l) }
+
+pub placed-expect : {least : ℕ} (ok : Bool) (number place : ℕ) → 1 ≤ number → number ≤ 9 → place ≤ least → Placed least (expect ok number place)
+unfolding expect
+placed-expect {least} ok number place i j k = record { fine = λ s p h l. go ok s p h l }
+  where
+    go : (b : Bool) (s : List ℕ) (p : ℕ) → least ≤ p → p ≤ length s → Fine {A = Unit {0}} s p (cond b (got tt p) (refused number place))
+    go true s p h l = (omega arith, l)
+    go false s p h l = (i, j, omega arith)
+
+pub placed-field : {least : ℕ} (size : ℕ) → Placed least (field size)
+unfolding field
+placed-field {least} size = record { fine = λ s p h l. go (leb (p + size) (length s)) s p _ refl l }
+  where
+    go : (b : Bool) (s : List ℕ) (p v : ℕ) → leb (p + size) (length s) ≡ b → p ≤ length s → Fine s p (cond b (got v (p + size)) (refused 4 p))
+    go true s p v e l = (omega arith, leb-true (p + size) (length s) e)
+    go false s p v e l = (omega arith, omega arith, l)
+
+passing-fine : {A : Type 0} (test : A → Bool) (number : ℕ) (s : List ℕ) (p : ℕ) (g : Got A) → 1 ≤ number → number ≤ 9 → p ≤ length s → Fine s p g → Fine s p (passing test number p g)
+unfolding passing
+passing-fine test number s p (got a next) i j l w = go (test a)
+  where
+    go : (b : Bool) → Fine s p (cond b (got a next) (refused number p))
+    go true = w
+    go false = (i, j, l)
+passing-fine test number s p (refused n place) i j l w = w
+
+pub placed-must : {A : Type 0} {least : ℕ} {r : Reader A} (test : A → Bool) (number : ℕ) → 1 ≤ number → number ≤ 9 → Placed least r → Placed least (must test number r)
+unfolding must
+placed-must {r = r} test number i j g = record { fine = λ s p h l. passing-fine test number s p (r s p) i j l (g .fine s p h l) }
+
+pub placed-within : {least : ℕ} (low high : ℕ) {r : Reader ℕ} → Placed least r → Placed least (within low high r)
+unfolding within
+placed-within low high g = placed-must _ 5 (omega arith) (omega arith) g
+
+pub placed-below : {least : ℕ} (count : ℕ) {r : Reader ℕ} → Placed least r → Placed least (below count r)
+unfolding below
+placed-below count g = placed-must _ 5 (omega arith) (omega arith) g
+
+pub placed-u8 : {least : ℕ} → Placed least u8
+unfolding u8
+placed-u8 = placed-field 1
+
+pub placed-u16 : {least : ℕ} → Placed least u16
+unfolding u16
+placed-u16 = placed-field 2
+
+pub placed-u32 : {least : ℕ} → Placed least u32
+unfolding u32
+placed-u32 = placed-field 4
+
+pub placed-s32 : {least : ℕ} → Placed least s32
+unfolding s32
+placed-s32 = placed-bind placed-u32 (λ n. placed-give _)
+
+pub placed-many : {A : Type 0} {least : ℕ} {r : Reader A} (n : ℕ) → Placed least r → Placed least (many n r)
+unfolding many
+placed-many zero g = placed-give []
+placed-many (suc n) g = placed-bind g (λ a. placed-bind (placed-many n g) (λ rest. placed-give (a ∷ rest)))
+
+pub placed-each : {A B : Type 0} {least : ℕ} (f : A → Reader B) (xs : List A) → ((a : A) → Placed least (f a)) → Placed least (each f xs)
+unfolding each
+placed-each f [] g = placed-give []
+placed-each f (a ∷ xs) g = placed-bind (g a) (λ b. placed-bind (placed-each f xs g) (λ rest. placed-give (b ∷ rest)))
+
+placed-sized : {least : ℕ} → Placed least sized
+unfolding sized
+placed-sized {least} = record { fine = λ s p h l. go (lengthRight s) s p l }
+  where
+    go : (b : Bool) (s : List ℕ) (p : ℕ) → p ≤ length s → Fine {A = Unit {0}} s p (cond b (got tt p) (refused 1 0))
+    go true s p l = (omega arith, l)
+    go false s p l = (omega arith, omega arith, omega arith)
+
+pub placed-header : {least : ℕ} (kind : ℕ) → Placed least (header kind)
+unfolding header
+placed-header kind =
+    placed-then placed-sized
+    (placed-then placed-u16
+    (placed-bind (placed-must _ 2 (omega arith) (omega arith) placed-u8)
+    (λ version. placed-then (placed-must _ 3 (omega arith) (omega arith) placed-u8) (placed-give version))))
+
+pub placed-finished : {least : ℕ} → Placed least finished
+unfolding finished
+placed-finished {least} = record { fine = λ s p h l. go (leb (length s) p) s p l }
+  where
+    go : (b : Bool) (s : List ℕ) (p : ℕ) → p ≤ length s → Fine {A = Unit {0}} s p (cond b (got tt p) (refused 4 p))
+    go true s p l = (omega arith, l)
+    go false s p l = (omega arith, omega arith, l)
+
+placed-row : {least : ℕ} (n : ℕ) → Placed least (readRow n)
+unfolding readRow
+placed-row n =
+    placed-here (λ place. placed-bind (placed-many n placed-s32) (λ coefficients. placed-bind placed-s32 (λ bound. placed-give _)))
+
+pub placed-condition : {least : ℕ} (most n : ℕ) → Placed least (readCondition most n)
+unfolding readCondition
+placed-condition most n = placed-bind (placed-within 0 most placed-u8) (λ count. placed-many count (placed-row n))
+
+placed-mode : {least : ℕ} (n : ℕ) → Placed least (readMode n)
+unfolding readMode
+placed-mode n =
+    placed-bind (placed-within 0 1 placed-u8)
+    (λ start. placed-bind (placed-condition _ n) (λ initial. placed-bind (placed-condition 8 n) (λ invariant. placed-bind (placed-condition 8 n) (λ flow. placed-give _))))
+
+placed-switch : {least : ℕ} (n alphabet modes : ℕ) → Placed least (readSwitch n alphabet modes)
+unfolding readSwitch
+placed-switch n alphabet modes =
+    placed-bind (placed-below modes placed-u8)
+    (λ source.
+    placed-bind (placed-below modes placed-u8)
+    (λ target.
+    placed-bind (placed-must _ 6 (omega arith) (omega arith) (placed-within 0 15 placed-u8))
+    (λ label. placed-bind (placed-condition 8 (2 * n)) (λ jump. placed-give _))))
+
+placed-component : {least : ℕ} (n : ℕ) → Placed least (readComponent n)
+unfolding readComponent
+placed-component n =
+    placed-bind (placed-must _ 5 (omega arith) (omega arith) placed-u16)
+    (λ alphabet.
+    placed-bind (placed-within 1 8 placed-u8)
+    (λ modeCount.
+    placed-bind (placed-within 0 32 placed-u8)
+    (λ switchCount.
+    placed-bind (placed-many modeCount (placed-mode n))
+    (λ modes. placed-bind (placed-many switchCount (placed-switch n alphabet modeCount)) (λ switches. placed-give _)))))
+
+placed-unsafe : {least : ℕ} (n : ℕ) (components : List Component) → Placed least (readUnsafe n components)
+unfolding readUnsafe
+placed-unsafe n components =
+    placed-bind (placed-each _ components (λ c. placed-must _ 5 (omega arith) (omega arith) placed-u8))
+    (λ modes. placed-bind (placed-condition 8 n) (λ rows. placed-give _))
+
+placed-body : {least : ℕ} (version : ℕ) → Placed least (readModelBody version)
+unfolding readModelBody
+placed-body version =
+    placed-bind (placed-within 1 8 placed-u8)
+    (λ n.
+    placed-bind (placed-within 1 4 placed-u8)
+    (λ c.
+    placed-bind (placed-within 0 16 placed-u8)
+    (λ conditions.
+    placed-bind (placed-many n (placed-below c placed-u8))
+    (λ owners.
+    placed-bind (placed-many c (placed-component n))
+    (λ components. placed-bind (placed-many conditions (placed-unsafe n components)) (λ unsafe. placed-give _))))))
+
+-- a model sheet
+pub model-fine : (limits : Limits) (s : List ℕ) → Fine s 0 (readModel limits s)
+unfolding readModel
+model-fine limits s =
+    placed-bind {least = 0} (placed-header 1)
+    (λ version.
+    placed-here
+    (λ place.
+    placed-bind (placed-body version)
+    (λ m.
+    placed-then placed-finished
+    (placed-then (placed-expect _ 7 place (omega arith) (omega arith) (omega arith))
+    (placed-then (placed-expect _ 8 place (omega arith) (omega arith) (omega arith)) (placed-give m))))))
+    .fine s 0 (omega arith) (omega arith)
+
+-- a certificate's fields
+pub placed-regions : {least : ℕ} (m : Model) → Placed least (readRegions m)
+unfolding readRegions
+placed-regions m = placed-bind (placed-must _ 5 (omega arith) (omega arith) placed-u8) (λ count. placed-many count (placed-condition 16 (m .variables)))
+
+pub placed-entry : {least : ℕ} (hypotheses first : ℕ) → Placed least (readEntry hypotheses first)
+unfolding readEntry
+placed-entry hypotheses first =
+    placed-bind (placed-must _ 9 (omega arith) (omega arith) (placed-below hypotheses placed-u8))
+    (λ hypothesis. placed-bind (placed-within 1 (2 ^ 24 - 1) placed-u32) (λ multiplier. placed-give _))
+
+pub placed-entries : {least : ℕ} (hypotheses first count : ℕ) → Placed least (readEntries hypotheses first count)
+unfolding readEntries
+placed-entries hypotheses first zero = placed-give []
+placed-entries hypotheses first (suc n) =
+    placed-bind (placed-entry hypotheses first)
+    (λ e. placed-bind (placed-entries hypotheses (suc (e .hypothesis)) n) (λ rest. placed-give _))
+
+pub placed-proof : {least : ℕ} (hypotheses : ℕ) (unsafe : Bool) → Placed least (readProof hypotheses unsafe)
+unfolding readProof
+placed-proof hypotheses unsafe =
+    placed-bind (placed-within 0 _ placed-u32)
+    (λ k. placed-bind (placed-within 0 128 placed-u8) (λ count. placed-bind (placed-entries hypotheses 0 count) (λ entries. placed-give _)))
+
+-- a run sheet's fields
+placed-values : {least : ℕ} (n : ℕ) → Placed least (readValues n)
+unfolding readValues withinSigned
+placed-values n = placed-many n (placed-must _ 5 (omega arith) (omega arith) placed-s32)
+
+pub placed-opening : {least : ℕ} (m : Model) → Placed least (readOpening m)
+unfolding readOpening
+placed-opening m =
+    placed-bind (placed-within 1 (2 ^ 24 - 1) placed-u32)
+    (λ q.
+    placed-bind (placed-within 0 4095 placed-u16)
+    (λ steps. placed-here (λ place. placed-bind (placed-below _ placed-u8) (λ location. placed-bind (placed-values (m .variables)) (λ values. placed-give _)))))
+
+placed-flow : {least : ℕ} (m : Model) → Placed least (readFlow m)
+unfolding readFlow
+placed-flow m = placed-bind (placed-within 0 (2 ^ 24 - 1) placed-u32) (λ δ. placed-bind (placed-values (m .variables)) (λ values. placed-give _))
+
+placed-jump : {least : ℕ} (m : Model) → Placed least (readJump m)
+unfolding readJump
+placed-jump m =
+    placed-bind (placed-within 0 15 placed-u8)
+    (λ event.
+    placed-bind (placed-each _ (m .components) (λ c. placed-must _ 5 (omega arith) (omega arith) placed-u8))
+    (λ switches. placed-bind (placed-values (m .variables)) (λ values. placed-give _)))
+
+placed-step-of : {least : ℕ} (m : Model) (kind : ℕ) → Placed least (readStepOf m kind)
+unfolding readStepOf
+placed-step-of m zero = placed-flow m
+placed-step-of m (suc kind) = placed-jump m
+
+pub placed-step : {least : ℕ} (m : Model) → Placed least (readStep m)
+unfolding readStep
+placed-step m = placed-bind (placed-within 0 1 placed-u8) (placed-step-of m)

@@ -1,0 +1,9 @@
+pub mod Reading
+pub mod Rows
+pub mod Model
+pub mod Locations
+pub mod Joint
+pub mod Parts
+pub mod ModelSheet
+pub mod Certificate
+pub mod RunSheet

@@ -1,0 +1,13 @@
+// The hypotheses of an obligation, kept in tables: for a start, a flow, an unsafe condition and a joint switch.
+pub mod groups;
+pub mod tables;
+
+// What is to be proved from one table: how many hypotheses it has, how many goals, where the goals' rows begin and on which unknowns they
+// are put; and whether it is an unsafe condition, whose goal is no row.
+pub struct Group {
+    pub hypotheses: u32,
+    pub goals: u32,
+    pub from: usize,
+    pub shift: usize,
+    pub zero: bool,
+}

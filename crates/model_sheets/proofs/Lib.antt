@@ -1,0 +1,4 @@
+pub mod JointLoops
+pub mod TallyLaws
+pub mod WaysLaws
+pub mod SheetLaws

@@ -1,0 +1,6 @@
+pub mod IndexLaws
+pub mod ModelLaws
+pub mod ComponentLaws
+pub mod UnsafeLaws
+pub mod BodyLaws
+pub mod GoodIndexLaws

@@ -1,0 +1,32 @@
+-- What the contracts on locations and joint switches name besides the definitions of 01: a component by its number, the numbers of an
+-- array of four that stand for components, and four switch numbers. Assumes nothing.
+use mathlib.Core.Path.{_≡_}
+use mathlib.Core.Bool.{false}
+use mathlib.Core.List.{List}
+use Prim.Native.Nat.{ℕ, _+_, _<_}
+use lib.Dec.{eqb, leb}
+use lib.ListN.{length, getD, take}
+use Rattle.formats.specs.Reading.{Reader, _>>_, expect}
+use Rattle.formats.specs.Model.{Component}
+use Rattle.formats.specs.Locations.{locationCount}
+use Rattle.formats.specs.Joint.{stays, joints}
+use Rattle.formats.specs.ModelSheet.{Limits}
+use Rattle.models.specs.Index.{entry, componentPlace, componentFrom}
+
+-- the k-th component of an index
+unfoldable pub componentAt : List ℕ → List ℕ → ℕ → Component
+componentAt s index k = componentFrom s (entry index 0) index (componentPlace k)
+
+-- an array has four numbers: the first of them, one per component
+unfoldable pub perComponent : List ℕ → List ℕ → List ℕ
+perComponent index numbers = take (entry index 1) numbers
+
+-- each component's number is that of one of its switches, or says that the component stays
+pub record KnownSwitches (index switches : List ℕ) : Type 0 where
+  pub known : (k : ℕ) → k < entry index 1 → eqb (getD switches k 0) stays ≡ false → getD switches k 0 < entry index (componentPlace k + 2)
+
+-- 7, then 8: the two limits on a model, with their place
+unfoldable pub limitsTest : Limits → List Component → ℕ → Reader (Unit {0})
+limitsTest limits components place = do
+  expect (leb (locationCount components) (limits .locations)) 7 place
+  expect (leb (length (joints components)) (limits .joints)) 8 place

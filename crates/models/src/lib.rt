@@ -1,0 +1,5 @@
+// The body of a model sheet, read into an index.
+pub mod body;
+pub mod layout;
+pub mod model;
+pub mod unsafes;

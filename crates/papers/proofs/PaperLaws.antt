@@ -1,0 +1,143 @@
+-- A paper once its sheets are read: limits, headers, regions, and where a location stands. Assumes nothing.
+use Rattle.second_sheets.specs.declared.StepRead.the-variants as read
+use Rattle.fields.specs.declared.Next.the-variants as next
+use mathlib.Core.Path.{_≡_, refl, sym, ap, _∙_, subst}
+use mathlib.Core.Bool.{Bool, true, false, _&&_}
+use mathlib.Core.List.{List}
+use Prim.Native.Nat.{ℕ, _≤_, _+_}
+use native.Mathlib.Omega.{arith}
+use lib.Dec.{leb, T, eqb, leb→le}
+use lib.ListN.{length, take}
+use borrow.Author.Tests.{leb-true}
+use Rattle.formats.specs.Reading.{Got, got, refused, Reader, andThen, _>>=_, _>>_, expect, header, finished, bigEndian, lengthRight}
+use Rattle.formats.specs.Rows.{Condition}
+use Rattle.formats.specs.Model.{Model}
+use Rattle.formats.specs.Locations.{locationCount}
+use Rattle.formats.specs.Joint.{joints}
+use Rattle.models.specs.Index.{entry, componentsFrom, modelFrom}
+use Rattle.formats.specs.ModelSheet.{Limits, examLimits, readModel}
+use Rattle.formats.specs.Certificate.{readRegions}
+use Rattle.second_sheets.specs.CertificateAnswers.{regionsFrom, regionsFor, GoodRegions}
+use Rattle.formats.proofs.Gives.{Gives, passes, gives-bind, gives-then, gives-give, gives-any, then-got, and-left, and-right}
+use Rattle.model_sheets.proofs.SheetLaws.{header-read, sheet-first}
+use Rattle.formats.proofs.Placed.{Fine, placed-regions, placed-header, model-fine}
+use Rattle.models.proofs.GoodIndexLaws.{index-good}
+use Rattle.second_sheets.proofs.CertificateLaws.{regions-of, good-regions}
+use Rattle.papers.specs.Paper.{GoodPaper, Accepted}
+use Rattle.fields.proofs.HeaderLaws.{header-unsized}
+use Rattle.rules.specs.Runs.{after}
+
+-- a test that had to be passed was passed
+expected : {A : Type 0} {P : A → Type 0} (b : Bool) (number place : ℕ) (r : Reader A) → (b ≡ true → Gives P r) → Gives P (expect b number place >> r)
+unfolding expect _>>_ andThen
+expected true number place r f = gives-then (expect true number place) (f refl)
+expected false number place r f = record { holds = λ s p a next e. let z : _≡_ {A = ℕ} 0 1 = cc in absurd (omega arith) }
+
+-- a model that a sheet gives has at most as many joint switches as the limits allow
+pub few-joints : (limits : Limits) (s : List ℕ) (m : Model) (next : ℕ) → readModel limits s ≡ got m next → length (joints (m .components)) ≤ limits .joints
+unfolding readModel
+few-joints limits s m next e =
+    gives-bind gives-any
+    (λ version u.
+    gives-bind gives-any
+    (λ place u.
+    gives-bind gives-any
+    (λ (m : Model) u. gives-then finished (gives-then _ (expected (leb (length (joints (m .components))) (limits .joints)) 8 place _ (λ t. gives-give m (leb-true (length (joints (m .components))) (limits .joints) t)))))))
+    .holds s 0 m next e
+
+-- its sheet is short
+pub model-short : (limits : Limits) (s : List ℕ) (m : Model) (next : ℕ) → readModel limits s ≡ got m next → length s ≤ 32768
+unfolding readModel _>>=_
+model-short limits s m next e =
+    let w = passes (header 1 s 0) _ s m next e in
+    header-read 1 s (w .value) (w .place) (w .first) .short
+
+-- a model that a sheet gives has at most as many locations as the limits allow
+few-locations : (limits : Limits) (s : List ℕ) (m : Model) (next : ℕ) → readModel limits s ≡ got m next → locationCount (m .components) ≤ limits .locations
+unfolding readModel
+few-locations limits s m next e =
+    gives-bind gives-any
+    (λ version u.
+    gives-bind gives-any
+    (λ place u.
+    gives-bind gives-any
+    (λ (m : Model) u.
+    gives-then finished
+    (expected (leb (locationCount (m .components)) (limits .locations)) 7 place _
+    (λ t. gives-then _ (gives-give m (leb-true (locationCount (m .components)) (limits .locations) t)))))))
+    .holds s 0 m next e
+
+pub accepted : (model index : List ℕ) (next : ℕ) → readModel examLimits model ≡ got (modelFrom model index) next → Accepted model index
+unfolding examLimits modelFrom
+accepted model index next e =
+    record {
+      good = index-good examLimits model index next e;
+      short = model-short examLimits model (modelFrom model index) next e;
+      few = few-locations examLimits model (modelFrom model index) next e;
+      joined = few-joints examLimits model (modelFrom model index) next e;
+    }
+
+-- a paper is good once its regions are read
+pub good-paper : {model index second regions : List ℕ} (locations at next : ℕ) → Accepted model index → length second ≤ 32768 → locations ≡ locationCount (componentsFrom model index) → regionsFor locations (entry index 0) second at ≡ got (regionsFrom second (entry index 0) regions locations) next → GoodPaper model index second regions
+good-paper {model} {index} {second} {regions} locations at next a h l e =
+    record {
+      good = a .good;
+      placed = subst (λ (n : ℕ). GoodRegions second (entry index 0) n regions) l (good-regions second (entry index 0) locations at regions next e);
+      short = a .short;
+      brief = h;
+      few = a .few;
+    }
+
+-- The regions: those that the model wants are those for its numbers
+pub regions-for : (model index second : List ℕ) (locations at : ℕ) → locations ≡ locationCount (componentsFrom model index) → regionsFor locations (entry index 0) second at ≡ readRegions (modelFrom model index) second at
+unfolding modelFrom
+regions-for model index second locations at l =
+    ap (λ (n : ℕ). regionsFor n (entry index 0) second at) l ∙ sym (ap (λ r. r second at) (regions-of (modelFrom model index)))
+
+pub regions-refused-at : (m : Model) (s : List ℕ) (at number place : ℕ) → at ≤ length s → readRegions m s at ≡ refused number place → place ≤ length s
+regions-refused-at m s at number place l e = subst (λ x. Fine s at x) e (placed-regions {least = 0} m .fine s at (omega arith) l) .2
+
+pub regions-end-at : (m : Model) (s : List ℕ) (at : ℕ) (regions : List Condition) (place : ℕ) → at ≤ length s → readRegions m s at ≡ got regions place → place ≤ length s
+regions-end-at m s at regions place l e = subst (λ x. Fine s at x) e (placed-regions {least = 0} m .fine s at (omega arith) l) .1
+
+-- The header. A place of a refusal on a sheet of any length is at most 32,768
+right-short : (s : List ℕ) → lengthRight s ≡ true → length s ≤ 32768
+unfolding lengthRight
+right-short s e =
+    let a = leb 4 (length s) in
+    let b = leb (length s) 32768 in
+    let c = eqb (bigEndian (take 2 s) + 2) (length s) in
+    leb→le (length s) 32768 (and-right a b (and-left (a && b) c (subst T (sym e) tt)))
+
+refused-placed : {A : Type 0} (s : List ℕ) (g : Got A) (number place : ℕ) → Fine s 0 g → (lengthRight s ≡ false → g ≡ refused 1 0) → g ≡ refused number place → place ≤ 32768
+refused-placed s g number place w unsized e = go (lengthRight s) refl
+  where
+    go : (b : Bool) → lengthRight s ≡ b → place ≤ 32768
+    go true q = omega (arith, right-short s q, subst (λ x. Fine s 0 x) e w .2)
+    go false q =
+        let r : refused 1 0 ≡ refused number place = sym (unsized q) ∙ e in
+        let z : 0 ≡ place = cc in
+        omega arith
+
+pub header-placed : (kind : ℕ) (s : List ℕ) (number place : ℕ) → header kind s 0 ≡ refused number place → place ≤ 32768
+header-placed kind s number place e =
+    refused-placed s (header kind s 0) number place (placed-header {least = 0} kind .fine s 0 (omega arith) (omega arith)) (header-unsized s kind) e
+
+pub model-placed : (limits : Limits) (s : List ℕ) (number place : ℕ) → readModel limits s ≡ refused number place → place ≤ 32768
+model-placed limits s number place e =
+    refused-placed s (readModel limits s) number place (model-fine limits s) (λ q. sheet-first limits s 1 0 (header-unsized s 1 q)) e
+
+-- a header that was read leaves its body from byte 4 on, in a sheet of a right length
+pub header-body : (kind : ℕ) (s : List ℕ) (version place : ℕ) → header kind s 0 ≡ got version place → (4 ≤ length s) × (length s ≤ 32768)
+header-body kind s version place e =
+    let r = header-read kind s version place e in
+    let w = subst (λ x. Fine s 0 x) e (placed-header {least = 0} kind .fine s 0 (omega arith) (omega arith)) in
+    (omega (arith, w .1, r .four), r .short)
+
+pub after-header : {A : Type 0} (kind : ℕ) (r : Reader A) (s : List ℕ) (version place : ℕ) → header kind s 0 ≡ got version place → (header kind >> r) s 0 ≡ r s 4
+after-header kind r s version place e =
+    then-got (header kind) r s 0 e (ap (λ (p : ℕ). r s p) (header-read kind s version place e .four))
+
+pub header-stops : {A : Type 0} (kind : ℕ) (r : Reader A) (s : List ℕ) (number place : ℕ) → header kind s 0 ≡ refused number place → (header kind >> r) s 0 ≡ refused number place
+unfolding _>>_ andThen
+header-stops kind r s number place e = ap (λ g. andThen g (λ a. r) s) e

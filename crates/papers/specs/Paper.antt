@@ -1,0 +1,44 @@
+-- A paper once its sheets are read, as the contracts name it: a model by its index, a certificate up to its proofs, and the regions by
+-- the places that the code keeps. Assumes nothing.
+use mathlib.Core.List.{List}
+use Prim.Native.Nat.{ℕ, _≤_}
+use lib.ListN.{length}
+use Rattle.formats.specs.Reading.{Reader, got, refused, _>>_, header, Got}
+use Rattle.formats.specs.Rows.{Condition}
+use Rattle.formats.specs.Model.{Model}
+use Rattle.formats.specs.Locations.{locationCount}
+use Rattle.formats.specs.Joint.{joints}
+use Rattle.models.specs.Index.{entry, componentsFrom, GoodIndex}
+use Rattle.second_sheets.specs.CertificateAnswers.{regionsFrom, GoodRegions}
+use Rattle.rules.specs.Obligations.{regionOf}
+use Rattle.formats.specs.Certificate.{readRegions}
+use Rattle.fields.specs.declared.Next.{Next}
+use Rattle.fields.specs.declared.Next.the-variants as next
+
+-- a certificate up to its proofs: its header, then its regions
+unfoldable pub certificateRegions : Model → Reader (List Condition)
+certificateRegions m = header 2 >> readRegions m
+
+-- a model that was read: its index is good, its sheet short, and its locations and joint switches are no more than the exam allows
+pub record Accepted (model index : List ℕ) : Type 0 where
+  pub good : GoodIndex model index
+  pub short : length model ≤ 32768
+  pub few : locationCount (componentsFrom model index) ≤ 64
+  pub joined : length (joints (componentsFrom model index)) ≤ 4096
+
+-- a model and a certificate's regions that were read, and their places
+pub record GoodPaper (model index second regions : List ℕ) : Type 0 where
+  pub good : GoodIndex model index
+  pub placed : GoodRegions second (entry index 0) (locationCount (componentsFrom model index)) regions
+  pub short : length model ≤ 32768
+  pub brief : length second ≤ 32768
+  pub few : locationCount (componentsFrom model index) ≤ 64
+
+-- the regions of a certificate, by the places that the code keeps
+unfoldable pub regionsOf : List ℕ → List ℕ → List ℕ → List ℕ → ℕ → Condition
+regionsOf model index second regions = regionOf (regionsFrom second (entry index 0) regions (locationCount (componentsFrom model index)))
+
+-- where reading went on, or the refusal
+unfoldable pub heldNext : {A : Type 0} → Got A → Next
+heldNext (got a p) = next.At p
+heldNext (refused number place) = next.Refused number place

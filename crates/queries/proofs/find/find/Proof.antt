@@ -1,0 +1,82 @@
+-- Beyond the locations the joint switches, else the group of its location. Assumes nothing.
+use mathlib.Core.Path.{sym, _∙_}
+use mathlib.Core.List.{[]}
+use Prim.Native.Nat.{_+_, _<_}
+use native.Mathlib.Omega.{arith}
+use denote.Ref.{now}
+use Rattle.formats.specs.Joint.{joints}
+use Rattle.models.specs.Index.{entry, componentsFrom, modelFrom}
+use Rattle.rules.specs.Obligations.{locationObligations, jumpsObligations}
+use Rattle.papers.specs.Paper.{regionsOf}
+use Rattle.queries.specs.Finding.{groupObligations, soughtOne, KnownSought}
+use Rattle.queries.proofs.FindLaws.{one-past, one-here, group-one}
+use Rattle.queries.proofs.find.find.Statement.{statement}
+use Rattle.queries.proofs.find.find.Tie as tie
+
+find-location-requires : tie.Need-find-location-requires
+find-location-requires c κs = (c .before .before .pre .0, c .before .before .pre .1 .0)
+
+find-jump-requires : tie.Need-find-jump-requires
+find-jump-requires c κs = c .before .before .before .before .before .pre
+
+returns : tie.Need-returns
+returns c =
+    let a = c .before .before .before .before .before .before .args in
+    let p = c .before .before .before .before .before .before .pre in
+    let model = now (a .model) in
+    let index = now (a .index) in
+    let second = now (a .second) in
+    let regions = now (a .regions) in
+    let m = modelFrom model index in
+    let regionAt = regionsOf model index second regions in
+    let components = componentsFrom model index in
+    let place = c .before .before .before .find-location in
+    (c .find-jump .ensures .0 ∙ one-past (locationObligations m regionAt) (a .locations) (place .result .at) (jumpsObligations m regionAt 0 (joints components)) (place .result .left) (c .before .if1 .taken) (place .ensures .leads), c .find-jump .ensures .1)
+
+find-group-requires : tie.Need-find-group-requires
+find-group-requires c κs =
+    let a = c .before .before .before .before .before .args in
+    let p = c .before .before .before .before .before .pre in
+    let model = now (a .model) in
+    let index = now (a .index) in
+    let second = now (a .second) in
+    let regions = now (a .regions) in
+    let m = modelFrom model index in
+    let regionAt = regionsOf model index second regions in
+    let components = componentsFrom model index in
+    let place = c .before .before .find-location in
+    let h : place .result .at < a .locations = omega (arith, c .if1 .left) in
+    (p .0, (omega (arith, h, p .1 .0), place .ensures .here h))
+
+returns-2 : tie.Need-returns-2
+unfolding soughtOne KnownSought
+returns-2 c =
+    let a = c .before .before .before .before .before .before .args in
+    let p = c .before .before .before .before .before .before .pre in
+    let model = now (a .model) in
+    let index = now (a .index) in
+    let second = now (a .second) in
+    let regions = now (a .regions) in
+    let m = modelFrom model index in
+    let regionAt = regionsOf model index second regions in
+    let components = componentsFrom model index in
+    let place = c .before .before .before .find-location in
+    let group = c .find-group in
+    let l = place .result .at in
+    let g = group .result .at in
+    let line = group .result .left in
+    let h : l < a .locations = omega (arith, c .before .if1 .left) in
+    let k : g < 2 + entry index 2 = group .ensures .1 in
+    let there = one-here (locationObligations m regionAt) (a .locations) (jumpsObligations m regionAt 0 (joints components)) l (place .result .left) h (place .ensures .here h) (place .ensures .leads) in
+    let here = one-here (groupObligations m regionAt l) (2 + entry index 2) [] g line k (group .ensures .0 .here k) (group .ensures .0 .leads) in
+    (sym (group-one m regionAt l g line (group .ensures .0 .here k)) ∙ here ∙ there, (omega (arith, h, p .1 .0), k))
+
+pub find-spec : {M : Type 1} → statement M
+find-spec =
+    tie.close
+    (tie.spec
+    find-location-requires
+    find-jump-requires
+    returns
+    find-group-requires
+    returns-2)

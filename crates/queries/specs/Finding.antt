@@ -1,0 +1,235 @@
+-- Which obligation has a number, where a search for it has come to, and where the row of a hypothesis stands. The list of obligations is
+-- that of 01; the code never lists it, so a search is told by what it has passed over. Assumes nothing.
+use mathlib.Core.Path.{_≡_}
+use mathlib.Core.Bool.{true, false}
+use mathlib.Core.List.{List, [], _∷_, _++_}
+use Prim.Native.Nat.{ℕ, zero, suc, _+_, _-_, _≤_, _<_}
+use lib.Dec.{ltb}
+use lib.ListN.{length, getD, take, drop}
+use Rattle.farkas.specs.Rows.{zeroRow}
+use Rattle.formats.specs.Reading.{Got, got, refused, _>>_, header}
+use Rattle.formats.specs.Rows.{Condition}
+use Rattle.formats.specs.Model.{Model}
+use Rattle.formats.specs.Locations.{locationCount, modesAt}
+use Rattle.formats.specs.Joint.{JointSwitch, switchesOf, joints, countUp, joinAll}
+use Rattle.models.specs.Index.{entry, componentsFrom, modelFrom}
+use Rattle.formats.specs.ModelSheet.{Limits, readModel}
+use Rattle.formats.specs.Certificate.{readRegions}
+use Rattle.formats.proofs.Joint.{jointFrom}
+use Rattle.queries.specs.declared.Which.{Which}
+use Rattle.queries.specs.declared.Told.{Told}
+use Rattle.queries.specs.declared.Spot.{Spot}
+use Rattle.queries.specs.declared.JointSpot.{JointSpot}
+use Rattle.queries.specs.declared.Sought.{Sought}
+use Rattle.queries.specs.declared.Sought.the-variants as sought
+use Rattle.queries.specs.declared.RowFound.{RowFound}
+use Rattle.queries.specs.declared.RowFound.the-variants as row
+use Rattle.rules.specs.Runs.{modesIn, movers, stayingVariables}
+use Rattle.rules.specs.Obligations.{Hypothesis, nowhere, Kind, atStart, afterFlow, clearOfUnsafe, afterJump, Obligation, startHypotheses, flowHypotheses, unsafeHypotheses, jumpHypotheses, startObligations, flowObligations, unsafeObligations, jumpObligations, jumpsObligations, obligationsOver, obligations}
+use Rattle.hypotheses.specs.Listing.{noUnsafe}
+use Rattle.papers.specs.Paper.{regionsOf}
+use Rattle.scores.specs.Counting.{targetRows}
+use Rattle.rules.specs.Beside.{Found, found, unfound, noObligation, findIn, findAfter, findHypothesis}
+
+-- Which obligation it is: its kind as a number
+unfoldable pub kindNumber : Kind → ℕ
+kindNumber atStart = 0
+kindNumber afterFlow = 1
+kindNumber clearOfUnsafe = 2
+kindNumber afterJump = 3
+
+-- its kind, subject and line, with the second sheet and its length; a refusal has a number, sheet and place, then 0 0 0
+unfoldable pub whichTells : ℕ → Obligation → Which
+whichTells size o =
+    record {
+      number = 0;
+      sheet = 1;
+      place = size;
+      kind = kindNumber (o .kind);
+      subject = o .subject;
+      line = o .line;
+    }
+
+unfoldable pub whichRefused : ℕ → ℕ → ℕ → Which
+whichRefused number sheet place = record { number = number; sheet = sheet; place = place; kind = 0; subject = 0; line = 0 }
+
+-- by its number in the list; 5, "arguments: sheet 2, 0", where there are not so many
+unfoldable pub whichIn : ℕ → List Obligation → ℕ → Which
+whichIn size all o =
+    elim (ltb o (length all)) [ true ↦ whichTells size (getD all o noObligation) | false ↦ whichRefused 5 2 0 ]
+
+unfoldable pub whichAfter : Model → List ℕ → ℕ → Got (List Condition) → Which
+whichAfter m second o (refused number at) = whichRefused number 1 at
+whichAfter m second o (got regions next) = whichIn (length second) (obligations m regions) o
+
+-- "once the model and all regions read well"
+unfoldable pub whichObligation : Limits → List ℕ → List ℕ → ℕ → Which
+whichObligation limits model second o =
+    elim (readModel limits model) [
+      | got m next ↦ whichAfter m second o ((header 2 >> readRegions m) second 0)
+      | refused number at ↦ whichRefused number 0 at
+    ]
+
+-- Where the row of a hypothesis stands: in the model, in the second sheet, or in none
+unfoldable pub standsIn : ℕ → ℕ → ℕ → RowFound
+standsIn zero place size = row.InModel place size
+standsIn (suc zero) place size = row.InSecond place size
+standsIn (suc (suc sheet)) place size = row.Nowhere
+
+unfoldable pub rowFound : Found → RowFound
+rowFound (found h) = standsIn (h .sheet) (h .place) (h .size)
+rowFound (unfound number sheet place) = row.Refused number sheet place
+
+-- and that it lies inside its sheet
+unfoldable pub RowInside : List ℕ → List ℕ → RowFound → Type 0
+RowInside model second (row.InModel place size) = place + size ≤ length model
+RowInside model second (row.InSecond place size) = place + size ≤ length second
+RowInside model second row.Nowhere = Unit {0}
+RowInside model second (row.Refused number sheet place) = Unit {0}
+
+-- The part that is shown: so many bytes of that sheet from that place on, or none
+unfoldable pub PartIs : List ℕ → List ℕ → RowFound → List ℕ → Type 0
+PartIs model second (row.InModel place size) part =
+    (place + size ≤ length model) × ((part ≡ take size (drop place model)) × (length part ≡ size))
+PartIs model second (row.InSecond place size) part =
+    (place + size ≤ length second) × ((part ≡ take size (drop place second)) × (length part ≡ size))
+PartIs model second row.Nowhere part = part ≡ []
+PartIs model second (row.Refused number sheet place) part = part ≡ []
+
+-- a hypothesis by its number among those of an obligation, and both answers on one obligation or none
+unfoldable pub hypothesisFound : List Hypothesis → ℕ → Found
+hypothesisFound hypotheses h =
+    elim (ltb h (length hypotheses)) [ true ↦ found (getD hypotheses h (nowhere zeroRow)) | false ↦ unfound 5 2 0 ]
+
+unfoldable pub rowOf : List Obligation → ℕ → RowFound
+rowOf [] h = row.Refused 5 2 0
+rowOf (o ∷ rest) h = rowFound (hypothesisFound (o .hypotheses) h)
+
+unfoldable pub whichOf : ℕ → List Obligation → Which
+whichOf size [] = whichRefused 5 2 0
+whichOf size (o ∷ rest) = whichTells size o
+
+-- both, once the model is read, and from the start
+unfoldable pub toldRefused : ℕ → ℕ → ℕ → Told
+toldRefused number sheet place = record { which = whichRefused number sheet place; row = row.Refused number sheet place }
+
+unfoldable pub toldIn : ℕ → List Obligation → ℕ → ℕ → Told
+toldIn size all o h = record { which = whichIn size all o; row = rowFound (findIn all o h) }
+
+unfoldable pub toldAfter : Model → List ℕ → ℕ → ℕ → Got (List Condition) → Told
+toldAfter m second o h g = record { which = whichAfter m second o g; row = rowFound (findAfter m o h g) }
+
+unfoldable pub toldFor : Limits → List ℕ → List ℕ → ℕ → ℕ → Told
+toldFor limits model second o h =
+    record { which = whichObligation limits model second o; row = rowFound (findHypothesis limits model second o h) }
+
+-- The obligation with a number, as a list of one, or of none where there are not so many
+unfoldable pub oneAt : List Obligation → ℕ → List Obligation
+oneAt [] o = []
+oneAt (x ∷ all) zero = x ∷ []
+oneAt (x ∷ all) (suc o) = oneAt all o
+
+-- What a location has to prove, in groups: 0, its start; 1, its flow; from 2 on, each unsafe condition
+unfoldable pub groupObligations : Model → (ℕ → Condition) → ℕ → ℕ → List Obligation
+groupObligations m regionAt location zero = startObligations m regionAt location
+groupObligations m regionAt location (suc zero) = flowObligations m regionAt location
+groupObligations m regionAt location (suc (suc u)) = unsafeObligations m regionAt location u (getD (m .unsafe) u noUnsafe ∷ [])
+
+unfoldable pub groupKind : ℕ → Kind
+groupKind zero = atStart
+groupKind (suc zero) = afterFlow
+groupKind (suc (suc u)) = clearOfUnsafe
+
+unfoldable pub groupLine : ℕ → ℕ → ℕ
+groupLine zero line = line
+groupLine (suc zero) line = line
+groupLine (suc (suc u)) line = u
+
+unfoldable pub groupHypotheses : Model → (ℕ → Condition) → ℕ → ℕ → List Hypothesis
+groupHypotheses m regionAt location zero = startHypotheses (modesIn m location)
+groupHypotheses m regionAt location (suc zero) = flowHypotheses (m .variables) (regionAt location) (modesIn m location)
+groupHypotheses m regionAt location (suc (suc u)) =
+    unsafeHypotheses (regionAt location) (modesIn m location) (getD (m .unsafe) u noUnsafe .rows)
+
+-- which obligation that is
+unfoldable pub groupWhich : ℕ → ℕ → ℕ → ℕ → Which
+groupWhich size location g line =
+    record {
+      number = 0;
+      sheet = 1;
+      place = size;
+      kind = kindNumber (groupKind g);
+      subject = location;
+      line = groupLine g line;
+    }
+
+unfoldable pub groupOne : Model → (ℕ → Condition) → ℕ → ℕ → ℕ → Obligation
+groupOne m regionAt location g line =
+    record {
+      kind = groupKind g;
+      subject = location;
+      line = groupLine g line;
+      hypotheses = groupHypotheses m regionAt location g;
+      goal = getD (groupObligations m regionAt location g) line noObligation .goal;
+    }
+
+-- The joint switch with a number among those of its event, and what it has to prove
+unfoldable pub jointHere : List ℕ → List ℕ → ℕ → ℕ → ℕ → JointSwitch
+jointHere model index location e x =
+    jointFrom (componentsFrom model index) location e
+    (getD (switchesOf (componentsFrom model index) (modesAt (componentsFrom model index) location) e) x [])
+
+unfoldable pub jointHypotheses : Model → (ℕ → Condition) → JointSwitch → List Hypothesis
+jointHypotheses m regionAt j =
+    jumpHypotheses
+    (m .variables)
+    (regionAt (j .source))
+    (modesIn m (j .source))
+    (modesIn m (j .target))
+    (movers (m .components) (j .switches))
+    (stayingVariables m (j .switches))
+
+unfoldable pub jointOne : Model → (ℕ → Condition) → ℕ → JointSwitch → ℕ → Obligation
+jointOne m regionAt number j line =
+    record {
+      kind = afterJump;
+      subject = number;
+      line = line;
+      hypotheses = jointHypotheses m regionAt j;
+      goal = getD (jumpObligations m regionAt number j) line noObligation .goal;
+    }
+
+-- what was found
+unfoldable pub soughtOne : List ℕ → List ℕ → (ℕ → Condition) → Sought → List Obligation
+soughtOne model index regionAt (sought.AtLocation location g line) = groupOne (modelFrom model index) regionAt location g line ∷ []
+soughtOne model index regionAt (sought.AtJoint number location e x line) =
+    jointOne (modelFrom model index) regionAt number (jointHere model index location e x) line ∷ []
+soughtOne model index regionAt sought.Beyond = []
+
+-- and that its numbers are those of a location, a group, an event and a joint switch
+unfoldable pub KnownSought : List ℕ → List ℕ → Sought → Type 0
+KnownSought model index (sought.AtLocation location g line) =
+    (location < locationCount (componentsFrom model index)) × (g < 2 + entry index 2)
+KnownSought model index (sought.AtJoint number location e x line) =
+    (location < locationCount (componentsFrom model index))
+    × ((e ≤ 15) × (x < length (switchesOf (componentsFrom model index) (modesAt (componentsFrom model index) location) e)))
+KnownSought model index sought.Beyond = Unit {0}
+
+-- all obligations of a paper, by its places
+unfoldable pub paperObligations : List ℕ → List ℕ → List ℕ → List ℕ → List Obligation
+paperObligations model index second regions =
+    obligationsOver (modelFrom model index) (regionsOf model index second regions) (countUp 0 (locationCount (componentsFrom model index))) (joints (componentsFrom model index))
+
+-- A search over numbers below n, each with its own obligations: the one sought is still so many on from here, and if the search has not
+-- come to the end it is among those of the number that it stands at
+pub record SpotLeads (f : ℕ → List Obligation) (n : ℕ) (one : List Obligation) (rest : List Obligation) (s : Spot) : Type 0 where
+  pub within : s .at ≤ n
+  pub leads : oneAt (joinAll f (countUp (s .at) (n - s .at)) ++ rest) (s .left) ≡ one
+  pub here : s .at < n → s .left < length (f (s .at))
+
+-- the same over joint switches, whose obligations have their number, and of which there are at most 4,096
+pub record JointLeads (m : Model) (regionAt : ℕ → Condition) (f : ℕ → List JointSwitch) (n : ℕ) (one : List Obligation) (s : JointSpot) : Type 0 where
+  pub within : s .at ≤ n
+  pub leads : oneAt (jumpsObligations m regionAt (s .number) (joinAll f (countUp (s .at) (n - s .at)))) (s .left) ≡ one
+  pub counted : s .number + length (joinAll f (countUp (s .at) (n - s .at))) ≤ 4096
+  pub here : s .at < n → s .left < length (targetRows regionAt (f (s .at)))

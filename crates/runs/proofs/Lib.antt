@@ -1,0 +1,6 @@
+pub mod ValueLoops
+pub mod ValueLaws
+pub mod ValueStates
+pub mod JumpLaws
+pub mod RunCode
+pub mod RunCodeRead

@@ -1,0 +1,36 @@
+-- By the kind of the step: a flow keeps the modes, after a jump they are those of its target. Assumes nothing.
+use Prim.Native.Nat.{ℕ, _-_}
+use borrow.Author.Needs.{needs}
+use denote.Ref.{now}
+use lib.ListN.{replicate}
+use Rattle.models.specs.Index.{entry}
+use Rattle.papers.proofs.StandingLaws.{stands-at}
+use Rattle.runs.proofs.JumpLaws.{flow-stays}
+use Rattle.runs.proofs.jumps.modes_after.Statement.{statement}
+use Rattle.runs.proofs.jumps.modes_after.Tie as tie
+
+enum-told : tie.Need-enum-told
+enum-told c = search needs
+
+enum-told-2 : tie.Need-enum-told-2
+enum-told-2 c = search needs
+
+modes-at-requires : tie.Need-modes-at-requires
+modes-at-requires c κs = search needs
+
+returns : tie.Need-returns
+returns c =
+    let s = c .before .before .before in
+    let a = s .args in
+    let told = c .enum-told .given in
+    flow-stays (a .location) (a .target) (entry (now (a .index)) 1) (told .0 .0) (a .modes) (a .by) (told .1) (s .pre .1 .1 .1) (s .pre .1 .0)
+
+returns-2 : tie.Need-returns-2
+returns-2 c =
+    let s = c .before .before .before .before in
+    let a = s .args in
+    let rest = replicate {A = ℕ} (4 - entry (now (a .index)) 1) 0 in
+    stands-at (now (a .model)) (now (a .index)) (a .target) (c .modes-at .result) rest (s .pre .0) (s .pre .1 .1 .0) (c .modes-at .ensures)
+
+pub modes-after-spec : {M : Type 1} → statement M
+modes-after-spec = tie.close (tie.spec enum-told enum-told-2 modes-at-requires returns returns-2)

@@ -1,0 +1,36 @@
+-- What the contracts of run marking name besides the definitions of 01: a run sheet up to its steps, a step that was read, as
+-- the code holds it, and how far the marking of a run has come. Assumes nothing.
+use mathlib.Core.Bool.{cond}
+use mathlib.Core.List.{List}
+use Prim.Native.Nat.{ℕ, _≤_}
+use lib.Dec.{eqb}
+use lib.ListN.{length}
+use Rattle.formats.specs.Reading.{Reader, _>>_, header}
+use Rattle.formats.specs.Model.{Model}
+use Rattle.formats.specs.RunSheet.{Opening, readOpening}
+use Rattle.runs.specs.declared.RunMarked.{RunMarked}
+use Rattle.rules.specs.Runs.{State}
+use Rattle.papers.specs.Standing.{Stands}
+use Rattle.runs.specs.Held.{stateOf, SmallValues}
+use Rattle.rules.specs.Marking.{Marked, passed, stopped}
+
+-- a run sheet up to its steps: its header, then how the run begins
+unfoldable pub runOpening : Model → Reader Opening
+runOpening m = header 3 >> readOpening m
+
+-- how far the marking of a run has come: with number 0 its steps passed so far, with any other it has stopped
+unfoldable pub markedAs : List ℕ → RunMarked → Marked State
+markedAs index r =
+    cond (eqb (r .number) 0)
+    (passed (stateOf index (r .location) (r .values)) (r .place) (r .done))
+    (stopped (r .number) (r .place) (r .done))
+
+-- a run whose marking has stopped, with its state as it was
+unfoldable pub stoppedAt : RunMarked → ℕ → ℕ → RunMarked
+stoppedAt r number place = record { number = number; place = place; done = r .done; location = r .location; modes = r .modes; values = r .values }
+
+-- its state stands in a location of the model, with this location's modes and values as they are read, and its place in the sheet
+pub record RunStands (model index sheet : List ℕ) (r : RunMarked) : Type 0 where
+  pub stands : Stands model index (r .location) (r .modes)
+  pub small : SmallValues (r .values)
+  pub placed : r .place ≤ length sheet

@@ -1,0 +1,251 @@
+-- How many obligations there are: the rows of a region at the start and after a flow, the unsafe conditions that fit, and the rows of the
+-- targets of joint switches; each sum by its turns. Assumes nothing.
+use mathlib.Core.Path.{_≡_, refl, sym, ap, ap₂, _∙_, subst}
+use mathlib.Core.Bool.{Bool, true, false, cond}
+use mathlib.Core.List.{List, [], _∷_, _++_}
+use Prim.Native.Nat.{ℕ, suc, _+_, _*_, _-_, _≤_, _<_}
+use native.Mathlib.Nat.{sub-zero}
+use native.Mathlib.Numerals.{add-one}
+use native.Mathlib.Omega.{arith}
+use lib.Dec.{eqb}
+use lib.ListN.{length, getD, drop, length-append, drop-of-length-le}
+use lib.Seq.{drop-cons}
+use Rattle.farkas.specs.Lists.{every}
+use Rattle.farkas.specs.declared.Row.{Row}
+use Rattle.formats.specs.Rows.{Condition}
+use Rattle.formats.specs.Model.{Component, Unsafe, Model}
+use Rattle.formats.specs.Locations.{locationCount, modesAt, locationOf}
+use Rattle.formats.specs.Joint.{bit, numbersFrom, modesAfter, switchesOf, JointSwitch, jointsOf, joints, countUp, joinAll, fourSwitches}
+use Rattle.models.specs.Index.{entry, unsafePlace, unsafeFrom, componentsFrom, modelFrom, GoodIndex}
+use Rattle.models.specs.Counts.{perComponent, KnownSwitches}
+use Rattle.second_sheets.specs.CertificateAnswers.{regionsFrom}
+use Rattle.models.proofs.GoodIndexLaws.{counted-length, counted-drop, good-components}
+use Rattle.formats.proofs.Locations.{modes-at, location-of}
+use Rattle.formats.proofs.Joint.{jointFrom, Known, joint-known, modes-after}
+use Rattle.formats.proofs.JointCounts.{numbers-length, event-length, jointsIn}
+use Rattle.model_sheets.proofs.JointLoops.{switches-few, per-component-modes, record-at, found-joint, four-known, four-first}
+use Rattle.rules.specs.Runs.{present, modesIn, modesFit}
+use Rattle.rules.specs.Obligations.{Hypothesis, Kind, Obligation, perRow, startObligations, flowObligations, unsafeObligations, locationObligations, jumpObligations, jumpsObligations, obligationsOver, obligations, regionOf}
+use Rattle.papers.specs.Paper.{GoodPaper, regionsOf}
+use Rattle.scores.specs.Counting.{targetRows}
+use Rattle.rules.proofs.ListFacts.{joined-few, joined-twice, count-length}
+use Rattle.papers.proofs.StandingLaws.{have-modes}
+use Rattle.papers.proofs.RegionLaws.{region-few}
+
+-- numbers of elements that pass a test: not more than elements
+bit-few : (b : Bool) → bit b ≤ 1
+unfolding bit
+bit-few true = omega arith
+bit-few false = omega arith
+
+bit-times : (b : Bool) (n : ℕ) → bit b * n ≤ n
+unfolding bit
+bit-times true n = omega arith
+bit-times false n = omega arith
+
+numbers-few : {A : Type 0} (i : ℕ) (test : A → Bool) (xs : List A) → length (numbersFrom i test xs) ≤ length xs
+unfolding numbersFrom
+numbers-few i test [] = omega arith
+numbers-few i test (x ∷ xs) = omega (arith, numbers-length i test x xs, bit-few (test x), numbers-few (i + 1) test xs)
+
+-- the unsafe conditions that fit, from one on
+abbrev pub fittingOn : List ℕ → List ℕ → List ℕ → ℕ → List ℕ
+fittingOn model index modes u = numbersFrom u (λ w. modesFit (w .modes) (perComponent index modes)) (drop u (modelFrom model index .unsafe))
+
+module _ (model index : List ℕ) where
+  conditions-drop : (u : ℕ) → u < entry index 2 → drop u (modelFrom model index .unsafe) ≡ unsafeFrom model (entry index 0) (entry index 1) index (unsafePlace u) ∷ drop (u + 1) (modelFrom model index .unsafe)
+  unfolding modelFrom
+  conditions-drop u h = counted-drop (λ u. unsafeFrom model (entry index 0) (entry index 1) index (unsafePlace u)) (entry index 2) u h
+
+  conditions-length : length (modelFrom model index .unsafe) ≡ entry index 2
+  unfolding modelFrom
+  conditions-length = counted-length (λ u. unsafeFrom model (entry index 0) (entry index 1) index (unsafePlace u)) 0 (entry index 2)
+
+  pub fitting-turn : (modes : List ℕ) (u n : ℕ) {b : Bool} → u < entry index 2 → b ≡ modesFit (unsafeFrom model (entry index 0) (entry index 1) index (unsafePlace u) .modes) (perComponent index modes) → n ≡ bit b → length (fittingOn model index modes u) ≡ n + length (fittingOn model index modes (u + 1))
+  fitting-turn modes u n h p q =
+      let test : Unsafe → Bool = λ w. modesFit (w .modes) (perComponent index modes) in
+      ap (λ (ws : List Unsafe). length (numbersFrom u test ws)) (conditions-drop u h)
+      ∙ numbers-length u test (unsafeFrom model (entry index 0) (entry index 1) index (unsafePlace u)) (drop (u + 1) (modelFrom model index .unsafe))
+      ∙ ap (λ (k : ℕ). k + length (fittingOn model index modes (u + 1))) (sym (q ∙ ap bit p))
+
+  pub fitting-end : (modes : List ℕ) (u : ℕ) → entry index 2 ≤ u → length (fittingOn model index modes u) ≡ 0
+  unfolding numbersFrom
+  fitting-end modes u h =
+      ap (λ (ws : List Unsafe). length (numbersFrom u (λ w. modesFit (w .modes) (perComponent index modes)) ws)) (drop-of-length-le (modelFrom model index .unsafe) {i = u} (omega (arith, conditions-length)))
+
+  pub fitting-few : GoodIndex model index → (test : Unsafe → Bool) → length (numbersFrom 0 test (modelFrom model index .unsafe)) ≤ 16
+  fitting-few g test = omega (arith, numbers-few 0 test (modelFrom model index .unsafe), conditions-length, g .conditions)
+
+  pub fitting-most : GoodIndex model index → (modes : List ℕ) → length (fittingOn model index modes 0) ≤ 16
+  fitting-most g modes = fitting-few g (λ w. modesFit (w .modes) (perComponent index modes))
+
+-- one obligation per row
+rows-each : (kind : Kind) (subject : ℕ) (hypotheses : List Hypothesis) (put : Row → Row) (line : ℕ) (region : Condition) → length (perRow kind subject hypotheses put line region) ≡ length region
+unfolding perRow
+rows-each kind subject hypotheses put line [] = refl
+rows-each kind subject hypotheses put line (r ∷ region) = ap suc (rows-each kind subject hypotheses put (suc line) region)
+
+start-step : (b : Bool) (xs : List Obligation) (n : ℕ) → length xs ≡ n → length {A = Obligation} (elim b [ true ↦ xs | false ↦ [] ]) ≡ bit b * n
+unfolding bit
+start-step true xs n h = omega (arith, h)
+start-step false xs n h = omega arith
+
+unsafe-step : (b : Bool) (o : Obligation) (xs : List Obligation) (i : ℕ) (ys : List ℕ) → length xs ≡ length ys → length {A = Obligation} (elim b [ true ↦ o ∷ xs | false ↦ xs ]) ≡ length (cond b (i ∷ ys) ys)
+unsafe-step true o xs i ys h = ap suc h
+unsafe-step false o xs i ys h = h
+
+module _ (m : Model) (regionAt : ℕ → Condition) where
+  start-length : (location : ℕ) → length (startObligations m regionAt location) ≡ bit (every (λ mode. eqb (mode .start) 1) (modesIn m location)) * length (regionAt location)
+  unfolding startObligations
+  start-length location = start-step (every (λ mode. eqb (mode .start) 1) (modesIn m location)) _ (length (regionAt location)) (rows-each _ location _ _ 0 (regionAt location))
+
+  flow-length : (location : ℕ) → length (flowObligations m regionAt location) ≡ length (regionAt location)
+  unfolding flowObligations
+  flow-length location = rows-each _ location _ _ 0 (regionAt location)
+
+  unsafe-length : (location line : ℕ) (conditions : List Unsafe) → length (unsafeObligations m regionAt location line conditions) ≡ length (numbersFrom line (λ w. modesFit (w .modes) (modesAt (m .components) location)) conditions)
+  unfolding unsafeObligations numbersFrom
+  unsafe-length location line [] = refl
+  unsafe-length location line (u ∷ rest) = unsafe-step (modesFit (u .modes) (modesAt (m .components) location)) _ _ line _ (unsafe-length location (suc line) rest)
+
+  pub location-length : (location : ℕ) → length (locationObligations m regionAt location) ≡ bit (every (λ mode. eqb (mode .start) 1) (modesIn m location)) * length (regionAt location) + (length (regionAt location) + length (numbersFrom 0 (λ w. modesFit (w .modes) (modesAt (m .components) location)) (m .unsafe)))
+  unfolding locationObligations
+  location-length location =
+      let start = startObligations m regionAt location in
+      let flow = flowObligations m regionAt location in
+      let unsafe = unsafeObligations m regionAt location 0 (m .unsafe) in
+      length-append start (flow ++ unsafe)
+      ∙ ap₂ (λ (i j : ℕ). i + j) (start-length location) (length-append flow unsafe ∙ ap₂ (λ (i j : ℕ). i + j) (flow-length location) (unsafe-length location 0 (m .unsafe)))
+
+  jump-length : (number : ℕ) (j : JointSwitch) → length (jumpObligations m regionAt number j) ≡ length (regionAt (j .target))
+  unfolding jumpObligations
+  jump-length number j = rows-each _ number _ _ 0 (regionAt (j .target))
+
+  pub jumps-length : (number : ℕ) (switches : List JointSwitch) → length (jumpsObligations m regionAt number switches) ≡ length (targetRows regionAt switches)
+  unfolding jumpsObligations targetRows joinAll
+  jumps-length number [] = refl
+  jumps-length number (j ∷ rest) =
+      length-append (jumpObligations m regionAt number j) (jumpsObligations m regionAt (suc number) rest)
+      ∙ ap₂ (λ (i k : ℕ). i + k) (jump-length number j) (jumps-length (suc number) rest)
+      ∙ sym (length-append (regionAt (j .target)) (targetRows regionAt rest))
+
+-- the goals of a location are few
+pub location-few : {model index second regions : List ℕ} → GoodPaper model index second regions → (location : ℕ) → length (locationObligations (modelFrom model index) (regionsOf model index second regions) location) ≤ 48
+location-few {model} {index} {second} {regions} g location =
+    let m = modelFrom model index in
+    let rows = length (regionsOf model index second regions location) in
+    let starts = every (λ mode. eqb (mode .start) 1) (modesIn m location) in
+    omega (arith, location-length m (regionsOf model index second regions) location, bit-times starts rows, region-few model index second regions g location, fitting-few model index (g .good) (λ w. modesFit (w .modes) (modesAt (m .components) location)))
+
+-- their sum, by the counts of the modes of a location
+pub location-sum :
+    (model index second regions : List ℕ) (location : ℕ) (modes rest : List ℕ) → modes ≡ modesAt (componentsFrom model index) location ++ rest
+    → (starts rows fitting : ℕ) {b : Bool} → b ≡ every (λ mode. eqb (mode .start) 1) (present (componentsFrom model index) (perComponent index modes)) → starts ≡ bit b
+    → rows ≡ length (regionsOf model index second regions location) → fitting ≡ length (numbersFrom 0 (λ w. modesFit (w .modes) (perComponent index modes)) (modelFrom model index .unsafe))
+    → starts * rows + (rows + fitting) ≡ length (locationObligations (modelFrom model index) (regionsOf model index second regions) location)
+unfolding modesIn modelFrom
+location-sum model index second regions location modes rest e starts rows fitting p q r f =
+    let here = per-component-modes model index location modes rest e in
+    let m = modelFrom model index in
+    let s : starts ≡ bit (every (λ mode. eqb (mode .start) 1) (modesIn m location)) = q ∙ ap bit p ∙ ap (λ (ms : List ℕ). bit (every (λ mode. eqb (mode .start) 1) (present (componentsFrom model index) ms))) here in
+    let t : fitting ≡ length (numbersFrom 0 (λ w. modesFit (w .modes) (modesAt (m .components) location)) (m .unsafe)) = f ∙ ap (λ (ms : List ℕ). length (numbersFrom 0 (λ w. modesFit (w .modes) ms) (m .unsafe))) here in
+    ap₂ (λ (i j : ℕ). i + j) (ap₂ (λ (i j : ℕ). i * j) s r) (ap₂ (λ (i j : ℕ). i + j) r t) ∙ sym (location-length m (regionsOf model index second regions) location)
+
+pub joined-start : {B : Type 0} (f : ℕ → List B) (n : ℕ) → length (joinAll f (countUp 0 (n - 0))) ≡ length (joinAll f (countUp 0 n))
+joined-start f n = ap (λ (k : ℕ). length (joinAll f (countUp 0 k))) (sub-zero n)
+
+pub locations-few : {model index second regions : List ℕ} → GoodPaper model index second regions → (locations : ℕ) → locations ≡ locationCount (componentsFrom model index) → length (joinAll (locationObligations (modelFrom model index) (regionsOf model index second regions)) (countUp 0 locations)) ≤ 3072
+locations-few {model} {index} {second} {regions} g locations h =
+    omega (arith, joined-few (locationObligations (modelFrom model index) (regionsOf model index second regions)) 48 (location-few g) (countUp 0 locations), count-length 0 locations, g .few)
+
+-- all obligations
+pub obligations-length : (model index second regions : List ℕ) (locations : ℕ) → locations ≡ locationCount (componentsFrom model index) → length (obligations (modelFrom model index) (regionsFrom second (entry index 0) regions locations)) ≡ length (joinAll (locationObligations (modelFrom model index) (regionsOf model index second regions)) (countUp 0 locations)) + length (targetRows (regionsOf model index second regions) (joints (componentsFrom model index)))
+unfolding obligations obligationsOver modelFrom regionsOf
+obligations-length model index second regions locations h =
+    let m = modelFrom model index in
+    let count = locationCount (componentsFrom model index) in
+    let regionAt = regionOf (regionsFrom second (entry index 0) regions count) in
+    ap (λ (n : ℕ). length (obligations m (regionsFrom second (entry index 0) regions n))) h
+    ∙ length-append (joinAll (locationObligations m regionAt) (countUp 0 count)) (jumpsObligations m regionAt 0 (joints (componentsFrom model index)))
+    ∙ ap₂ (λ (i k : ℕ). i + k) (ap (λ (n : ℕ). length (joinAll (locationObligations m regionAt) (countUp 0 n))) (sym h)) (jumps-length m regionAt 0 (joints (componentsFrom model index)))
+
+-- the rows of targets
+pub rows-few : (regionAt : ℕ → Condition) → ((l : ℕ) → length (regionAt l) ≤ 16) → (switches : List JointSwitch) → length (targetRows regionAt switches) ≤ 16 * length switches
+unfolding targetRows
+rows-few regionAt h switches = joined-few (λ j. regionAt (j .target)) 16 (λ j. h (j .target)) switches
+
+pub rows-joined : (regionAt : ℕ → Condition) (f : ℕ → List JointSwitch) (xs : List ℕ) → length (joinAll (λ i. targetRows regionAt (f i)) xs) ≡ length (targetRows regionAt (joinAll f xs))
+unfolding targetRows
+rows-joined regionAt f xs = ap (λ (c : Condition). length c) (sym (joined-twice (λ j. regionAt (j .target)) f xs))
+
+pub rows-start : (regionAt : ℕ → Condition) (components : List Component) (locations : ℕ) → locations ≡ locationCount components → length (joinAll (λ l. targetRows regionAt (jointsIn components l)) (countUp 0 (locations - 0))) ≡ length (targetRows regionAt (joints components))
+unfolding joints
+rows-start regionAt components locations h =
+    ap (λ (n : ℕ). length (joinAll (λ l. targetRows regionAt (jointsIn components l)) (countUp 0 n))) (sub-zero locations ∙ h)
+    ∙ rows-joined regionAt (jointsIn components) (countUp 0 (locationCount components))
+
+-- how many joint switches an event has, by the modes of a location
+pub counted-switches : (components : List Component) (e : ℕ) {n : ℕ} {modes here : List ℕ} → n ≡ length (switchesOf components modes e) → modes ≡ here → n ≡ length (switchesOf components here e)
+counted-switches components e p q = p ∙ ap (λ (ms : List ℕ). length (switchesOf components ms e)) q
+
+-- of an event, from one of its joint switches on
+module _ (regionAt : ℕ → Condition) (components : List Component) (location e : ℕ) where
+  pub event-turn : (x : ℕ) → x < length (switchesOf components (modesAt components location) e) → length (targetRows regionAt (drop x (jointsOf components location e))) ≡ length (regionAt (locationOf components (modesAfter components (modesAt components location) (getD (switchesOf components (modesAt components location) e) x [])))) + length (targetRows regionAt (drop (x + 1) (jointsOf components location e)))
+  unfolding targetRows joinAll jointFrom
+  event-turn x h =
+      let switches = jointsOf components location e in
+      let found = jointFrom components location e (getD (switchesOf components (modesAt components location) e) x []) in
+      let next : drop x switches ≡ found ∷ drop (x + 1) switches =
+      drop-cons switches x found (omega (arith, event-length components location e)) ∙ ap₂ (λ (j : JointSwitch) (i : ℕ). j ∷ drop i switches) (record-at components location e x found h) (sym (add-one x)) in
+      ap (λ (js : List JointSwitch). length (targetRows regionAt js)) next
+      ∙ length-append (regionAt (found .target)) (targetRows regionAt (drop (x + 1) switches))
+
+  pub event-end : (x : ℕ) → length (switchesOf components (modesAt components location) e) ≤ x → length (targetRows regionAt (drop x (jointsOf components location e))) ≡ 0
+  unfolding targetRows joinAll
+  event-end x h =
+      ap (λ (js : List JointSwitch). length (targetRows regionAt js)) (drop-of-length-le (jointsOf components location e) {i = x} (omega (arith, event-length components location e)))
+
+pub event-few : {model index second regions : List ℕ} → GoodPaper model index second regions → (location e : ℕ) → length (targetRows (regionsOf model index second regions) (jointsOf (componentsFrom model index) location e)) ≤ 16777216
+event-few {model} {index} {second} {regions} g location e =
+    let components = componentsFrom model index in
+    omega (arith, rows-few (regionsOf model index second regions) (region-few model index second regions g) (jointsOf components location e), event-length components location e, switches-few (g .good) (modesAt components location) e)
+
+pub jumps-few : {model index second regions : List ℕ} → GoodPaper model index second regions → length (joints (componentsFrom model index)) ≤ 4096 → length (targetRows (regionsOf model index second regions) (joints (componentsFrom model index))) ≤ 65536
+jumps-few {model} {index} {second} {regions} g h =
+    omega (arith, rows-few (regionsOf model index second regions) (region-few model index second regions g) (joints (componentsFrom model index)))
+
+pub events-few : {model index second regions : List ℕ} → GoodPaper model index second regions → (location : ℕ) → length (targetRows (regionsOf model index second regions) (jointsIn (componentsFrom model index) location)) ≤ 268435456
+unfolding countUp
+events-few {model} {index} {second} {regions} g location =
+    let components = componentsFrom model index in
+    let regionAt = regionsOf model index second regions in
+    omega (arith, joined-few (λ e. targetRows regionAt (jointsOf components location e)) 16777216 (event-few g location) (countUp 0 16), rows-joined regionAt (jointsOf components location) (countUp 0 16))
+
+-- What is found by its number: switches that are known, which lead to a location
+module _ {model index : List ℕ} (g : GoodIndex model index) (location e x : ℕ) (modes : List ℕ) (h : location < locationCount (componentsFrom model index)) (p : perComponent index modes ≡ modesAt (componentsFrom model index) location) (k : e ≤ 15) (l : x < length (switchesOf (componentsFrom model index) (modesAt (componentsFrom model index) location) e)) where
+  abbrev pub foundAt : List ℕ
+  foundAt = getD (switchesOf (componentsFrom model index) (modesAt (componentsFrom model index) location) e) x []
+
+  pub found-known : Known (componentsFrom model index) foundAt
+  found-known = joint-known (componentsFrom model index) (modesAt (componentsFrom model index) location) e foundAt (found-joint (good-components g) location e x h k l)
+
+  pub found-below : locationOf (componentsFrom model index) (modesAfter (componentsFrom model index) (modesAt (componentsFrom model index) location) foundAt) < locationCount (componentsFrom model index)
+  found-below = location-of (modes-after (entry index 0) (good-components g) (modes-at (have-modes (good-components g)) location h) found-known)
+
+  pub found-within : x < length (switchesOf (componentsFrom model index) (perComponent index modes) e)
+  found-within = subst (λ (ms : List ℕ). x < length (switchesOf (componentsFrom model index) ms e)) (sym p) l
+
+  module _ (switches : List ℕ) (q : switches ≡ fourSwitches (getD (switchesOf (componentsFrom model index) (perComponent index modes) e) x [])) where
+    found-four : switches ≡ fourSwitches foundAt
+    found-four = q ∙ ap (λ (ms : List ℕ). fourSwitches (getD (switchesOf (componentsFrom model index) ms e) x [])) p
+
+    pub found-first : perComponent index switches ≡ foundAt
+    found-first = ap (perComponent index) found-four ∙ four-first g found-known
+
+    pub found-switches : KnownSwitches index switches
+    found-switches = subst (λ (ws : List ℕ). KnownSwitches index ws) (sym found-four) (four-known g found-known)
+
+    pub found-target : (target : ℕ) → target ≡ locationOf (componentsFrom model index) (modesAfter (componentsFrom model index) (perComponent index modes) (perComponent index switches)) → target ≡ locationOf (componentsFrom model index) (modesAfter (componentsFrom model index) (modesAt (componentsFrom model index) location) foundAt)
+    found-target target t =
+        t
+        ∙ ap₂ (λ (ms ws : List ℕ). locationOf (componentsFrom model index) (modesAfter (componentsFrom model index) ms ws)) p found-first

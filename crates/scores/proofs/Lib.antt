@@ -1,0 +1,2 @@
+pub mod CountGoals
+pub mod ScoreLaws

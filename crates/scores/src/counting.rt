@@ -1,0 +1,267 @@
+// How many obligations there are: the goals of each group, counted and never listed.
+use model_sheets::joints::bit_of;
+use model_sheets::joints::modes_at;
+use model_sheets::joints::target_of;
+use model_sheets::ways::WAYS_LENGTH;
+use model_sheets::ways::list_ways;
+use model_sheets::ways::way_at;
+use model_sheets::ways::ways_count;
+use models::layout::CONDITIONS_AT;
+use models::layout::Index;
+use papers::standing::all_start;
+use papers::standing::modes_fit;
+use second_sheets::ranges::Regions;
+ghost use mathlib.Core.Path.{_≡_};
+ghost use mathlib.Core.List.{[]};
+ghost use Prim.Native.Nat.{_+_, _*_, _≤_, _<_};
+ghost use lib.ListN.{length, getD};
+ghost use Rattle.formats.specs.Locations.{locationCount, modesAt, locationOf};
+ghost use Rattle.formats.specs.Joint.{numbersFrom, modesAfter, switchesOf, jointsOf, joints, joinAll, countUp};
+ghost use Rattle.models.specs.Index.{entry, componentsFrom, modelFrom, GoodIndex, variablesIn};
+ghost use Rattle.models.specs.Counts.{perComponent};
+ghost use Rattle.second_sheets.specs.CertificateAnswers.{regionsFrom};
+ghost use Rattle.model_sheets.specs.Ways.{Ways};
+ghost use Rattle.rules.specs.Runs.{modesFit};
+ghost use Rattle.rules.specs.Obligations.{locationObligations, obligations};
+ghost use Rattle.rules.specs.Marking.{refusedScore};
+ghost use Rattle.papers.specs.Paper.{GoodPaper, regionsOf};
+ghost use Rattle.scores.specs.Counting.{targetRows};
+
+// How many unsafe conditions there are whose modes fit the present ones.
+fn fitting_count(model: &[u8], index: &Index, modes: [u8; 4]) -> u32
+    requires { ⌜ GoodIndex (now model) (now index) ⌝ }
+    ensures { λ r. ⌜ r ≡ length (numbersFrom 0 (λ u. modesFit (u .modes) (perComponent (now (index .entry)) modes)) (modelFrom (now (model .entry)) (now (index .entry)) .unsafe)) ⌝ }
+{
+    let conditions = index[CONDITIONS_AT] as usize;
+    let mut count: u32 = 0;
+    let mut u: usize = 0;
+    while u < conditions {
+        count += bit_of(modes_fit(model, index, u, modes));
+        u += 1;
+    }
+    count
+}
+
+// How many rows a location's region has.
+pub fn region_rows(
+    model: &[u8],
+    index: &Index,
+    second: &[u8],
+    regions: &Regions,
+    location: u32,
+) -> u32
+    requires { ⌜ GoodPaper (now model) (now index) (now second) (now regions) ⌝ }
+    requires { ⌜ location < locationCount (componentsFrom (now model) (now index)) ⌝ }
+    ensures { λ r. ⌜ r ≡ length (regionsOf (now (model .entry)) (now (index .entry)) (now (second .entry)) (now (regions .entry)) location) ⌝ }
+{
+    regions[2 * (location as usize) + 1] as u32
+}
+
+// How many goals a location has: its region's rows from the start, if all its modes are start modes; after a flow; and one for each unsafe
+// condition that fits.
+pub fn location_goals(
+    model: &[u8],
+    index: &Index,
+    second: &[u8],
+    regions: &Regions,
+    location: u32,
+) -> u32
+    requires { ⌜ GoodPaper (now model) (now index) (now second) (now regions) ⌝ }
+    requires { ⌜ location < locationCount (componentsFrom (now model) (now index)) ⌝ }
+    ensures { λ r. ⌜ r ≡ length (locationObligations (modelFrom (now (model .entry)) (now (index .entry))) (regionsOf (now (model .entry)) (now (index .entry)) (now (second .entry)) (now (regions .entry))) location) ⌝ }
+{
+    let modes = modes_at(model, index, location);
+    let rows = region_rows(model, index, second, regions, location);
+    let fitting = fitting_count(model, index, modes);
+    let starts = bit_of(all_start(model, index, modes));
+    starts * rows + (rows + fitting)
+}
+
+// How many goals all locations have.
+fn all_location_goals(
+    model: &[u8],
+    index: &Index,
+    second: &[u8],
+    regions: &Regions,
+    locations: u32,
+) -> u32
+    requires { ⌜ GoodPaper (now model) (now index) (now second) (now regions) ⌝ }
+    requires { ⌜ locations ≡ locationCount (componentsFrom (now model) (now index)) ⌝ }
+    ensures { λ r. ⌜ r ≡ length (joinAll (locationObligations (modelFrom (now (model .entry)) (now (index .entry))) (regionsOf (now (model .entry)) (now (index .entry)) (now (second .entry)) (now (regions .entry)))) (countUp 0 locations)) ⌝ }
+{
+    let mut count: u32 = 0;
+    let mut location: u32 = 0;
+    while location < locations {
+        count += location_goals(model, index, second, regions, location);
+        location += 1;
+    }
+    count
+}
+
+// How many goals a joint switch has, found by its number from the table of its event's ways: the rows of its target's region.
+pub fn target_goals(
+    model: &[u8],
+    index: &Index,
+    second: &[u8],
+    regions: &Regions,
+    location: u32,
+    modes: [u8; 4],
+    e: u32,
+    ways: &[u8],
+    counts: [u32; 4],
+    x: u32,
+) -> u32
+    requires { ⌜ GoodPaper (now model) (now index) (now second) (now regions) ⌝ }
+    requires { ⌜ (location < locationCount (componentsFrom (now model) (now index))) × (perComponent (now index) modes ≡ modesAt (componentsFrom (now model) (now index)) location) ⌝ }
+    requires { ⌜ (128 ≤ length (now ways)) × Ways (now model) (now index) modes e (now ways) counts ⌝ }
+    requires { ⌜ (e ≤ 15) × (x < length (switchesOf (componentsFrom (now model) (now index)) (modesAt (componentsFrom (now model) (now index)) location) e)) ⌝ }
+    ensures { λ r. ⌜ r ≡ length (regionsOf (now (model .entry)) (now (index .entry)) (now (second .entry)) (now (regions .entry)) (locationOf (componentsFrom (now (model .entry)) (now (index .entry))) (modesAfter (componentsFrom (now (model .entry)) (now (index .entry))) (modesAt (componentsFrom (now (model .entry)) (now (index .entry))) location) (getD (switchesOf (componentsFrom (now (model .entry)) (now (index .entry))) (modesAt (componentsFrom (now (model .entry)) (now (index .entry))) location) e) x [])))) ⌝ }
+{
+    let switches = way_at(model, index, modes, e, ways, counts, x);
+    let target = target_of(model, index, modes, switches);
+    region_rows(model, index, second, regions, target)
+}
+
+// How many goals the joint switches of an event have, from the table of its ways.
+fn listed_goals(
+    model: &[u8],
+    index: &Index,
+    second: &[u8],
+    regions: &Regions,
+    location: u32,
+    modes: [u8; 4],
+    e: u32,
+    ways: &[u8],
+    counts: [u32; 4],
+) -> u32
+    requires { ⌜ GoodPaper (now model) (now index) (now second) (now regions) ⌝ }
+    requires { ⌜ (location < locationCount (componentsFrom (now model) (now index))) × (perComponent (now index) modes ≡ modesAt (componentsFrom (now model) (now index)) location) ⌝ }
+    requires { ⌜ (128 ≤ length (now ways)) × Ways (now model) (now index) modes e (now ways) counts ⌝ }
+    requires { ⌜ e ≤ 15 ⌝ }
+    ensures { λ r. ⌜ r ≡ length (targetRows (regionsOf (now (model .entry)) (now (index .entry)) (now (second .entry)) (now (regions .entry))) (jointsOf (componentsFrom (now (model .entry)) (now (index .entry))) location e)) ⌝ }
+{
+    let switches = ways_count(model, index, modes, e, ways, counts);
+    let mut count: u32 = 0;
+    let mut x: u32 = 0;
+    while x < switches {
+        count += target_goals(
+            model,
+            index,
+            second,
+            regions,
+            location,
+            modes,
+            e,
+            ways,
+            counts,
+            x,
+        );
+        x += 1;
+    }
+    count
+}
+
+// How many goals the joint switches of an event have, from a location with these modes. Their ways are listed once.
+pub fn event_goals(
+    model: &[u8],
+    index: &Index,
+    second: &[u8],
+    regions: &Regions,
+    location: u32,
+    modes: [u8; 4],
+    e: u32,
+) -> u32
+    requires { ⌜ GoodPaper (now model) (now index) (now second) (now regions) ⌝ }
+    requires { ⌜ (location < locationCount (componentsFrom (now model) (now index))) × (perComponent (now index) modes ≡ modesAt (componentsFrom (now model) (now index)) location) ⌝ }
+    requires { ⌜ e ≤ 15 ⌝ }
+    ensures { λ r. ⌜ r ≡ length (targetRows (regionsOf (now (model .entry)) (now (index .entry)) (now (second .entry)) (now (regions .entry))) (jointsOf (componentsFrom (now (model .entry)) (now (index .entry))) location e)) ⌝ }
+{
+    let mut ways = [0u8; WAYS_LENGTH];
+    let counts = list_ways(model, index, modes, e, &mut ways);
+    listed_goals(
+        model,
+        index,
+        second,
+        regions,
+        location,
+        modes,
+        e,
+        &ways,
+        counts,
+    )
+}
+
+// How many goals the joint switches from a location have.
+pub fn jump_goals(
+    model: &[u8],
+    index: &Index,
+    second: &[u8],
+    regions: &Regions,
+    location: u32,
+) -> u32
+    requires { ⌜ GoodPaper (now model) (now index) (now second) (now regions) ⌝ }
+    requires { ⌜ location < locationCount (componentsFrom (now model) (now index)) ⌝ }
+    ensures { λ r. ⌜ r ≡ length (targetRows (regionsOf (now (model .entry)) (now (index .entry)) (now (second .entry)) (now (regions .entry))) (joinAll (jointsOf (componentsFrom (now (model .entry)) (now (index .entry))) location) (countUp 0 16))) ⌝ }
+{
+    let modes = modes_at(model, index, location);
+    let mut count: u32 = 0;
+    let mut e: u32 = 0;
+    while e < 16 {
+        count += event_goals(model, index, second, regions, location, modes, e);
+        e += 1;
+    }
+    count
+}
+
+// How many goals all joint switches have.
+fn all_jump_goals(
+    model: &[u8],
+    index: &Index,
+    second: &[u8],
+    regions: &Regions,
+    locations: u32,
+) -> u32
+    requires { ⌜ GoodPaper (now model) (now index) (now second) (now regions) ⌝ }
+    requires { ⌜ (locations ≡ locationCount (componentsFrom (now model) (now index))) × (length (joints (componentsFrom (now model) (now index))) ≤ 4096) ⌝ }
+    ensures { λ r. ⌜ r ≡ length (targetRows (regionsOf (now (model .entry)) (now (index .entry)) (now (second .entry)) (now (regions .entry))) (joints (componentsFrom (now (model .entry)) (now (index .entry))))) ⌝ }
+{
+    let mut count: u32 = 0;
+    let mut location: u32 = 0;
+    while location < locations {
+        count += jump_goals(model, index, second, regions, location);
+        location += 1;
+    }
+    count
+}
+
+// How many obligations there are in all.
+pub fn obligation_count(
+    model: &[u8],
+    index: &Index,
+    second: &[u8],
+    regions: &Regions,
+    locations: u32,
+) -> u32
+    requires { ⌜ GoodPaper (now model) (now index) (now second) (now regions) ⌝ }
+    requires { ⌜ (locations ≡ locationCount (componentsFrom (now model) (now index))) × (length (joints (componentsFrom (now model) (now index))) ≤ 4096) ⌝ }
+    ensures { λ r. ⌜ r ≡ length (obligations (modelFrom (now (model .entry)) (now (index .entry))) (regionsFrom (now (second .entry)) (variablesIn (now (index .entry))) (now (regions .entry)) locations)) ⌝ }
+{
+    let here = all_location_goals(model, index, second, regions, locations);
+    here + all_jump_goals(model, index, second, regions, locations)
+}
+
+// The score of a refused certificate: 100 times the proofs that passed over all obligations, rounded down, or 100 if there are none; at
+// most 99.
+pub fn refused_score(done: u32, total: u32) -> u32
+    requires { ⌜ done ≤ 1000000 ⌝ }
+    ensures { λ r. ⌜ r ≡ refusedScore done total ⌝ }
+{
+    if total == 0 {
+        return 99;
+    }
+    let score = 100 * done / total;
+    if 99 < score {
+        return 99;
+    }
+    score
+}

@@ -1,0 +1,3 @@
+pub mod CertificateLaws
+pub mod RunLaws
+pub mod StepLaws

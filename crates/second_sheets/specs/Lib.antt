@@ -1,0 +1,2 @@
+pub mod CertificateAnswers
+pub mod RunAnswers
