@@ -12,7 +12,7 @@ use Rattle.formats.specs.Model.{Model}
 use Rattle.formats.specs.Locations.{locationCount}
 use Rattle.formats.specs.Joint.{joints}
 use Rattle.models.specs.Index.{entry, componentsFrom, modelFrom}
-use Rattle.formats.specs.ModelSheet.{Limits, readModel}
+use Rattle.formats.specs.ModelSheet.{Limits, readModel, examLimits}
 use Rattle.formats.specs.Certificate.{readRegions}
 use Rattle.second_sheets.specs.CertificateAnswers.{regionsFrom}
 use Rattle.formats.proofs.Gives.{passes}
@@ -26,6 +26,8 @@ use Rattle.certificates.specs.Passed.{standsAt}
 use Rattle.rules.proofs.MarkedRanges.{Marks, proofs-mark}
 use Rattle.scores.proofs.CountGoals.{obligations-length, locations-few, jumps-few}
 use Rattle.certificates.proofs.MarkLaws.{stands-passed, stands-stopped}
+use Rattle.papers.specs.Opening.{opened, Open}
+use Rattle.papers.proofs.OpenLaws.{open-refused, open-goes-on, opened-answer}
 
 -- its obligations are not many
 pub obligations-few : {model index second regions : List ℕ} → GoodPaper model index second regions → (locations : ℕ) → locations ≡ locationCount (componentsFrom model index) → length (joints (componentsFrom model index)) ≤ 4096 → length (obligations (modelFrom model index) (regionsFrom second (entry index 0) regions locations)) ≤ 1000000
@@ -124,3 +126,17 @@ pub certificate-sheet : (limits : Limits) (model second : List ℕ) (m : Model) 
 unfolding markCertificate withModel
 certificate-sheet limits model second m next e =
     sym (ap (λ g. withModel g (λ m. markRegions m second ((header 2 >> readRegions m) second 0))) e)
+
+-- a paper that does not open is refused so; one that is open is marked from its body on
+module _ (model second : List ℕ) where
+  pub certificate-refused : (opened examLimits 2 model second .number ≡ 0 → ⊥) → opened examLimits 2 model second ≡ markCertificate examLimits model second
+  certificate-refused f =
+      opened-answer examLimits 2 model second
+      ∙ open-refused examLimits 2 model second (λ n s p. answer n s p 0 0) readRegions (λ m. markRegions m second) (markCertificate examLimits model second)
+      (λ m number at. regions-stop m second (refused number at) number at refl) (certificate-model examLimits model second) (certificate-sheet examLimits model second) f
+
+  pub certificate-open : {index : List ℕ} → Open 2 model index second → markRegions (modelFrom model index) second (readRegions (modelFrom model index) second 4) ≡ markCertificate examLimits model second
+  certificate-open {index} w =
+      open-goes-on examLimits 2 model second (λ n s p. answer n s p 0 0) readRegions (λ m. markRegions m second) (markCertificate examLimits model second)
+      (λ m number at. regions-stop m second (refused number at) number at refl) (certificate-model examLimits model second) (certificate-sheet examLimits model second)
+      (modelFrom model index) (w .end) (w .version) (w .reads) (w .headed)

@@ -1,16 +1,14 @@
 // Marking a certificate: its regions, the proofs of all obligations, and its end.
 use crate::Marking;
 use crate::obligations::mark_obligations;
-use fields::Field;
 use fields::Next;
 use fields::header::finished;
-use fields::header::header;
 use model_sheets::joints::location_count;
-use model_sheets::sheet::read_model;
+use models::layout::INDEX_LENGTH;
 use models::layout::Index;
 use models::layout::VARIABLES_AT;
-use papers::answers::on_model;
 use papers::answers::on_second;
+use papers::opening::open_paper;
 use rules::Answer;
 use scores::counting::obligation_count;
 use scores::counting::refused_score;
@@ -28,7 +26,7 @@ ghost use Rattle.formats.specs.Certificate.{readRegions};
 ghost use Rattle.second_sheets.specs.CertificateAnswers.{regionsFrom};
 ghost use Rattle.rules.specs.Obligations.{obligations};
 ghost use Rattle.rules.specs.Marking.{answer, refusedScore, passed, markProofs, closeCertificate, markRegions, markCertificate};
-ghost use Rattle.papers.specs.Paper.{GoodPaper, Accepted, certificateRegions};
+ghost use Rattle.papers.specs.Paper.{GoodPaper, Accepted};
 
 // The answer where a proof was refused. Only then are the obligations counted, for the score.
 fn stop_certificate(
@@ -101,26 +99,14 @@ fn mark_body(model: &[u8], index: &Index, second: &[u8]) -> Answer
     }
 }
 
-// A certificate sheet, whole, on a model that was read.
-fn mark_sheet(model: &[u8], index: &Index, second: &[u8]) -> Answer
-    requires { ⌜ Accepted (now model) (now index) ⌝ }
-    ensures { λ r. ⌜ r ≡ markRegions (modelFrom (now (model .entry)) (now (index .entry))) (now (second .entry)) (certificateRegions (modelFrom (now (model .entry)) (now (index .entry))) (now (second .entry)) 0) ⌝ }
-{
-    match header(second, 2) {
-        Field::Refused(number, place) => on_second(number, place, 0, 0),
-        Field::Value(_, _) => mark_body(model, index, second),
-    }
-}
-
 // Marks a certificate: the model goes first, then the certificate sheet.
 pub fn mark_certificate(model: &[u8], second: &[u8]) -> Answer
     ensures { λ r. ⌜ r ≡ markCertificate examLimits (now (model .entry)) (now (second .entry)) ⌝ }
 {
-    let read = read_model(model);
-    let index = read.index;
-    let next = read.next;
-    match next {
-        Next::Refused(number, place) => on_model(number, place),
-        Next::At(_) => mark_sheet(model, &index, second),
+    let mut index = [0u16; INDEX_LENGTH];
+    let opened = open_paper(model, second, 2, &mut index);
+    if opened.number != 0 {
+        return opened;
     }
+    mark_body(model, &index, second)
 }

@@ -35,8 +35,8 @@ fn within_limits(s: &[u8], index: &Index, next: usize) -> Next
     Next::At(next)
 }
 
-// A model sheet, read into a lent index.
-fn model_into(s: &[u8], index: &mut Index) -> Next
+// A model sheet, read into a lent index. After a refusal the index is free.
+pub fn model_into(s: &[u8], index: &mut Index) -> Next
     ensures { λ r. ⌜ gotAs (modelFrom (now (s .entry)) (now (index .exit))) r ≡ readModel examLimits (now (s .entry)) ⌝ }
 {
     match header(s, 1) {

@@ -1,5 +1,6 @@
 pub mod IndexLaws
 pub mod ModelLaws
+pub mod FillLoop
 pub mod ComponentLaws
 pub mod UnsafeLaws
 pub mod BodyLaws

@@ -18,7 +18,7 @@ use Rattle.formats.specs.Locations.{locationCount}
 use Rattle.formats.specs.Joint.{countUp}
 use Rattle.models.specs.Index.{entry, spanRows, unsafePlace, unsafeFrom, componentsFrom, modelFrom, GoodIndex}
 use Rattle.models.specs.Counts.{perComponent, KnownSwitches}
-use Rattle.formats.specs.ModelSheet.{Limits, readModel}
+use Rattle.formats.specs.ModelSheet.{Limits, readModel, examLimits}
 use Rattle.formats.specs.Certificate.{readRegions}
 use Rattle.second_sheets.specs.CertificateAnswers.{regionsFrom}
 use Rattle.rules.specs.declared.Answer.{Answer}
@@ -38,6 +38,8 @@ use Rattle.hypotheses.proofs.HypothesisLines.{told, start-told, flow-told, unsa
 use Rattle.papers.proofs.RegionLaws.{region-at}
 use Rattle.rules.proofs.MarkedRanges.{found-within}
 use Rattle.queries.proofs.FindLaws.{condition-at}
+use Rattle.papers.specs.Opening.{opened, Open}
+use Rattle.papers.proofs.OpenLaws.{open-refused, open-goes-on}
 
 -- The answers by a number in the list are those by the one obligation that has it
 one-there : (all : List Obligation) (o : ℕ) → o < length all → oneAt all o ≡ getD all o noObligation ∷ []
@@ -266,6 +268,19 @@ pub told-sheet : (limits : Limits) (model second : List ℕ) (o h : ℕ) (m : Mo
 unfolding toldAfter toldFor whichObligation findHypothesis
 told-sheet limits model second o h m next e =
     sym (ap (λ (g : Got Model). record { which = whichGot second o g; row = rowFound (findGot second o h g) }) e)
+
+-- a paper that does not open is refused so; one that is open is told from its body on
+module _ (model second : List ℕ) (o h : ℕ) where
+  pub told-refused-first : (opened examLimits 2 model second .number ≡ 0 → ⊥) → toldRefused (opened examLimits 2 model second .number) (opened examLimits 2 model second .sheet) (opened examLimits 2 model second .place) ≡ toldFor examLimits model second o h
+  told-refused-first f =
+      open-refused examLimits 2 model second toldRefused readRegions (λ m. toldAfter m second o h) (toldFor examLimits model second o h)
+      (λ m number at. told-stops m second o h (refused number at) number at refl) (told-model examLimits model second o h) (told-sheet examLimits model second o h) f
+
+  pub told-open : {index : List ℕ} → Open 2 model index second → toldAfter (modelFrom model index) second o h (readRegions (modelFrom model index) second 4) ≡ toldFor examLimits model second o h
+  told-open {index} w =
+      open-goes-on examLimits 2 model second toldRefused readRegions (λ m. toldAfter m second o h) (toldFor examLimits model second o h)
+      (λ m number at. told-stops m second o h (refused number at) number at refl) (told-model examLimits model second o h) (told-sheet examLimits model second o h)
+      (modelFrom model index) (w .end) (w .version) (w .reads) (w .headed)
 
 -- What is found lies inside its sheet
 stands-inside : (model second : List ℕ) (sheet place size : ℕ) → place + size ≤ length (sheetOf model second sheet) → RowInside model second (standsIn sheet place size)

@@ -5,13 +5,12 @@ use crate::Told;
 use crate::Which;
 use crate::find::find;
 use crate::rows::sought_row;
-use fields::Field;
 use fields::Next;
-use fields::header::header;
 use model_sheets::joints::location_count;
-use model_sheets::sheet::read_model;
+use models::layout::INDEX_LENGTH;
 use models::layout::Index;
 use models::layout::VARIABLES_AT;
+use papers::opening::open_paper;
 use rules::Answer;
 use second_sheets::certificate::read_regions;
 use second_sheets::ranges::REGIONS_LENGTH;
@@ -26,7 +25,7 @@ ghost use Rattle.formats.specs.ModelSheet.{examLimits};
 ghost use Rattle.formats.specs.Certificate.{readRegions};
 ghost use Rattle.second_sheets.specs.CertificateAnswers.{regionsFrom};
 ghost use Rattle.rules.specs.Obligations.{obligations};
-ghost use Rattle.papers.specs.Paper.{GoodPaper, regionsOf, Accepted, certificateRegions};
+ghost use Rattle.papers.specs.Paper.{GoodPaper, regionsOf, Accepted};
 ghost use Rattle.rules.specs.Beside.{findHypothesis, showAnswer, showPart};
 ghost use Rattle.queries.specs.Finding.{whichObligation, groupWhich, rowFound, RowInside, whichOf, toldRefused, toldIn, toldAfter, toldFor, soughtOne, PartIs};
 
@@ -146,28 +145,16 @@ fn tell_body(model: &[u8], index: &Index, second: &[u8], o: u32, h: u32) -> Told
     }
 }
 
-// What is found in a second sheet, on a model that was read.
-fn tell_sheet(model: &[u8], index: &Index, second: &[u8], o: u32, h: u32) -> Told
-    requires { ⌜ Accepted (now model) (now index) ⌝ }
-    ensures { λ r. ⌜ r ≡ toldAfter (modelFrom (now (model .entry)) (now (index .entry))) (now (second .entry)) o h (certificateRegions (modelFrom (now (model .entry)) (now (index .entry))) (now (second .entry)) 0) ⌝ }
-{
-    match header(second, 2) {
-        Field::Refused(number, place) => told_refused(number, 1, place),
-        Field::Value(_, _) => tell_body(model, index, second, o, h),
-    }
-}
-
 // What is found: the model goes first, then the second sheet up to its regions, then the two numbers.
 fn tell(model: &[u8], second: &[u8], o: u32, h: u32) -> Told
     ensures { λ r. ⌜ r ≡ toldFor examLimits (now (model .entry)) (now (second .entry)) o h ⌝ }
 {
-    let read = read_model(model);
-    let index = read.index;
-    let next = read.next;
-    match next {
-        Next::Refused(number, place) => told_refused(number, 0, place),
-        Next::At(_) => tell_sheet(model, &index, second, o, h),
+    let mut index = [0u16; INDEX_LENGTH];
+    let opened = open_paper(model, second, 2, &mut index);
+    if opened.number != 0 {
+        return told_refused(opened.number, opened.sheet, opened.place as usize);
     }
+    tell_body(model, &index, second, o, h)
 }
 
 // Which obligation has a number.

@@ -13,7 +13,7 @@ use borrow.Author.Tests.{eq-eqb, ne-eqb}
 use Rattle.farkas.specs.Lists.{none, more}
 use Rattle.formats.specs.Reading.{Got, got, refused, _>>_, header, finished}
 use Rattle.formats.specs.Model.{Model}
-use Rattle.formats.specs.ModelSheet.{Limits, readModel}
+use Rattle.formats.specs.ModelSheet.{Limits, readModel, examLimits}
 use Rattle.formats.specs.RunSheet.{Step, Opening, readOpening, readStep}
 use Rattle.formats.proofs.Placed.{Fine, placed-finished, placed-step}
 use Rattle.rules.specs.declared.Answer.{Answer}
@@ -22,6 +22,9 @@ use Rattle.rules.specs.Runs.{State, startAllowed, after, stepAllowed, isUnsafe}
 use Rattle.runs.specs.Held.{perVariable, stateOf}
 use Rattle.runs.specs.RunHeld.{markedAs}
 use Rattle.rules.specs.Marking.{answer, Marked, passed, stopped, withModel, testStep, markStep, markSteps, closeRun, firstState, markOpening, markRun}
+use Rattle.papers.specs.Opening.{opened, Open}
+use Rattle.models.specs.Index.{modelFrom}
+use Rattle.papers.proofs.OpenLaws.{open-refused, open-goes-on, opened-answer}
 
 -- One step: what its test comes to, and the marking after it
 unfoldable afterStep : Model → State → ℕ → Got Step → Marked State
@@ -218,16 +221,16 @@ module _ (m : Model) (sheet : List ℕ) (g : Got Opening) where
   opening-stops number at e = sym (ap (markOpening m sheet) e)
 
   module _ (index : List ℕ) (values : List ℤ) (q steps place location next : ℕ) (reads : g ≡ got (record { q = q; steps = steps; place = place; location = location; values = perVariable index values }) next) where
-    opened : Opening
-    opened = record { q = q; steps = steps; place = place; location = location; values = perVariable index values }
+    beginning : Opening
+    beginning = record { q = q; steps = steps; place = place; location = location; values = perVariable index values }
 
     pub opening-fails : false ≡ startAllowed m q (stateOf index location values) → answer 12 1 place 0 0 ≡ markOpening m sheet g
-    unfolding begun firstState stateOf opened
-    opening-fails p = ap (begun m sheet opened next) p ∙ sym (ap (markOpening m sheet) reads ∙ begins m sheet opened next)
+    unfolding begun firstState stateOf beginning
+    opening-fails p = ap (begun m sheet beginning next) p ∙ sym (ap (markOpening m sheet) reads ∙ begins m sheet beginning next)
 
     pub opening-runs : true ≡ startAllowed m q (stateOf index location values) → closeRun m q sheet (markSteps m q (stateOf index location values) steps sheet next 0) ≡ markOpening m sheet g
-    unfolding begun firstState stateOf opened
-    opening-runs p = ap (begun m sheet opened next) p ∙ sym (ap (markOpening m sheet) reads ∙ begins m sheet opened next)
+    unfolding begun firstState stateOf beginning
+    opening-runs p = ap (begun m sheet beginning next) p ∙ sym (ap (markOpening m sheet) reads ∙ begins m sheet beginning next)
 
 -- The whole
 pub run-model : (limits : Limits) (model second : List ℕ) (number place : ℕ) → readModel limits model ≡ refused number place → answer number 0 place 0 0 ≡ markRun limits model second
@@ -239,3 +242,17 @@ pub run-sheet : (limits : Limits) (model second : List ℕ) (m : Model) (next : 
 unfolding markRun withModel
 run-sheet limits model second m next e =
     sym (ap (λ g. withModel g (λ m. markOpening m second ((header 3 >> readOpening m) second 0))) e)
+
+-- a paper that does not open is refused so; one that is open is marked from its body on
+module _ (model second : List ℕ) where
+  pub run-refused : (opened examLimits 3 model second .number ≡ 0 → ⊥) → opened examLimits 3 model second ≡ markRun examLimits model second
+  run-refused f =
+      opened-answer examLimits 3 model second
+      ∙ open-refused examLimits 3 model second (λ n s p. answer n s p 0 0) readOpening (λ m. markOpening m second) (markRun examLimits model second)
+      (λ m number at. opening-stops m second (refused number at) number at refl) (run-model examLimits model second) (run-sheet examLimits model second) f
+
+  pub run-open : {index : List ℕ} → Open 3 model index second → markOpening (modelFrom model index) second (readOpening (modelFrom model index) second 4) ≡ markRun examLimits model second
+  run-open {index} w =
+      open-goes-on examLimits 3 model second (λ n s p. answer n s p 0 0) readOpening (λ m. markOpening m second) (markRun examLimits model second)
+      (λ m number at. opening-stops m second (refused number at) number at refl) (run-model examLimits model second) (run-sheet examLimits model second)
+      (modelFrom model index) (w .end) (w .version) (w .reads) (w .headed)

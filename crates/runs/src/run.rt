@@ -5,16 +5,14 @@ use crate::jumps::modes_after;
 use crate::jumps::step_allowed;
 use crate::values::is_unsafe;
 use crate::values::start_allowed;
-use fields::Field;
 use fields::Next;
 use fields::header::finished;
-use fields::header::header;
 use model_sheets::joints::location_count;
 use model_sheets::joints::modes_at;
-use model_sheets::sheet::read_model;
+use models::layout::INDEX_LENGTH;
 use models::layout::Index;
-use papers::answers::on_model;
 use papers::answers::on_second;
+use papers::opening::open_paper;
 use rules::Answer;
 use second_sheets::OpeningRead;
 use second_sheets::StepRead;
@@ -27,7 +25,7 @@ ghost use Rattle.models.specs.Index.{modelFrom, GoodIndex};
 ghost use Rattle.formats.specs.ModelSheet.{examLimits};
 ghost use Rattle.formats.specs.RunSheet.{readOpening};
 ghost use Rattle.runs.specs.Held.{stateOf};
-ghost use Rattle.runs.specs.RunHeld.{runOpening, stoppedAt, markedAs, RunStands};
+ghost use Rattle.runs.specs.RunHeld.{stoppedAt, markedAs, RunStands};
 ghost use Rattle.rules.specs.Marking.{markSteps, closeRun, markOpening, markRun};
 
 // A run whose marking has stopped: the number and place of the refusal, and the state as it was.
@@ -176,26 +174,14 @@ fn mark_body(model: &[u8], index: &Index, s: &[u8]) -> Answer
     }
 }
 
-// A run sheet, whole, on a model that was read.
-fn mark_sheet(model: &[u8], index: &Index, s: &[u8]) -> Answer
-    requires { ⌜ GoodIndex (now model) (now index) ⌝ }
-    ensures { λ r. ⌜ r ≡ markOpening (modelFrom (now (model .entry)) (now (index .entry))) (now (s .entry)) (runOpening (modelFrom (now (model .entry)) (now (index .entry))) (now (s .entry)) 0) ⌝ }
-{
-    match header(s, 3) {
-        Field::Refused(number, place) => on_second(number, place, 0, 0),
-        Field::Value(_, _) => mark_body(model, index, s),
-    }
-}
-
 // Marks a run: the model goes first, then the run sheet.
 pub fn mark_run(model: &[u8], second: &[u8]) -> Answer
     ensures { λ r. ⌜ r ≡ markRun examLimits (now (model .entry)) (now (second .entry)) ⌝ }
 {
-    let read = read_model(model);
-    let index = read.index;
-    let next = read.next;
-    match next {
-        Next::Refused(number, place) => on_model(number, place),
-        Next::At(_) => mark_sheet(model, &index, second),
+    let mut index = [0u16; INDEX_LENGTH];
+    let opened = open_paper(model, second, 3, &mut index);
+    if opened.number != 0 {
+        return opened;
     }
+    mark_body(model, &index, second)
 }

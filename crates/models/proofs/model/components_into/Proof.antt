@@ -1,24 +1,23 @@
 -- The read-loop law: the components so far, in front of those to come, are all of them. Assumes nothing.
-use mathlib.Core.Path.{_≡_, refl, _∙_}
-use Prim.Native.Nat.{ℕ, _+_, _*_, _-_, _<_, _≤_}
+use mathlib.Core.Path.{_∙_}
+use Prim.Native.Nat.{_+_, _*_, _-_}
 use native.Mathlib.Omega.{arith}
 use borrow.Author.Needs.{needs}
 use denote.Ref.{now}
 use lib.ListN.{length}
-use Rattle.formats.specs.Reading.{refused, many}
-use Rattle.models.specs.Index.{entry, Kept, componentFrom, componentPlace}
+use Rattle.models.specs.Index.{componentFrom, componentPlace}
 use Rattle.fields.specs.Answers.{gotAs}
-use Rattle.fields.proofs.ChainLaws.{told-at, told-refused}
-use Rattle.models.proofs.IndexLaws.{kept-then, kept-wider, agree-low, kept-none}
+use Rattle.fields.proofs.ChainLaws.{told-at}
+use Rattle.models.proofs.IndexLaws.{agree-low}
 use Rattle.formats.specs.Model.{readComponent}
-use Rattle.fields.proofs.ReadLoop.{upTo, Reading, reading-starts, reading-goes-on, reading-stops, reading-ends}
-use Rattle.models.proofs.ComponentLaws.{component-same, blocks-next}
+use Rattle.models.proofs.FillLoop.{Filled, fill-starts, fill-stops, fill-goes-on, fill-ends}
+use Rattle.models.proofs.ComponentLaws.{Blocks, component-same, blocks-next}
 use Rattle.models.proofs.model.components_into.Statement.{statement}
 use Rattle.models.proofs.model.components_into.Tie as tie
 
 abbrev Inv-loop : tie.InvT-loop
 Inv-loop s at n index₀ count place₀ k₀ index place k =
-    (k ≤ count) × ((length index ≡ length index₀) × (Reading (readComponent n) count s (many count (readComponent n) s at) (λ i. componentFrom s n index (componentPlace i)) k place × (Kept 16 892 index₀ index × ((i : ℕ) → i < k → (entry index (componentPlace i + 1) ≤ 8) × (entry index (componentPlace i + 2) ≤ 32)))))
+    Filled (readComponent n) (λ x i. componentFrom s n x (componentPlace i)) count s at 16 892 index₀ index k place × Blocks index k
 
 abbrev μ-loop : tie.MeasureT-loop
 μ-loop s at n index₀ count place₀ k₀ index place k =
@@ -27,7 +26,8 @@ abbrev μ-loop : tie.MeasureT-loop
 loop-holds : tie.Need-loop-holds Inv-loop μ-loop
 loop-holds c =
     let a = c .before .before .args in
-    (omega arith, (refl, (reading-starts (readComponent (a .n)) (a .count) (now (a .s)) (many (a .count) (readComponent (a .n)) (now (a .s)) (a .at)) (λ i. componentFrom (now (a .s)) (a .n) (now (a .index)) (componentPlace i)) (a .at) refl, (kept-none 16 892 (now (a .index)), (λ i h. absurd (omega arith))))))
+    let s = now (a .s) in
+    (fill-starts (readComponent (a .n)) (λ x i. componentFrom s (a .n) x (componentPlace i)) (a .count) s (a .at) 16 892 (now (a .index)), (λ i h. absurd (omega arith)))
 
 mul-component-into : tie.Need-mul-component-into Inv-loop μ-loop
 mul-component-into c =
@@ -39,7 +39,7 @@ add-component-into c =
 
 component-into-requires : tie.Need-component-into-requires Inv-loop μ-loop
 component-into-requires c κs =
-    (record { short = c .before .before .before .before .before .pre .0 .short; long = omega (arith, c .before .before .before .before .before .pre .0 .long, c .before .before .loop .inv .1 .0) }, (c .before .before .before .before .before .pre .1 .0, omega (arith, c .before .before .before .before .before .pre .1, c .before .loop-test .taken)))
+    (record { short = c .before .before .before .before .before .pre .0 .short; long = omega (arith, c .before .before .before .before .before .pre .0 .long, c .before .before .loop .inv .0 .1 .0) }, (c .before .before .before .before .before .pre .1 .0, omega (arith, c .before .before .before .before .before .pre .1, c .before .loop-test .taken)))
 
 enum-known-number : tie.Need-enum-known-number Inv-loop μ-loop
 enum-known-number c =
@@ -47,24 +47,18 @@ enum-known-number c =
 
 same-length : tie.Need-same-length Inv-loop μ-loop
 same-length c =
-    c .before .before .before .before .before .component-into .kept .1 .1 .1 .0 ∙ c .before .before .before .before .before .before .before .before .loop .inv .1 .0
+    c .before .before .before .before .before .component-into .kept .1 .1 .1 .0 ∙ c .before .before .before .before .before .before .before .before .loop .inv .0 .1 .0
 
 returns : tie.Need-returns Inv-loop μ-loop
 unfolding gotAs componentPlace
 returns c =
     let a = c .before .before .before .before .before .before .before .before .before .before .before .args in
     let s = now (a .s) in
-    let n = a .n in
-    let x = c .before .before .before .before .before .before .before .before .loop .index in
-    let k = c .before .before .before .before .before .before .before .before .loop .k in
-    let inv = c .before .before .before .before .before .before .before .before .loop .inv in
-    let whole = many (a .count) (readComponent (a .n)) s (a .at) in
-    let y = c .before .before .before .before .before .component-into .last .1 .1 .1 .0 in
-    let w = c .before .before .before .before .before .component-into .ensures .1 in (
-      reading-stops (readComponent (a .n)) (a .count) s whole (λ i. componentFrom s n x (componentPlace i)) k (c .before .before .before .before .before .before .before .before .loop .place) (c .before .number .given .0 .0) (c .before .number .given .0 .1 .0) (inv .1 .1 .0) (c .before .before .before .before .before .before .before .loop-test .taken)
-          (told-refused (componentFrom s n y (16 + 219 * k)) ((readComponent (a .n)) s (c .before .before .before .before .before .before .before .before .loop .place)) (c .before .before .before .before .before .component-into .ensures .0) (c .before .number .given .1)),
-      kept-then (inv .1 .1 .1 .0) (kept-wider (omega arith) (omega (arith, c .before .before .before .before .before .before .before .before .before .before .before .pre .1, c .before .before .before .before .before .before .before .loop-test .taken)) w),
-    )
+    let loop = c .before .before .before .before .before .before .before .before .loop in
+    let into = c .before .before .before .before .before .component-into in
+    let x = loop .index in
+    let y = into .last .1 .1 .1 .0 in
+    fill-stops (readComponent (a .n)) (λ x i. componentFrom s (a .n) x (componentPlace i)) (a .count) s (a .at) 16 892 (now (a .index)) x y (loop .k) (loop .place) (loop .inv .0) (c .before .before .before .before .before .before .before .loop-test .taken) (into .result) (into .ensures .0) (16 + 219 * loop .k) (16 + 219 * loop .k + 219) (omega arith) (omega (arith, c .before .before .before .before .before .before .before .before .before .before .before .pre .1, c .before .before .before .before .before .before .before .loop-test .taken)) (into .ensures .1) (c .before .number .given .1)
 
 enum-known-next : tie.Need-enum-known-next Inv-loop μ-loop
 enum-known-next c =
@@ -83,41 +77,28 @@ unfolding componentPlace
 loop-again c =
     let a = c .before .before .before .before .before .before .before .before .before .before .before .args in
     let s = now (a .s) in
-    let n = a .n in
-    let x = c .before .before .before .before .before .before .before .before .loop .index in
-    let k = c .before .before .before .before .before .before .before .before .loop .k in
-    let inv = c .before .before .before .before .before .before .before .before .loop .inv in
-    let whole = many (a .count) (readComponent (a .n)) s (a .at) in
-    let y = c .before .before .before .before .before .component-into .last .1 .1 .1 .0 in
-    let w = c .before .before .before .before .before .component-into .ensures .1 in
-    let read = told-at (componentFrom s n y (16 + 219 * k)) ((readComponent (a .n)) s (c .before .before .before .before .before .before .before .before .loop .place)) (c .before .before .before .before .before .component-into .ensures .0) (c .before .next .given .1) in (
-      omega (arith, c .before .before .before .before .before .before .before .loop-test .taken),
-      (
-        c .before .before .before .before .before .component-into .kept .1 .1 .1 .0 ∙ inv .1 .0,
-        (
-          reading-goes-on (readComponent (a .n)) (a .count) s whole (λ i. componentFrom s n x (componentPlace i)) (λ i. componentFrom s n y (componentPlace i)) k (c .before .before .before .before .before .before .before .before .loop .place) (c .before .next .given .0 .0) (inv .1 .1 .0) (c .before .before .before .before .before .before .before .loop-test .taken) read
-              (λ i h. component-same s n x y (16 + 219 * i) (inv .1 .1 .1 .1 i h .0) (inv .1 .1 .1 .1 i h .1) (agree-low w (omega arith))),
-          (kept-then (inv .1 .1 .1 .0) (kept-wider (omega arith) (omega (arith, c .before .before .before .before .before .before .before .before .before .before .before .pre .1, c .before .before .before .before .before .before .before .loop-test .taken)) w), blocks-next s n x y k (c .before .before .before .before .before .before .before .before .loop .place) (c .before .next .given .0 .0) (inv .1 .1 .1 .1) w read),
-        ),
-      ),
+    let loop = c .before .before .before .before .before .before .before .before .loop in
+    let into = c .before .before .before .before .before .component-into in
+    let x = loop .index in
+    let y = into .last .1 .1 .1 .0 in
+    let read = told-at (componentFrom s (a .n) y (16 + 219 * loop .k)) (readComponent (a .n) s (loop .place)) (into .ensures .0) (c .before .next .given .1) in (
+      fill-goes-on (readComponent (a .n)) (λ x i. componentFrom s (a .n) x (componentPlace i)) (a .count) s (a .at) 16 892 (now (a .index)) x y (loop .k) (loop .place) (loop .inv .0) (c .before .before .before .before .before .before .before .loop-test .taken) (into .result) (into .ensures .0) (16 + 219 * loop .k) (16 + 219 * loop .k + 219) (omega arith) (omega (arith, c .before .before .before .before .before .before .before .before .before .before .before .pre .1, c .before .before .before .before .before .before .before .loop-test .taken)) (into .ensures .1) (c .before .next .given .1)
+          (into .kept .1 .1 .1 .0)
+          (λ i h. component-same s (a .n) x y (16 + 219 * i) (loop .inv .1 i h .0) (loop .inv .1 i h .1) (agree-low (into .ensures .1) (omega arith))),
+      blocks-next s (a .n) x y (loop .k) (loop .place) (c .before .next .given .0 .0) (loop .inv .1) (into .ensures .1) read,
     )
 
 same-length-2 : tie.Need-same-length-2 Inv-loop μ-loop
 same-length-2 c =
-    c .before .loop .inv .1 .0
+    c .before .loop .inv .0 .1 .0
 
 returns-2 : tie.Need-returns-2 Inv-loop μ-loop
-unfolding gotAs upTo
+unfolding gotAs
 returns-2 c =
     let a = c .before .before .before .before .args in
     let s = now (a .s) in
-    let n = a .n in
-    let x = c .before .loop .index in
-    let k = c .before .loop .k in
-    let inv = c .before .loop .inv in
-    let whole = many (a .count) (readComponent (a .n)) s (a .at) in
-    let all : k ≡ a .count = omega (arith, c .loop-test .left) in
-    (reading-ends (readComponent (a .n)) (a .count) s whole (λ i. componentFrom s n x (componentPlace i)) k (c .before .loop .place) (inv .1 .1 .0) all, inv .1 .1 .1 .0)
+    let loop = c .before .loop in
+    fill-ends (readComponent (a .n)) (λ x i. componentFrom s (a .n) x (componentPlace i)) (a .count) s (a .at) 16 892 (now (a .index)) (loop .index) (loop .k) (loop .place) (loop .inv .0) (omega (arith, c .loop-test .left))
 
 pub components-into-spec : {M : Type 1} → statement M
 components-into-spec =

@@ -1,23 +1,21 @@
 -- The read-loop law: the switches so far, in front of those to come, are all of them. Assumes nothing.
-use mathlib.Core.Path.{_≡_, refl, _∙_}
-use Prim.Native.Nat.{_+_, _*_, _-_, _≤_}
+use mathlib.Core.Path.{_∙_}
+use Prim.Native.Nat.{_+_, _*_, _-_}
 use native.Mathlib.Omega.{arith}
 use borrow.Author.Needs.{needs}
 use denote.Ref.{now}
 use lib.ListN.{length}
-use Rattle.formats.specs.Reading.{refused, many}
-use Rattle.models.specs.Index.{Kept, switchFrom, switchPlace}
+use Rattle.models.specs.Index.{switchFrom, switchPlace}
 use Rattle.fields.specs.Answers.{gotAs}
-use Rattle.fields.proofs.ChainLaws.{told-at, told-refused}
-use Rattle.models.proofs.IndexLaws.{kept-then, kept-wider, agree-low, kept-none, switch-same}
+use Rattle.models.proofs.IndexLaws.{agree-low, switch-same}
 use Rattle.formats.specs.Model.{readSwitch}
-use Rattle.fields.proofs.ReadLoop.{upTo, Reading, reading-starts, reading-goes-on, reading-stops, reading-ends}
+use Rattle.models.proofs.FillLoop.{Filled, fill-starts, fill-stops, fill-goes-on, fill-ends}
 use Rattle.models.proofs.model.switches_into.Statement.{statement}
 use Rattle.models.proofs.model.switches_into.Tie as tie
 
 abbrev Inv-loop : tie.InvT-loop
 Inv-loop s at n alphabet modes index₀ block count place₀ j₀ index place j =
-    (j ≤ count) × ((length index ≡ length index₀) × (Reading (readSwitch n alphabet modes) count s (many count (readSwitch n alphabet modes) s at) (λ i. switchFrom s n index (switchPlace block i)) j place × Kept (block + 59) (block + 219) index₀ index))
+    Filled (readSwitch n alphabet modes) (λ x i. switchFrom s n x (switchPlace block i)) count s at (block + 59) (block + 219) index₀ index j place
 
 abbrev μ-loop : tie.MeasureT-loop
 μ-loop s at n alphabet modes index₀ block count place₀ j₀ index place j =
@@ -26,7 +24,8 @@ abbrev μ-loop : tie.MeasureT-loop
 loop-holds : tie.Need-loop-holds Inv-loop μ-loop
 loop-holds c =
     let a = c .before .before .args in
-    (omega arith, (refl, (reading-starts (readSwitch (a .n) (a .alphabet) (a .modes)) (a .count) (now (a .s)) (many (a .count) (readSwitch (a .n) (a .alphabet) (a .modes)) (now (a .s)) (a .at)) (λ i. switchFrom (now (a .s)) (a .n) (now (a .index)) (switchPlace (a .block) i)) (a .at) refl, kept-none (a .block + 59) (a .block + 219) (now (a .index)))))
+    let s = now (a .s) in
+    fill-starts (readSwitch (a .n) (a .alphabet) (a .modes)) (λ x i. switchFrom s (a .n) x (switchPlace (a .block) i)) (a .count) s (a .at) (a .block + 59) (a .block + 219) (now (a .index))
 
 add-switch-into : tie.Need-add-switch-into Inv-loop μ-loop
 add-switch-into c =
@@ -57,17 +56,11 @@ unfolding gotAs switchPlace
 returns c =
     let a = c .before .before .before .before .before .before .before .before .before .before .before .args in
     let s = now (a .s) in
-    let n = a .n in
-    let x = c .before .before .before .before .before .before .before .before .loop .index in
-    let j = c .before .before .before .before .before .before .before .before .loop .j in
-    let inv = c .before .before .before .before .before .before .before .before .loop .inv in
-    let whole = many (a .count) (readSwitch (a .n) (a .alphabet) (a .modes)) s (a .at) in
-    let y = c .before .before .before .before .before .switch-into .last .1 .1 .1 .1 .1 .0 in
-    let k = c .before .before .before .before .before .switch-into .ensures .1 in (
-      reading-stops (readSwitch (a .n) (a .alphabet) (a .modes)) (a .count) s whole (λ i. switchFrom s n x (switchPlace (a .block) i)) j (c .before .before .before .before .before .before .before .before .loop .place) (c .before .number .given .0 .0) (c .before .number .given .0 .1 .0) (inv .1 .1 .0) (c .before .before .before .before .before .before .before .loop-test .taken)
-          (told-refused (switchFrom s n y (a .block + 59 + 5 * j)) ((readSwitch (a .n) (a .alphabet) (a .modes)) s (c .before .before .before .before .before .before .before .before .loop .place)) (c .before .before .before .before .before .switch-into .ensures .0) (c .before .number .given .1)),
-      kept-then (inv .1 .1 .1) (kept-wider (omega arith) (omega (arith, c .before .before .before .before .before .before .before .before .before .before .before .pre .1, c .before .before .before .before .before .before .before .loop-test .taken)) k),
-    )
+    let loop = c .before .before .before .before .before .before .before .before .loop in
+    let into = c .before .before .before .before .before .switch-into in
+    let x = loop .index in
+    let y = into .last .1 .1 .1 .1 .1 .0 in
+    fill-stops (readSwitch (a .n) (a .alphabet) (a .modes)) (λ x i. switchFrom s (a .n) x (switchPlace (a .block) i)) (a .count) s (a .at) (a .block + 59) (a .block + 219) (now (a .index)) x y (loop .j) (loop .place) (loop .inv) (c .before .before .before .before .before .before .before .loop-test .taken) (into .result) (into .ensures .0) (a .block + 59 + 5 * loop .j) (a .block + 59 + 5 * loop .j + 5) (omega arith) (omega (arith, c .before .before .before .before .before .before .before .before .before .before .before .pre .1, c .before .before .before .before .before .before .before .loop-test .taken)) (into .ensures .1) (c .before .number .given .1)
 
 enum-known-next : tie.Need-enum-known-next Inv-loop μ-loop
 enum-known-next c =
@@ -86,41 +79,25 @@ unfolding switchPlace
 loop-again c =
     let a = c .before .before .before .before .before .before .before .before .before .before .before .args in
     let s = now (a .s) in
-    let n = a .n in
-    let x = c .before .before .before .before .before .before .before .before .loop .index in
-    let j = c .before .before .before .before .before .before .before .before .loop .j in
-    let inv = c .before .before .before .before .before .before .before .before .loop .inv in
-    let whole = many (a .count) (readSwitch (a .n) (a .alphabet) (a .modes)) s (a .at) in
-    let y = c .before .before .before .before .before .switch-into .last .1 .1 .1 .1 .1 .0 in
-    let k = c .before .before .before .before .before .switch-into .ensures .1 in (
-      omega (arith, c .before .before .before .before .before .before .before .loop-test .taken),
-      (
-        c .before .before .before .before .before .switch-into .kept .1 .1 .1 .1 .1 .0 ∙ inv .1 .0,
-        (
-          reading-goes-on (readSwitch (a .n) (a .alphabet) (a .modes)) (a .count) s whole (λ i. switchFrom s n x (switchPlace (a .block) i)) (λ i. switchFrom s n y (switchPlace (a .block) i)) j (c .before .before .before .before .before .before .before .before .loop .place) (c .before .next .given .0 .0) (inv .1 .1 .0) (c .before .before .before .before .before .before .before .loop-test .taken)
-              (told-at (switchFrom s n y (a .block + 59 + 5 * j)) ((readSwitch (a .n) (a .alphabet) (a .modes)) s (c .before .before .before .before .before .before .before .before .loop .place)) (c .before .before .before .before .before .switch-into .ensures .0) (c .before .next .given .1))
-              (λ i h. switch-same s n x y (a .block + 59 + 5 * i) (agree-low k (omega arith))),
-          kept-then (inv .1 .1 .1) (kept-wider (omega arith) (omega (arith, c .before .before .before .before .before .before .before .before .before .before .before .pre .1, c .before .before .before .before .before .before .before .loop-test .taken)) k),
-        ),
-      ),
-    )
+    let loop = c .before .before .before .before .before .before .before .before .loop in
+    let into = c .before .before .before .before .before .switch-into in
+    let x = loop .index in
+    let y = into .last .1 .1 .1 .1 .1 .0 in
+    fill-goes-on (readSwitch (a .n) (a .alphabet) (a .modes)) (λ x i. switchFrom s (a .n) x (switchPlace (a .block) i)) (a .count) s (a .at) (a .block + 59) (a .block + 219) (now (a .index)) x y (loop .j) (loop .place) (loop .inv) (c .before .before .before .before .before .before .before .loop-test .taken) (into .result) (into .ensures .0) (a .block + 59 + 5 * loop .j) (a .block + 59 + 5 * loop .j + 5) (omega arith) (omega (arith, c .before .before .before .before .before .before .before .before .before .before .before .pre .1, c .before .before .before .before .before .before .before .loop-test .taken)) (into .ensures .1) (c .before .next .given .1)
+    (into .kept .1 .1 .1 .1 .1 .0)
+    (λ i h. switch-same s (a .n) x y (a .block + 59 + 5 * i) (agree-low (into .ensures .1) (omega arith)))
 
 same-length-2 : tie.Need-same-length-2 Inv-loop μ-loop
 same-length-2 c =
     c .before .loop .inv .1 .0
 
 returns-2 : tie.Need-returns-2 Inv-loop μ-loop
-unfolding gotAs upTo
+unfolding gotAs
 returns-2 c =
     let a = c .before .before .before .before .args in
     let s = now (a .s) in
-    let n = a .n in
-    let x = c .before .loop .index in
-    let j = c .before .loop .j in
-    let inv = c .before .loop .inv in
-    let whole = many (a .count) (readSwitch (a .n) (a .alphabet) (a .modes)) s (a .at) in
-    let all : j ≡ a .count = omega (arith, c .loop-test .left) in
-    (reading-ends (readSwitch (a .n) (a .alphabet) (a .modes)) (a .count) s whole (λ i. switchFrom s n x (switchPlace (a .block) i)) j (c .before .loop .place) (inv .1 .1 .0) all, inv .1 .1 .1)
+    let loop = c .before .loop in
+    fill-ends (readSwitch (a .n) (a .alphabet) (a .modes)) (λ x i. switchFrom s (a .n) x (switchPlace (a .block) i)) (a .count) s (a .at) (a .block + 59) (a .block + 219) (now (a .index)) (loop .index) (loop .j) (loop .place) (loop .inv) (omega (arith, c .loop-test .left))
 
 pub switches-into-spec : {M : Type 1} → statement M
 switches-into-spec =

@@ -1,24 +1,22 @@
 -- The read-loop law; the components are the same at each turn, since only numbers after their blocks change. Assumes nothing.
-use mathlib.Core.Path.{_≡_, refl, _∙_, subst}
-use Prim.Native.Nat.{_+_, _*_, _-_, _≤_}
+use mathlib.Core.Path.{_≡_, _∙_, subst}
+use Prim.Native.Nat.{_+_, _*_, _-_}
 use native.Mathlib.Omega.{arith}
 use borrow.Author.Needs.{needs}
 use denote.Ref.{now}
 use lib.ListN.{length}
-use Rattle.formats.specs.Reading.{many}
 use Rattle.formats.specs.Model.{readUnsafe}
-use Rattle.models.specs.Index.{componentPlace, unsafePlace, unsafeFrom, componentsFrom, Kept}
+use Rattle.models.specs.Index.{componentPlace, unsafePlace, unsafeFrom, componentsFrom}
 use Rattle.fields.specs.Answers.{gotAs}
-use Rattle.fields.proofs.ChainLaws.{told-at, told-refused}
-use Rattle.models.proofs.IndexLaws.{kept-none, kept-then, kept-wider, kept-at, agree-low}
-use Rattle.fields.proofs.ReadLoop.{upTo, Reading, reading-starts, reading-goes-on, reading-stops, reading-ends}
+use Rattle.models.proofs.IndexLaws.{kept-at, agree-low}
+use Rattle.models.proofs.FillLoop.{Filled, fill-starts, fill-stops, fill-goes-on, fill-ends}
 use Rattle.models.proofs.UnsafeLaws.{unsafe-same, components-same}
 use Rattle.models.proofs.unsafes.unsafes_into.Statement.{statement}
 use Rattle.models.proofs.unsafes.unsafes_into.Tie as tie
 
 abbrev Inv-loop : tie.InvT-loop
 Inv-loop s at n c count index₀ place₀ u₀ index place u =
-    (u ≤ count) × ((length index ≡ length index₀) × (Reading (readUnsafe n (componentsFrom s index₀)) count s (many count (readUnsafe n (componentsFrom s index₀)) s at) (λ j. unsafeFrom s n c index (unsafePlace j)) u place × Kept 892 988 index₀ index))
+    Filled (readUnsafe n (componentsFrom s index₀)) (λ x j. unsafeFrom s n c x (unsafePlace j)) count s at 892 988 index₀ index u place
 
 abbrev μ-loop : tie.MeasureT-loop
 μ-loop s at n c count index₀ place₀ u₀ index place u =
@@ -29,8 +27,7 @@ loop-holds c =
     let a = c .before .before .args in
     let s = now (a .s) in
     let old = now (a .index) in
-    let r = readUnsafe (a .n) (componentsFrom s old) in
-    (omega arith, (refl, (reading-starts r (a .count) s (many (a .count) r s (a .at)) (λ j. unsafeFrom s (a .n) (a .c) old (unsafePlace j)) (a .at) refl, kept-none 892 988 old)))
+    fill-starts (readUnsafe (a .n) (componentsFrom s old)) (λ x j. unsafeFrom s (a .n) (a .c) x (unsafePlace j)) (a .count) s (a .at) 892 988 old
 
 mul-unsafe-into : tie.Need-mul-unsafe-into Inv-loop μ-loop
 mul-unsafe-into c =
@@ -65,23 +62,16 @@ returns : tie.Need-returns Inv-loop μ-loop
 unfolding gotAs unsafePlace
 returns c =
     let a = c .before .before .before .before .before .before .before .before .before .before .before .args in
+    let pre = c .before .before .before .before .before .before .before .before .before .before .before .pre .1 in
     let s = now (a .s) in
     let old = now (a .index) in
-    let r = readUnsafe (a .n) (componentsFrom s old) in
-    let x = c .before .before .before .before .before .before .before .before .loop .index in
-    let u = c .before .before .before .before .before .before .before .before .loop .u in
-    let place = c .before .before .before .before .before .before .before .before .loop .place in
-    let inv = c .before .before .before .before .before .before .before .before .loop .inv in
-    let whole = many (a .count) r s (a .at) in
-    let y = c .before .before .before .before .before .unsafe-into .last .1 .1 .1 .1 .0 in
-    let k = c .before .before .before .before .before .unsafe-into .ensures .1 in
-    let same : componentsFrom s x ≡ componentsFrom s old = components-same s old x (omega (arith, c .before .before .before .before .before .before .before .before .before .before .before .pre .1 .0)) (λ j l. c .before .before .before .before .before .before .before .before .before .before .before .pre .1 .1 j (omega (arith, c .before .before .before .before .before .before .before .before .before .before .before .pre .1 .0))) (agree-low (inv .1 .1 .1) (omega arith)) in
-    let one = unsafeFrom s (a .n) (a .c) y (892 + 6 * u) in
-    let e = subst (λ all. gotAs one (c .before .before .before .before .before .unsafe-into .result) ≡ readUnsafe (a .n) all s place) same (c .before .before .before .before .before .unsafe-into .ensures .0) in (
-      reading-stops r (a .count) s whole (λ j. unsafeFrom s (a .n) (a .c) x (unsafePlace j)) u place (c .before .number .given .0 .0) (c .before .number .given .0 .1 .0) (inv .1 .1 .0) (c .before .before .before .before .before .before .before .loop-test .taken)
-          (told-refused one (r s place) e (c .before .number .given .1)),
-      kept-then (inv .1 .1 .1) (kept-wider (omega arith) (omega (arith, c .before .before .before .before .before .before .before .before .before .before .before .pre .1 .0, c .before .before .before .before .before .before .before .loop-test .taken)) k),
-    )
+    let loop = c .before .before .before .before .before .before .before .before .loop in
+    let into = c .before .before .before .before .before .unsafe-into in
+    let x = loop .index in
+    let y = into .last .1 .1 .1 .1 .0 in
+    let same : componentsFrom s x ≡ componentsFrom s old = components-same s old x (omega (arith, pre .0)) (λ j l. pre .1 j (omega (arith, pre .0))) (agree-low (loop .inv .1 .1 .1) (omega arith)) in
+    let told = subst (λ all. gotAs (unsafeFrom s (a .n) (a .c) y (892 + 6 * loop .u)) (into .result) ≡ readUnsafe (a .n) all s (loop .place)) same (into .ensures .0) in
+    fill-stops (readUnsafe (a .n) (componentsFrom s old)) (λ x j. unsafeFrom s (a .n) (a .c) x (unsafePlace j)) (a .count) s (a .at) 892 988 old x y (loop .u) (loop .place) (loop .inv) (c .before .before .before .before .before .before .before .loop-test .taken) (into .result) told (892 + 6 * loop .u) (892 + 6 * loop .u + 6) (omega arith) (omega (arith, pre .0, c .before .before .before .before .before .before .before .loop-test .taken)) (into .ensures .1) (c .before .number .given .1)
 
 enum-known-next : tie.Need-enum-known-next Inv-loop μ-loop
 enum-known-next c =
@@ -99,48 +89,31 @@ loop-again : tie.Need-loop-again Inv-loop μ-loop
 unfolding unsafePlace
 loop-again c =
     let a = c .before .before .before .before .before .before .before .before .before .before .before .args in
+    let pre = c .before .before .before .before .before .before .before .before .before .before .before .pre .1 in
     let s = now (a .s) in
     let old = now (a .index) in
-    let r = readUnsafe (a .n) (componentsFrom s old) in
-    let x = c .before .before .before .before .before .before .before .before .loop .index in
-    let u = c .before .before .before .before .before .before .before .before .loop .u in
-    let place = c .before .before .before .before .before .before .before .before .loop .place in
-    let inv = c .before .before .before .before .before .before .before .before .loop .inv in
-    let whole = many (a .count) r s (a .at) in
-    let y = c .before .before .before .before .before .unsafe-into .last .1 .1 .1 .1 .0 in
-    let k = c .before .before .before .before .before .unsafe-into .ensures .1 in
-    let same : componentsFrom s x ≡ componentsFrom s old = components-same s old x (omega (arith, c .before .before .before .before .before .before .before .before .before .before .before .pre .1 .0)) (λ j l. c .before .before .before .before .before .before .before .before .before .before .before .pre .1 .1 j (omega (arith, c .before .before .before .before .before .before .before .before .before .before .before .pre .1 .0))) (agree-low (inv .1 .1 .1) (omega arith)) in
-    let one = unsafeFrom s (a .n) (a .c) y (892 + 6 * u) in
-    let e = subst (λ all. gotAs one (c .before .before .before .before .before .unsafe-into .result) ≡ readUnsafe (a .n) all s place) same (c .before .before .before .before .before .unsafe-into .ensures .0) in (
-      omega (arith, c .before .before .before .before .before .before .before .loop-test .taken),
-      (
-        c .before .before .before .before .before .unsafe-into .kept .1 .1 .1 .1 .0 ∙ inv .1 .0,
-        (
-          reading-goes-on r (a .count) s whole (λ j. unsafeFrom s (a .n) (a .c) x (unsafePlace j)) (λ j. unsafeFrom s (a .n) (a .c) y (unsafePlace j)) u place (c .before .next .given .0 .0) (inv .1 .1 .0) (c .before .before .before .before .before .before .before .loop-test .taken)
-              (told-at one (r s place) e (c .before .next .given .1))
-              (λ j h. unsafe-same s (a .n) (a .c) x y (892 + 6 * j) (c .before .before .before .before .before .before .before .before .before .before .before .pre .1 .0 .1 .1 .0) (agree-low k (omega arith))),
-          kept-then (inv .1 .1 .1) (kept-wider (omega arith) (omega (arith, c .before .before .before .before .before .before .before .before .before .before .before .pre .1 .0, c .before .before .before .before .before .before .before .loop-test .taken)) k),
-        ),
-      ),
-    )
+    let loop = c .before .before .before .before .before .before .before .before .loop in
+    let into = c .before .before .before .before .before .unsafe-into in
+    let x = loop .index in
+    let y = into .last .1 .1 .1 .1 .0 in
+    let same : componentsFrom s x ≡ componentsFrom s old = components-same s old x (omega (arith, pre .0)) (λ j l. pre .1 j (omega (arith, pre .0))) (agree-low (loop .inv .1 .1 .1) (omega arith)) in
+    let told = subst (λ all. gotAs (unsafeFrom s (a .n) (a .c) y (892 + 6 * loop .u)) (into .result) ≡ readUnsafe (a .n) all s (loop .place)) same (into .ensures .0) in
+    fill-goes-on (readUnsafe (a .n) (componentsFrom s old)) (λ x j. unsafeFrom s (a .n) (a .c) x (unsafePlace j)) (a .count) s (a .at) 892 988 old x y (loop .u) (loop .place) (loop .inv) (c .before .before .before .before .before .before .before .loop-test .taken) (into .result) told (892 + 6 * loop .u) (892 + 6 * loop .u + 6) (omega arith) (omega (arith, pre .0, c .before .before .before .before .before .before .before .loop-test .taken)) (into .ensures .1) (c .before .next .given .1)
+    (into .kept .1 .1 .1 .1 .0)
+    (λ j h. unsafe-same s (a .n) (a .c) x y (892 + 6 * j) (pre .0 .1 .1 .0) (agree-low (into .ensures .1) (omega arith)))
 
 same-length-2 : tie.Need-same-length-2 Inv-loop μ-loop
 same-length-2 c =
     c .before .loop .inv .1 .0
 
 returns-2 : tie.Need-returns-2 Inv-loop μ-loop
-unfolding gotAs upTo
+unfolding gotAs
 returns-2 c =
     let a = c .before .before .before .before .args in
     let s = now (a .s) in
     let old = now (a .index) in
-    let r = readUnsafe (a .n) (componentsFrom s old) in
-    let x = c .before .loop .index in
-    let u = c .before .loop .u in
-    let place = c .before .loop .place in
-    let inv = c .before .loop .inv in
-    let whole = many (a .count) r s (a .at) in
-    (reading-ends r (a .count) s whole (λ j. unsafeFrom s (a .n) (a .c) x (unsafePlace j)) u place (inv .1 .1 .0) (omega (arith, c .loop-test .left)), inv .1 .1 .1)
+    let loop = c .before .loop in
+    fill-ends (readUnsafe (a .n) (componentsFrom s old)) (λ x j. unsafeFrom s (a .n) (a .c) x (unsafePlace j)) (a .count) s (a .at) 892 988 old (loop .index) (loop .u) (loop .place) (loop .inv) (omega (arith, c .loop-test .left))
 
 pub unsafes-into-spec : {M : Type 1} → statement M
 unsafes-into-spec =

@@ -1,0 +1,30 @@
+-- How a paper opens: the model goes first, then the header of the second sheet. Assumes nothing.
+use mathlib.Core.List.{List}
+use mathlib.Core.Path.{_≡_}
+use Prim.Native.Nat.{ℕ, _≤_}
+use lib.ListN.{length}
+use Rattle.formats.specs.Reading.{Got, got, refused, header}
+use Rattle.formats.specs.ModelSheet.{Limits, examLimits, readModel}
+use Rattle.models.specs.Index.{modelFrom}
+use Rattle.rules.specs.declared.Answer.{Answer}
+use Rattle.rules.specs.Marking.{answer, withModel}
+use Rattle.papers.specs.Paper.{Accepted}
+
+-- the second sheet's header: number 0 and the place of its body, or the refusal
+unfoldable pub openedSecond : Got ℕ → Answer
+openedSecond (refused number at) = answer number 1 at 0 0
+openedSecond (got version body) = answer 0 1 body 0 0
+
+-- "The model goes first": what refuses a paper before the body of its second sheet; number 0 where nothing does
+unfoldable pub opened : Limits → ℕ → List ℕ → List ℕ → Answer
+opened limits kind model second = withModel (readModel limits model) (λ m. openedSecond (header kind second 0))
+
+-- a paper that is open: its model was read, into this index, and the body of its second sheet begins at byte 4
+pub record Open (kind : ℕ) (model index second : List ℕ) : Type 0 where
+  pub end : ℕ
+  pub reads : readModel examLimits model ≡ got (modelFrom model index) end
+  pub version : ℕ
+  pub headed : header kind second 0 ≡ got version 4
+  pub accepted : Accepted model index
+  pub bodied : 4 ≤ length second
+  pub brief : length second ≤ 32768
