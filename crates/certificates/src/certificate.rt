@@ -20,13 +20,11 @@ ghost use Prim.Native.Nat.{_≤_};
 ghost use lib.ListN.{length};
 ghost use Rattle.formats.specs.Locations.{locationCount};
 ghost use Rattle.formats.specs.Joint.{joints};
-ghost use Rattle.models.specs.Index.{entry, componentsFrom, modelFrom, variablesIn};
+ghost use Rattle.models.specs.Index.{entry, componentsFrom};
 ghost use Rattle.formats.specs.ModelSheet.{examLimits};
-ghost use Rattle.formats.specs.Certificate.{readRegions};
-ghost use Rattle.second_sheets.specs.CertificateAnswers.{regionsFrom};
-ghost use Rattle.rules.specs.Obligations.{obligations};
-ghost use Rattle.rules.specs.Marking.{answer, refusedScore, passed, markProofs, closeCertificate, markRegions, markCertificate};
-ghost use Rattle.papers.specs.Paper.{GoodPaper, Accepted};
+ghost use Rattle.rules.specs.Marking.{answer, refusedScore, passed, closeCertificate, markCertificate};
+ghost use Rattle.papers.specs.Paper.{GoodPaper, Accepted, obligationsFor};
+ghost use Rattle.certificates.specs.Passed.{markedBody, markedRest};
 
 // The answer where a proof was refused. Only then are the obligations counted, for the score.
 fn stop_certificate(
@@ -40,7 +38,7 @@ fn stop_certificate(
     requires { ⌜ GoodPaper (now model) (now index) (now second) (now regions) ⌝ }
     requires { ⌜ (locations ≡ locationCount (componentsFrom (now model) (now index))) × (length (joints (componentsFrom (now model) (now index))) ≤ 4096) ⌝ }
     requires { ⌜ (marked .place ≤ 32768) × (marked .done ≤ 1000000) ⌝ }
-    ensures { λ r. ⌜ r ≡ answer (marked .number) 1 (marked .place) (marked .done) (refusedScore (marked .done) (length (obligations (modelFrom (now (model .entry)) (now (index .entry))) (regionsFrom (now (second .entry)) (variablesIn (now (index .entry))) (now (regions .entry)) locations)))) ⌝ }
+    ensures { λ r. ⌜ r ≡ answer (marked .number) 1 (marked .place) (marked .done) (refusedScore (marked .done) (length (obligationsFor (now (model .entry)) (now (index .entry)) (now (second .entry)) (now (regions .entry)) locations))) ⌝ }
 {
     let total = obligation_count(model, index, second, regions, locations);
     let score = refused_score(marked.done, total);
@@ -70,7 +68,7 @@ fn mark_rest(
     requires { ⌜ GoodPaper (now model) (now index) (now second) (now regions) ⌝ }
     requires { ⌜ (locations ≡ locationCount (componentsFrom (now model) (now index))) × (length (joints (componentsFrom (now model) (now index))) ≤ 4096) ⌝ }
     requires { ⌜ at ≤ length (now second) ⌝ }
-    ensures { λ r. ⌜ r ≡ closeCertificate (length (obligations (modelFrom (now (model .entry)) (now (index .entry))) (regionsFrom (now (second .entry)) (variablesIn (now (index .entry))) (now (regions .entry)) locations))) (now (second .entry)) (markProofs (obligations (modelFrom (now (model .entry)) (now (index .entry))) (regionsFrom (now (second .entry)) (variablesIn (now (index .entry))) (now (regions .entry)) locations)) (now (second .entry)) at 0) ⌝ }
+    ensures { λ r. ⌜ r ≡ markedRest (now (model .entry)) (now (index .entry)) (now (second .entry)) (now (regions .entry)) locations at ⌝ }
 {
     let marked = mark_obligations(model, index, second, regions, locations, at);
     if marked.number != 0 {
@@ -83,7 +81,7 @@ fn mark_rest(
 fn mark_body(model: &[u8], index: &Index, second: &[u8]) -> Answer
     requires { ⌜ Accepted (now model) (now index) ⌝ }
     requires { ⌜ (4 ≤ length (now second)) × (length (now second) ≤ 32768) ⌝ }
-    ensures { λ r. ⌜ r ≡ markRegions (modelFrom (now (model .entry)) (now (index .entry))) (now (second .entry)) (readRegions (modelFrom (now (model .entry)) (now (index .entry))) (now (second .entry)) 4) ⌝ }
+    ensures { λ r. ⌜ r ≡ markedBody (now (model .entry)) (now (index .entry)) (now (second .entry)) 4 ⌝ }
 {
     let locations = location_count(model, index);
     let mut regions = [0u16; REGIONS_LENGTH];

@@ -30,17 +30,15 @@ ghost use Rattle.farkas.specs.Rows.{zeroRow};
 ghost use Rattle.farkas.specs.Sizes.{Within};
 ghost use Rattle.formats.specs.Locations.{locationCount};
 ghost use Rattle.formats.specs.Joint.{countUp, joinAll, switchesOf, jointsOf, joints};
-ghost use Rattle.models.specs.Index.{entry, componentsFrom, modelFrom, variablesIn};
+ghost use Rattle.models.specs.Index.{entry, componentsFrom};
 ghost use Rattle.models.specs.Counts.{perComponent};
-ghost use Rattle.second_sheets.specs.CertificateAnswers.{regionsFrom};
 ghost use Rattle.model_sheets.specs.Tally.{Tallied};
 ghost use Rattle.model_sheets.specs.Ways.{Ways};
-ghost use Rattle.rules.specs.Obligations.{obligations};
 ghost use Rattle.rules.specs.Marking.{markProofs};
 ghost use Rattle.hypotheses.specs.Tables.{padded};
-ghost use Rattle.papers.specs.Paper.{heldNext, GoodPaper, regionsOf};
+ghost use Rattle.papers.specs.Paper.{heldNext, GoodPaper, obligationsFor};
 ghost use Rattle.papers.specs.Standing.{Stands};
-ghost use Rattle.hypotheses.specs.Listing.{jointTasks, GoodGroup, goalsOf, tasksOf, noTask, markTask, locationTasks, markTasks};
+ghost use Rattle.hypotheses.specs.Listing.{GoodGroup, goalsOf, tasksOf, noTask, markTask, markTasks, jointTasksFor, locationTasksFor};
 ghost use Rattle.certificates.specs.Passed.{standsAt};
 
 // A goal of a group, by its number: a row of the certificate on x or x', or no row.
@@ -101,7 +99,7 @@ fn mark_locations(
 ) -> Marking
     requires { ⌜ GoodPaper (now model) (now index) (now second) (now regions) ⌝ }
     requires { ⌜ (locations ≡ locationCount (componentsFrom (now model) (now index))) × (at ≤ length (now second)) ⌝ }
-    ensures { λ r. ⌜ r ≡ standsAt (markTasks (joinAll (locationTasks (modelFrom (now (model .entry)) (now (index .entry))) (regionsOf (now (model .entry)) (now (index .entry)) (now (second .entry)) (now (regions .entry)))) (countUp 0 locations)) (now (second .entry)) at 0) ⌝ }
+    ensures { λ r. ⌜ r ≡ standsAt (markTasks (joinAll (locationTasksFor (now (model .entry)) (now (index .entry)) (now (second .entry)) (now (regions .entry))) (countUp 0 locations)) (now (second .entry)) at 0) ⌝ }
 {
     let n = index[VARIABLES_AT] as usize;
     let groups = index[CONDITIONS_AT] as u32 + 2;
@@ -161,7 +159,7 @@ fn mark_switches(
     requires { ⌜ GoodPaper (now model) (now index) (now second) (now regions) ⌝ }
     requires { ⌜ Stands (now model) (now index) location modes × ((e ≤ 15) × ((at ≤ length (now second)) × (before ≤ at))) ⌝ }
     requires { ⌜ (128 ≤ length (now ways)) × (Ways (now model) (now index) modes e (now ways) counts × (count ≡ length (switchesOf (componentsFrom (now model) (now index)) (perComponent (now index) modes) e))) ⌝ }
-    ensures { λ r. ⌜ r ≡ standsAt (markTasks (jointTasks (modelFrom (now (model .entry)) (now (index .entry))) (regionsOf (now (model .entry)) (now (index .entry)) (now (second .entry)) (now (regions .entry))) (jointsOf (componentsFrom (now (model .entry)) (now (index .entry))) location e)) (now (second .entry)) at before) ⌝ }
+    ensures { λ r. ⌜ r ≡ standsAt (markTasks (jointTasksFor (now (model .entry)) (now (index .entry)) (now (second .entry)) (now (regions .entry)) (jointsOf (componentsFrom (now (model .entry)) (now (index .entry))) location e)) (now (second .entry)) at before) ⌝ }
 {
     let n = index[VARIABLES_AT] as usize;
     let mut number: u32 = 0;
@@ -223,7 +221,7 @@ fn mark_event(
 ) -> Marking
     requires { ⌜ GoodPaper (now model) (now index) (now second) (now regions) ⌝ }
     requires { ⌜ Stands (now model) (now index) location modes × ((e ≤ 15) × ((at ≤ length (now second)) × ((before ≤ at) × Tallied (now model) (now index) (now tallies)))) ⌝ }
-    ensures { λ r. ⌜ r ≡ standsAt (markTasks (jointTasks (modelFrom (now (model .entry)) (now (index .entry))) (regionsOf (now (model .entry)) (now (index .entry)) (now (second .entry)) (now (regions .entry))) (jointsOf (componentsFrom (now (model .entry)) (now (index .entry))) location e)) (now (second .entry)) at before) ⌝ }
+    ensures { λ r. ⌜ r ≡ standsAt (markTasks (jointTasksFor (now (model .entry)) (now (index .entry)) (now (second .entry)) (now (regions .entry)) (jointsOf (componentsFrom (now (model .entry)) (now (index .entry))) location e)) (now (second .entry)) at before) ⌝ }
 {
     let count = tallied(model, index, tallies, modes, e);
     if count == 0 {
@@ -266,7 +264,7 @@ fn mark_joints(
 ) -> Marking
     requires { ⌜ GoodPaper (now model) (now index) (now second) (now regions) ⌝ }
     requires { ⌜ (locations ≡ locationCount (componentsFrom (now model) (now index))) × ((at ≤ length (now second)) × ((before ≤ at) × Tallied (now model) (now index) (now tallies))) ⌝ }
-    ensures { λ r. ⌜ r ≡ standsAt (markTasks (jointTasks (modelFrom (now (model .entry)) (now (index .entry))) (regionsOf (now (model .entry)) (now (index .entry)) (now (second .entry)) (now (regions .entry))) (joints (componentsFrom (now (model .entry)) (now (index .entry))))) (now (second .entry)) at before) ⌝ }
+    ensures { λ r. ⌜ r ≡ standsAt (markTasks (jointTasksFor (now (model .entry)) (now (index .entry)) (now (second .entry)) (now (regions .entry)) (joints (componentsFrom (now (model .entry)) (now (index .entry))))) (now (second .entry)) at before) ⌝ }
 {
     let mut number: u32 = 0;
     let mut place = at;
@@ -317,7 +315,7 @@ pub fn mark_obligations(
 ) -> Marking
     requires { ⌜ GoodPaper (now model) (now index) (now second) (now regions) ⌝ }
     requires { ⌜ (locations ≡ locationCount (componentsFrom (now model) (now index))) × (at ≤ length (now second)) ⌝ }
-    ensures { λ r. ⌜ r ≡ standsAt (markProofs (obligations (modelFrom (now (model .entry)) (now (index .entry))) (regionsFrom (now (second .entry)) (variablesIn (now (index .entry))) (now (regions .entry)) locations)) (now (second .entry)) at 0) ⌝ }
+    ensures { λ r. ⌜ r ≡ standsAt (markProofs (obligationsFor (now (model .entry)) (now (index .entry)) (now (second .entry)) (now (regions .entry)) locations) (now (second .entry)) at 0) ⌝ }
 {
     let mut table = [0u16; TABLE_LENGTH];
     let marked = mark_locations(model, index, second, regions, locations, at, &mut table);

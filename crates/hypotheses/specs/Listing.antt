@@ -15,11 +15,12 @@ use Rattle.fields.specs.Places.{rowsFrom}
 use Rattle.formats.specs.Rows.{Condition}
 use Rattle.formats.specs.Model.{Unsafe, Model}
 use Rattle.formats.specs.Joint.{stays, countUp, joinAll, JointSwitch}
-use Rattle.models.specs.Index.{entry, ownerPlace, componentPlace, modePlace, switchPlace, unsafePlace}
+use Rattle.models.specs.Index.{entry, ownerPlace, componentPlace, modePlace, switchPlace, unsafePlace, modelFrom}
 use Rattle.hypotheses.specs.declared.Group.{Group}
 use Rattle.rules.specs.Obligations.{Obligation, zeroOnly, onNext, startObligations, flowObligations, unsafeObligations, locationObligations, jumpObligations, jumpsObligations}
 use Rattle.rules.specs.Marking.{Marked, passed, stopped}
 use Rattle.hypotheses.specs.Tables.{TableLine, linesIn, hypothesesFrom, hypothesisRows, GoodLine, markWith}
+use Rattle.papers.specs.Paper.{regionsOf}
 
 unfoldable pub line : ℕ → ℕ → TableLine
 line form place = record { form = form; place = place }
@@ -170,3 +171,16 @@ markTasks (t ∷ rest) s place done =
       | got p next ↦ markTasks rest s next (suc done)
       | refused number at ↦ stopped number at done
     ]
+
+-- the same tasks, of the model and the regions that the code keeps by their places
+abbrev pub groupTasksFor : List ℕ → List ℕ → List ℕ → List ℕ → ℕ → ℕ → List Task
+groupTasksFor model index second regions = groupTasks (modelFrom model index) (regionsOf model index second regions)
+
+abbrev pub jumpTasksFor : List ℕ → List ℕ → List ℕ → List ℕ → ℕ → List ℕ → ℕ → List Task
+jumpTasksFor model index second regions = jumpTasks (modelFrom model index) (regionsOf model index second regions)
+
+abbrev pub locationTasksFor : List ℕ → List ℕ → List ℕ → List ℕ → ℕ → List Task
+locationTasksFor model index second regions = locationTasks (modelFrom model index) (regionsOf model index second regions)
+
+abbrev pub jointTasksFor : List ℕ → List ℕ → List ℕ → List ℕ → List JointSwitch → List Task
+jointTasksFor model index second regions = jointTasks (modelFrom model index) (regionsOf model index second regions)

@@ -21,12 +21,12 @@ ghost use mathlib.Core.Path.{_≡_};
 ghost use Prim.Native.Nat.{_+_, _≤_, _<_};
 ghost use lib.ListN.{length};
 ghost use Rattle.formats.specs.Locations.{locationCount};
-ghost use Rattle.models.specs.Index.{entry, componentsFrom, modelFrom, GoodIndex, conditionsIn, variablesIn};
+ghost use Rattle.models.specs.Index.{entry, componentsFrom, GoodIndex, conditionsIn, variablesIn};
 ghost use Rattle.models.specs.Counts.{perComponent, KnownSwitches};
 ghost use Rattle.hypotheses.specs.Tables.{linesIn};
-ghost use Rattle.hypotheses.specs.Listing.{rowSize, hereLines, startLines, flowLines, unsafeLines, jumpLines, groupTasks, jumpTasks, tasksOf, GoodGroup, emptyGroup, regionGroup};
+ghost use Rattle.hypotheses.specs.Listing.{rowSize, hereLines, startLines, flowLines, unsafeLines, jumpLines, tasksOf, GoodGroup, emptyGroup, regionGroup, groupTasksFor, jumpTasksFor};
 ghost use Rattle.papers.specs.Standing.{KnownModes, Stands};
-ghost use Rattle.papers.specs.Paper.{GoodPaper, regionsOf};
+ghost use Rattle.papers.specs.Paper.{GoodPaper};
 
 // How many bytes a row with a coefficient for each variable has.
 fn row_size(model: &[u8], index: &Index) -> usize
@@ -187,7 +187,7 @@ fn start_group(
 ) -> Group
     requires { ⌜ GoodPaper (now model) (now index) (now second) (now regions) ⌝ }
     requires { ⌜ Stands (now model) (now index) location modes × (256 ≤ length (now table)) ⌝ }
-    ensures { λ r. ⌜ tasksOf (now (model .entry)) (now (second .entry)) (variablesIn (now (index .entry))) (now (table .exit)) r ≡ groupTasks (modelFrom (now (model .entry)) (now (index .entry))) (regionsOf (now (model .entry)) (now (index .entry)) (now (second .entry)) (now (regions .entry))) location 0 ⌝ }
+    ensures { λ r. ⌜ tasksOf (now (model .entry)) (now (second .entry)) (variablesIn (now (index .entry))) (now (table .exit)) r ≡ groupTasksFor (now (model .entry)) (now (index .entry)) (now (second .entry)) (now (regions .entry)) location 0 ⌝ }
     ensures { λ r. ⌜ GoodGroup (now (model .entry)) (now (second .entry)) (variablesIn (now (index .entry))) (now (table .exit)) r ⌝ }
 {
     if !all_start(model, index, modes) {
@@ -209,7 +209,7 @@ fn flow_group(
 ) -> Group
     requires { ⌜ GoodPaper (now model) (now index) (now second) (now regions) ⌝ }
     requires { ⌜ Stands (now model) (now index) location modes × (256 ≤ length (now table)) ⌝ }
-    ensures { λ r. ⌜ tasksOf (now (model .entry)) (now (second .entry)) (variablesIn (now (index .entry))) (now (table .exit)) r ≡ groupTasks (modelFrom (now (model .entry)) (now (index .entry))) (regionsOf (now (model .entry)) (now (index .entry)) (now (second .entry)) (now (regions .entry))) location 1 ⌝ }
+    ensures { λ r. ⌜ tasksOf (now (model .entry)) (now (second .entry)) (variablesIn (now (index .entry))) (now (table .exit)) r ≡ groupTasksFor (now (model .entry)) (now (index .entry)) (now (second .entry)) (now (regions .entry)) location 1 ⌝ }
     ensures { λ r. ⌜ GoodGroup (now (model .entry)) (now (second .entry)) (variablesIn (now (index .entry))) (now (table .exit)) r ⌝ }
 {
     let hypotheses = flow_table(model, index, second, regions, location, modes, table);
@@ -229,7 +229,7 @@ fn unsafe_group(
 ) -> Group
     requires { ⌜ GoodPaper (now model) (now index) (now second) (now regions) ⌝ }
     requires { ⌜ Stands (now model) (now index) location modes × ((u < conditionsIn (now index)) × (256 ≤ length (now table))) ⌝ }
-    ensures { λ r. ⌜ tasksOf (now (model .entry)) (now (second .entry)) (variablesIn (now (index .entry))) (now (table .exit)) r ≡ groupTasks (modelFrom (now (model .entry)) (now (index .entry))) (regionsOf (now (model .entry)) (now (index .entry)) (now (second .entry)) (now (regions .entry))) location (2 + u) ⌝ }
+    ensures { λ r. ⌜ tasksOf (now (model .entry)) (now (second .entry)) (variablesIn (now (index .entry))) (now (table .exit)) r ≡ groupTasksFor (now (model .entry)) (now (index .entry)) (now (second .entry)) (now (regions .entry)) location (2 + u) ⌝ }
     ensures { λ r. ⌜ GoodGroup (now (model .entry)) (now (second .entry)) (variablesIn (now (index .entry))) (now (table .exit)) r ⌝ }
 {
     if !modes_fit(model, index, u, modes) {
@@ -258,7 +258,7 @@ pub fn group_at(
 ) -> Group
     requires { ⌜ GoodPaper (now model) (now index) (now second) (now regions) ⌝ }
     requires { ⌜ Stands (now model) (now index) location modes × ((g < 2 + conditionsIn (now index)) × (256 ≤ length (now table))) ⌝ }
-    ensures { λ r. ⌜ tasksOf (now (model .entry)) (now (second .entry)) (variablesIn (now (index .entry))) (now (table .exit)) r ≡ groupTasks (modelFrom (now (model .entry)) (now (index .entry))) (regionsOf (now (model .entry)) (now (index .entry)) (now (second .entry)) (now (regions .entry))) location g ⌝ }
+    ensures { λ r. ⌜ tasksOf (now (model .entry)) (now (second .entry)) (variablesIn (now (index .entry))) (now (table .exit)) r ≡ groupTasksFor (now (model .entry)) (now (index .entry)) (now (second .entry)) (now (regions .entry)) location g ⌝ }
     ensures { λ r. ⌜ GoodGroup (now (model .entry)) (now (second .entry)) (variablesIn (now (index .entry))) (now (table .exit)) r ⌝ }
 {
     if g == 0 {
@@ -294,7 +294,7 @@ pub fn jump_group(
     requires { ⌜ GoodPaper (now model) (now index) (now second) (now regions) ⌝ }
     requires { ⌜ Stands (now model) (now index) location modes × ((target < locationCount (componentsFrom (now model) (now index))) × KnownSwitches (now index) switches) ⌝ }
     requires { ⌜ 256 ≤ length (now table) ⌝ }
-    ensures { λ r. ⌜ tasksOf (now (model .entry)) (now (second .entry)) (variablesIn (now (index .entry))) (now (table .exit)) r ≡ jumpTasks (modelFrom (now (model .entry)) (now (index .entry))) (regionsOf (now (model .entry)) (now (index .entry)) (now (second .entry)) (now (regions .entry))) location (perComponent (now (index .entry)) switches) target ⌝ }
+    ensures { λ r. ⌜ tasksOf (now (model .entry)) (now (second .entry)) (variablesIn (now (index .entry))) (now (table .exit)) r ≡ jumpTasksFor (now (model .entry)) (now (index .entry)) (now (second .entry)) (now (regions .entry)) location (perComponent (now (index .entry)) switches) target ⌝ }
     ensures { λ r. ⌜ GoodGroup (now (model .entry)) (now (second .entry)) (variablesIn (now (index .entry))) (now (table .exit)) r ⌝ }
 {
     if regions[2 * (target as usize) + 1] == 0 {

@@ -25,10 +25,10 @@ ghost use Prim.Native.Nat.{_+_, _-_, _<_, _≤_, min};
 ghost use lib.Dec.{eqb};
 ghost use lib.ListN.{length, getD, replicate};
 ghost use Rattle.formats.specs.Model.{hasEvent};
-ghost use Rattle.formats.specs.Locations.{locationCount, modesAt, locationOf};
-ghost use Rattle.formats.specs.Joint.{stays, switchOf, leaves, bit, scopeMask, switchesOf, modesAfter, joinAll, countUp, joints, fourSwitches};
+ghost use Rattle.formats.specs.Locations.{locationCount, modesAt};
+ghost use Rattle.formats.specs.Joint.{stays, switchOf, leaves, bit, scopeMask, switchesOf, joinAll, countUp, joints, fourSwitches};
 ghost use Rattle.models.specs.Index.{entry, GoodIndex, componentsFrom, componentsIn};
-ghost use Rattle.models.specs.Counts.{componentAt, perComponent, KnownSwitches};
+ghost use Rattle.models.specs.Counts.{componentAt, perComponent, KnownSwitches, targetIn};
 ghost use Rattle.model_sheets.specs.Tally.{Tallied, SmallModes};
 
 // How many components there are.
@@ -243,7 +243,7 @@ fn mode_after(s: &[u8], index: &Index, k: usize, mode: u8, i: u8) -> u8
 pub fn target_of(s: &[u8], index: &Index, modes: [u8; 4], switches: [u8; 4]) -> u32
     requires { ⌜ GoodIndex (now s) (now index) ⌝ }
     requires { ⌜ KnownSwitches (now index) switches ⌝ }
-    ensures { λ r. ⌜ r ≡ locationOf (componentsFrom (now (s .entry)) (now (index .entry))) (modesAfter (componentsFrom (now (s .entry)) (now (index .entry))) (perComponent (now (index .entry)) modes) (perComponent (now (index .entry)) switches)) ⌝ }
+    ensures { λ r. ⌜ r ≡ targetIn (now (s .entry)) (now (index .entry)) modes switches ⌝ }
 {
     let mut location: u32 = 0;
     let mut unit: u32 = 1;

@@ -7,10 +7,10 @@ use Rattle.formats.specs.Reading.{Reader, got, refused, _>>_, header, Got}
 use Rattle.formats.specs.Rows.{Condition}
 use Rattle.formats.specs.Model.{Model}
 use Rattle.formats.specs.Locations.{locationCount}
-use Rattle.formats.specs.Joint.{joints}
-use Rattle.models.specs.Index.{entry, componentsFrom, GoodIndex}
+use Rattle.formats.specs.Joint.{joints, JointSwitch}
+use Rattle.models.specs.Index.{entry, componentsFrom, GoodIndex, modelFrom}
 use Rattle.second_sheets.specs.CertificateAnswers.{regionsFrom, GoodRegions}
-use Rattle.rules.specs.Obligations.{regionOf}
+use Rattle.rules.specs.Obligations.{regionOf, Obligation, obligations, locationObligations, jumpsObligations}
 use Rattle.formats.specs.Certificate.{readRegions}
 use Rattle.fields.specs.declared.Next.{Next}
 use Rattle.fields.specs.declared.Next.the-variants as next
@@ -37,6 +37,16 @@ pub record GoodPaper (model index second regions : List ℕ) : Type 0 where
 -- the regions of a certificate, by the places that the code keeps
 unfoldable pub regionsOf : List ℕ → List ℕ → List ℕ → List ℕ → ℕ → Condition
 regionsOf model index second regions = regionOf (regionsFrom second (entry index 0) regions (locationCount (componentsFrom model index)))
+
+-- what a paper has to prove: all of it, for so many locations; at a location; by joint switches, of which so many come before these
+abbrev pub obligationsFor : List ℕ → List ℕ → List ℕ → List ℕ → ℕ → List Obligation
+obligationsFor model index second regions locations = obligations (modelFrom model index) (regionsFrom second (entry index 0) regions locations)
+
+abbrev pub locationObligationsFor : List ℕ → List ℕ → List ℕ → List ℕ → ℕ → List Obligation
+locationObligationsFor model index second regions = locationObligations (modelFrom model index) (regionsOf model index second regions)
+
+abbrev pub jumpsObligationsFor : List ℕ → List ℕ → List ℕ → List ℕ → ℕ → List JointSwitch → List Obligation
+jumpsObligationsFor model index second regions = jumpsObligations (modelFrom model index) (regionsOf model index second regions)
 
 -- where reading went on, or the refusal
 unfoldable pub heldNext : {A : Type 0} → Got A → Next

@@ -16,8 +16,8 @@ ghost use mathlib.Core.Bool.{_||_, false};
 ghost use Prim.Native.Nat.{_+_, _*_, _≤_, _<_};
 ghost use lib.Dec.{eqb};
 ghost use Rattle.farkas.specs.Lists.{every};
-ghost use Rattle.models.specs.Index.{entry, componentPlace, modePlace, unsafePlace, unsafeFrom, componentsFrom, GoodIndex, switchPlace, componentsIn, conditionsIn, modeCountIn, variablesIn};
-ghost use Rattle.models.specs.Counts.{perComponent};
+ghost use Rattle.models.specs.Index.{entry, componentPlace, modePlace, componentsFrom, GoodIndex, switchPlace, componentsIn, conditionsIn, modeCountIn};
+ghost use Rattle.models.specs.Counts.{perComponent, conditionAt};
 ghost use Rattle.rules.specs.Runs.{present, modesFit};
 ghost use Rattle.papers.specs.Standing.{KnownModes};
 
@@ -59,7 +59,7 @@ fn mode_fits(asked: u16, mode: u8) -> bool
 // Whether the modes that an unsafe condition asks for fit the present ones.
 pub fn modes_fit(model: &[u8], index: &Index, u: usize, modes: [u8; 4]) -> bool
     requires { ⌜ GoodIndex (now model) (now index) × (u < conditionsIn (now index)) ⌝ }
-    ensures { λ r. ⌜ r ≡ modesFit (unsafeFrom (now (model .entry)) (variablesIn (now (index .entry))) (componentsIn (now (index .entry))) (now (index .entry)) (unsafePlace u) .modes) (perComponent (now (index .entry)) modes) ⌝ }
+    ensures { λ r. ⌜ r ≡ modesFit (conditionAt (now (model .entry)) (now (index .entry)) u .modes) (perComponent (now (index .entry)) modes) ⌝ }
 {
     let components = index[COMPONENTS_AT] as usize;
     let mut k: usize = 0;

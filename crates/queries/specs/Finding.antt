@@ -11,7 +11,7 @@ use Rattle.formats.specs.Reading.{Got, got, refused, _>>_, header}
 use Rattle.formats.specs.Rows.{Condition}
 use Rattle.formats.specs.Model.{Model}
 use Rattle.formats.specs.Locations.{locationCount, modesAt}
-use Rattle.formats.specs.Joint.{JointSwitch, switchesOf, joints, countUp, joinAll}
+use Rattle.formats.specs.Joint.{JointSwitch, switchesOf, joints, countUp, joinAll, jointsOf}
 use Rattle.models.specs.Index.{entry, componentsFrom, modelFrom}
 use Rattle.formats.specs.ModelSheet.{Limits, readModel}
 use Rattle.formats.specs.Certificate.{readRegions}
@@ -27,7 +27,7 @@ use Rattle.queries.specs.declared.RowFound.the-variants as row
 use Rattle.rules.specs.Runs.{modesIn, movers, stayingVariables}
 use Rattle.rules.specs.Obligations.{Hypothesis, nowhere, Kind, atStart, afterFlow, clearOfUnsafe, afterJump, Obligation, startHypotheses, flowHypotheses, unsafeHypotheses, jumpHypotheses, startObligations, flowObligations, unsafeObligations, jumpObligations, jumpsObligations, obligationsOver, obligations}
 use Rattle.hypotheses.specs.Listing.{noUnsafe}
-use Rattle.papers.specs.Paper.{regionsOf}
+use Rattle.papers.specs.Paper.{regionsOf, locationObligationsFor, jumpsObligationsFor}
 use Rattle.scores.specs.Counting.{targetRows}
 use Rattle.rules.specs.Beside.{Found, found, unfound, noObligation, findIn, findAfter, findHypothesis}
 
@@ -233,3 +233,47 @@ pub record JointLeads (m : Model) (regionAt : ℕ → Condition) (f : ℕ → Li
   pub leads : oneAt (jumpsObligations m regionAt (s .number) (joinAll f (countUp (s .at) (n - s .at)))) (s .left) ≡ one
   pub counted : s .number + length (joinAll f (countUp (s .at) (n - s .at))) ≤ 4096
   pub here : s .at < n → s .left < length (targetRows regionAt (f (s .at)))
+
+-- the same, of the model and the regions that the code keeps by their places
+abbrev pub groupObligationsFor : List ℕ → List ℕ → List ℕ → List ℕ → ℕ → ℕ → List Obligation
+groupObligationsFor model index second regions = groupObligations (modelFrom model index) (regionsOf model index second regions)
+
+abbrev pub groupHypothesesFor : List ℕ → List ℕ → List ℕ → List ℕ → ℕ → ℕ → List Hypothesis
+groupHypothesesFor model index second regions = groupHypotheses (modelFrom model index) (regionsOf model index second regions)
+
+abbrev pub jointHypothesesFor : List ℕ → List ℕ → List ℕ → List ℕ → JointSwitch → List Hypothesis
+jointHypothesesFor model index second regions = jointHypotheses (modelFrom model index) (regionsOf model index second regions)
+
+abbrev pub soughtOneFor : List ℕ → List ℕ → List ℕ → List ℕ → Sought → List Obligation
+soughtOneFor model index second regions = soughtOne model index (regionsOf model index second regions)
+
+-- Where each search leads: among the locations, the groups of a location, the source locations of joint switches, the events of a location,
+-- and the joint switches of an event
+abbrev pub LeadsToLocation : List ℕ → List ℕ → List ℕ → List ℕ → ℕ → ℕ → Spot → Type 0
+LeadsToLocation model index second regions locations o =
+    SpotLeads (locationObligationsFor model index second regions) locations (oneAt (paperObligations model index second regions) o)
+    (jumpsObligationsFor model index second regions 0 (joints (componentsFrom model index)))
+
+abbrev pub LeadsToGroup : List ℕ → List ℕ → List ℕ → List ℕ → ℕ → ℕ → Spot → Type 0
+LeadsToGroup model index second regions location o =
+    SpotLeads (groupObligationsFor model index second regions location) (2 + entry index 2) (oneAt (locationObligationsFor model index second regions location) o) []
+
+abbrev pub LeadsToSource : List ℕ → List ℕ → List ℕ → List ℕ → ℕ → ℕ → JointSpot → Type 0
+LeadsToSource model index second regions locations o =
+    JointLeads (modelFrom model index) (regionsOf model index second regions) (λ l. joinAll (jointsOf (componentsFrom model index) l) (countUp 0 16)) locations
+    (oneAt (jumpsObligationsFor model index second regions 0 (joints (componentsFrom model index))) o)
+
+abbrev pub LeadsToEvent : List ℕ → List ℕ → List ℕ → List ℕ → ℕ → ℕ → ℕ → JointSpot → Type 0
+LeadsToEvent model index second regions location first o =
+    JointLeads (modelFrom model index) (regionsOf model index second regions) (jointsOf (componentsFrom model index) location) 16
+    (oneAt (jumpsObligationsFor model index second regions first (joinAll (jointsOf (componentsFrom model index) location) (countUp 0 16))) o)
+
+abbrev pub LeadsToSwitch : List ℕ → List ℕ → List ℕ → List ℕ → ℕ → ℕ → ℕ → ℕ → JointSpot → Type 0
+LeadsToSwitch model index second regions location e first o =
+    JointLeads (modelFrom model index) (regionsOf model index second regions) (λ x. jointHere model index location e x ∷ [])
+    (length (switchesOf (componentsFrom model index) (modesAt (componentsFrom model index) location) e))
+    (oneAt (jumpsObligationsFor model index second regions first (jointsOf (componentsFrom model index) location e)) o)
+
+-- the obligation with a number among those of all joint switches
+abbrev pub jumpOneFor : List ℕ → List ℕ → List ℕ → List ℕ → ℕ → List Obligation
+jumpOneFor model index second regions o = oneAt (jumpsObligationsFor model index second regions 0 (joints (componentsFrom model index))) o

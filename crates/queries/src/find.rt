@@ -20,18 +20,17 @@ use scores::counting::region_rows;
 use scores::counting::target_goals;
 use second_sheets::ranges::Regions;
 ghost use mathlib.Core.Path.{_≡_};
-ghost use mathlib.Core.List.{[], _∷_};
 ghost use Prim.Native.Nat.{_+_, _≤_, _<_};
 ghost use lib.ListN.{length};
 ghost use Rattle.formats.specs.Locations.{locationCount, modesAt};
 ghost use Rattle.formats.specs.Joint.{jointsOf, joints, joinAll, countUp, switchesOf};
 ghost use Rattle.models.specs.Index.{entry, componentsFrom, modelFrom, conditionsIn};
 ghost use Rattle.model_sheets.specs.Ways.{Ways};
-ghost use Rattle.rules.specs.Obligations.{locationObligations, jumpsObligations};
+ghost use Rattle.rules.specs.Obligations.{locationObligations};
 ghost use Rattle.papers.specs.Paper.{GoodPaper, regionsOf};
 ghost use Rattle.papers.specs.Standing.{Stands};
-ghost use Rattle.scores.specs.Counting.{targetRows};
-ghost use Rattle.queries.specs.Finding.{oneAt, groupObligations, jointHere, soughtOne, KnownSought, paperObligations, SpotLeads, JointLeads};
+ghost use Rattle.scores.specs.Counting.{targetRows, targetRowsFor};
+ghost use Rattle.queries.specs.Finding.{oneAt, KnownSought, paperObligations, groupObligationsFor, soughtOneFor, LeadsToLocation, LeadsToGroup, LeadsToSource, LeadsToEvent, LeadsToSwitch, jumpOneFor};
 
 // The location that has the obligation, or the number of locations where none has.
 fn find_location(
@@ -44,7 +43,7 @@ fn find_location(
 ) -> Spot
     requires { ⌜ GoodPaper (now model) (now index) (now second) (now regions) ⌝ }
     requires { ⌜ locations ≡ locationCount (componentsFrom (now model) (now index)) ⌝ }
-    ensures { λ r. ⌜ SpotLeads (locationObligations (modelFrom (now (model .entry)) (now (index .entry))) (regionsOf (now (model .entry)) (now (index .entry)) (now (second .entry)) (now (regions .entry)))) locations (oneAt (paperObligations (now (model .entry)) (now (index .entry)) (now (second .entry)) (now (regions .entry))) o) (jumpsObligations (modelFrom (now (model .entry)) (now (index .entry))) (regionsOf (now (model .entry)) (now (index .entry)) (now (second .entry)) (now (regions .entry))) 0 (joints (componentsFrom (now (model .entry)) (now (index .entry))))) r ⌝ }
+    ensures { λ r. ⌜ LeadsToLocation (now (model .entry)) (now (index .entry)) (now (second .entry)) (now (regions .entry)) locations o r ⌝ }
 {
     let mut left = o;
     let mut at: u32 = 0;
@@ -71,7 +70,7 @@ fn group_goals(
 ) -> u32
     requires { ⌜ GoodPaper (now model) (now index) (now second) (now regions) ⌝ }
     requires { ⌜ Stands (now model) (now index) location modes × (g < 2 + conditionsIn (now index)) ⌝ }
-    ensures { λ r. ⌜ r ≡ length (groupObligations (modelFrom (now (model .entry)) (now (index .entry))) (regionsOf (now (model .entry)) (now (index .entry)) (now (second .entry)) (now (regions .entry))) location g) ⌝ }
+    ensures { λ r. ⌜ r ≡ length (groupObligationsFor (now (model .entry)) (now (index .entry)) (now (second .entry)) (now (regions .entry)) location g) ⌝ }
 {
     if 1 < g {
         return bit_of(modes_fit(model, index, (g - 2) as usize, modes));
@@ -99,7 +98,7 @@ fn find_group(
     requires { ⌜ GoodPaper (now model) (now index) (now second) (now regions) ⌝ }
     requires { ⌜ location < locationCount (componentsFrom (now model) (now index)) ⌝ }
     requires { ⌜ o < length (locationObligations (modelFrom (now model) (now index)) (regionsOf (now model) (now index) (now second) (now regions)) location) ⌝ }
-    ensures { λ r. ⌜ SpotLeads (groupObligations (modelFrom (now (model .entry)) (now (index .entry))) (regionsOf (now (model .entry)) (now (index .entry)) (now (second .entry)) (now (regions .entry))) location) (2 + conditionsIn (now (index .entry))) (oneAt (locationObligations (modelFrom (now (model .entry)) (now (index .entry))) (regionsOf (now (model .entry)) (now (index .entry)) (now (second .entry)) (now (regions .entry))) location) o) [] r ⌝ }
+    ensures { λ r. ⌜ LeadsToGroup (now (model .entry)) (now (index .entry)) (now (second .entry)) (now (regions .entry)) location o r ⌝ }
     ensures { λ r. ⌜ r .at < 2 + conditionsIn (now (index .entry)) ⌝ }
 {
     let modes = modes_at(model, index, location);
@@ -144,7 +143,7 @@ fn find_source(
 ) -> JointSpot
     requires { ⌜ GoodPaper (now model) (now index) (now second) (now regions) ⌝ }
     requires { ⌜ (locations ≡ locationCount (componentsFrom (now model) (now index))) × (length (joints (componentsFrom (now model) (now index))) ≤ 4096) ⌝ }
-    ensures { λ r. ⌜ JointLeads (modelFrom (now (model .entry)) (now (index .entry))) (regionsOf (now (model .entry)) (now (index .entry)) (now (second .entry)) (now (regions .entry))) (λ l. joinAll (jointsOf (componentsFrom (now (model .entry)) (now (index .entry))) l) (countUp 0 16)) locations (oneAt (jumpsObligations (modelFrom (now (model .entry)) (now (index .entry))) (regionsOf (now (model .entry)) (now (index .entry)) (now (second .entry)) (now (regions .entry))) 0 (joints (componentsFrom (now (model .entry)) (now (index .entry))))) o) r ⌝ }
+    ensures { λ r. ⌜ LeadsToSource (now (model .entry)) (now (index .entry)) (now (second .entry)) (now (regions .entry)) locations o r ⌝ }
 {
     let mut left = o;
     let mut number: u32 = 0;
@@ -174,8 +173,8 @@ fn find_event(
 ) -> JointSpot
     requires { ⌜ GoodPaper (now model) (now index) (now second) (now regions) ⌝ }
     requires { ⌜ Stands (now model) (now index) location modes × (first + length (joinAll (jointsOf (componentsFrom (now model) (now index)) location) (countUp 0 16)) ≤ 4096) ⌝ }
-    requires { ⌜ o < length (targetRows (regionsOf (now model) (now index) (now second) (now regions)) (joinAll (jointsOf (componentsFrom (now model) (now index)) location) (countUp 0 16))) ⌝ }
-    ensures { λ r. ⌜ JointLeads (modelFrom (now (model .entry)) (now (index .entry))) (regionsOf (now (model .entry)) (now (index .entry)) (now (second .entry)) (now (regions .entry))) (jointsOf (componentsFrom (now (model .entry)) (now (index .entry))) location) 16 (oneAt (jumpsObligations (modelFrom (now (model .entry)) (now (index .entry))) (regionsOf (now (model .entry)) (now (index .entry)) (now (second .entry)) (now (regions .entry))) first (joinAll (jointsOf (componentsFrom (now (model .entry)) (now (index .entry))) location) (countUp 0 16))) o) r ⌝ }
+    requires { ⌜ o < length (targetRowsFor (now model) (now index) (now second) (now regions) (joinAll (jointsOf (componentsFrom (now model) (now index)) location) (countUp 0 16))) ⌝ }
+    ensures { λ r. ⌜ LeadsToEvent (now (model .entry)) (now (index .entry)) (now (second .entry)) (now (regions .entry)) location first o r ⌝ }
     ensures { λ r. ⌜ r .at < 16 ⌝ }
 {
     let mut left = o;
@@ -211,7 +210,7 @@ fn find_listed(
     requires { ⌜ Stands (now model) (now index) location modes × ((e ≤ 15) × (first + length (jointsOf (componentsFrom (now model) (now index)) location e) ≤ 4096)) ⌝ }
     requires { ⌜ o < length (targetRows (regionsOf (now model) (now index) (now second) (now regions)) (jointsOf (componentsFrom (now model) (now index)) location e)) ⌝ }
     requires { ⌜ (128 ≤ length (now ways)) × Ways (now model) (now index) modes e (now ways) counts ⌝ }
-    ensures { λ r. ⌜ JointLeads (modelFrom (now (model .entry)) (now (index .entry))) (regionsOf (now (model .entry)) (now (index .entry)) (now (second .entry)) (now (regions .entry))) (λ x. jointHere (now (model .entry)) (now (index .entry)) location e x ∷ []) (length (switchesOf (componentsFrom (now (model .entry)) (now (index .entry))) (modesAt (componentsFrom (now (model .entry)) (now (index .entry))) location) e)) (oneAt (jumpsObligations (modelFrom (now (model .entry)) (now (index .entry))) (regionsOf (now (model .entry)) (now (index .entry)) (now (second .entry)) (now (regions .entry))) first (jointsOf (componentsFrom (now (model .entry)) (now (index .entry))) location e)) o) r ⌝ }
+    ensures { λ r. ⌜ LeadsToSwitch (now (model .entry)) (now (index .entry)) (now (second .entry)) (now (regions .entry)) location e first o r ⌝ }
     ensures { λ r. ⌜ r .at < length (switchesOf (componentsFrom (now (model .entry)) (now (index .entry))) (modesAt (componentsFrom (now (model .entry)) (now (index .entry))) location) e) ⌝ }
 {
     let count = ways_count(model, index, modes, e, ways, counts);
@@ -256,7 +255,7 @@ fn find_switch(
     requires { ⌜ GoodPaper (now model) (now index) (now second) (now regions) ⌝ }
     requires { ⌜ Stands (now model) (now index) location modes × ((e ≤ 15) × (first + length (jointsOf (componentsFrom (now model) (now index)) location e) ≤ 4096)) ⌝ }
     requires { ⌜ o < length (targetRows (regionsOf (now model) (now index) (now second) (now regions)) (jointsOf (componentsFrom (now model) (now index)) location e)) ⌝ }
-    ensures { λ r. ⌜ JointLeads (modelFrom (now (model .entry)) (now (index .entry))) (regionsOf (now (model .entry)) (now (index .entry)) (now (second .entry)) (now (regions .entry))) (λ x. jointHere (now (model .entry)) (now (index .entry)) location e x ∷ []) (length (switchesOf (componentsFrom (now (model .entry)) (now (index .entry))) (modesAt (componentsFrom (now (model .entry)) (now (index .entry))) location) e)) (oneAt (jumpsObligations (modelFrom (now (model .entry)) (now (index .entry))) (regionsOf (now (model .entry)) (now (index .entry)) (now (second .entry)) (now (regions .entry))) first (jointsOf (componentsFrom (now (model .entry)) (now (index .entry))) location e)) o) r ⌝ }
+    ensures { λ r. ⌜ LeadsToSwitch (now (model .entry)) (now (index .entry)) (now (second .entry)) (now (regions .entry)) location e first o r ⌝ }
     ensures { λ r. ⌜ r .at < length (switchesOf (componentsFrom (now (model .entry)) (now (index .entry))) (modesAt (componentsFrom (now (model .entry)) (now (index .entry))) location) e) ⌝ }
 {
     let mut ways = [0u8; WAYS_LENGTH];
@@ -287,7 +286,7 @@ fn find_jump(
 ) -> Sought
     requires { ⌜ GoodPaper (now model) (now index) (now second) (now regions) ⌝ }
     requires { ⌜ (locations ≡ locationCount (componentsFrom (now model) (now index))) × (length (joints (componentsFrom (now model) (now index))) ≤ 4096) ⌝ }
-    ensures { λ r. ⌜ soughtOne (now (model .entry)) (now (index .entry)) (regionsOf (now (model .entry)) (now (index .entry)) (now (second .entry)) (now (regions .entry))) r ≡ oneAt (jumpsObligations (modelFrom (now (model .entry)) (now (index .entry))) (regionsOf (now (model .entry)) (now (index .entry)) (now (second .entry)) (now (regions .entry))) 0 (joints (componentsFrom (now (model .entry)) (now (index .entry))))) o ⌝ }
+    ensures { λ r. ⌜ soughtOneFor (now (model .entry)) (now (index .entry)) (now (second .entry)) (now (regions .entry)) r ≡ jumpOneFor (now (model .entry)) (now (index .entry)) (now (second .entry)) (now (regions .entry)) o ⌝ }
     ensures { λ r. ⌜ KnownSought (now (model .entry)) (now (index .entry)) r ⌝ }
 {
     let source = find_source(model, index, second, regions, locations, o);
@@ -330,7 +329,7 @@ pub fn find(
 ) -> Sought
     requires { ⌜ GoodPaper (now model) (now index) (now second) (now regions) ⌝ }
     requires { ⌜ (locations ≡ locationCount (componentsFrom (now model) (now index))) × (length (joints (componentsFrom (now model) (now index))) ≤ 4096) ⌝ }
-    ensures { λ r. ⌜ soughtOne (now (model .entry)) (now (index .entry)) (regionsOf (now (model .entry)) (now (index .entry)) (now (second .entry)) (now (regions .entry))) r ≡ oneAt (paperObligations (now (model .entry)) (now (index .entry)) (now (second .entry)) (now (regions .entry))) o ⌝ }
+    ensures { λ r. ⌜ soughtOneFor (now (model .entry)) (now (index .entry)) (now (second .entry)) (now (regions .entry)) r ≡ oneAt (paperObligations (now (model .entry)) (now (index .entry)) (now (second .entry)) (now (regions .entry))) o ⌝ }
     ensures { λ r. ⌜ KnownSought (now (model .entry)) (now (index .entry)) r ⌝ }
 {
     let place = find_location(model, index, second, regions, locations, o);

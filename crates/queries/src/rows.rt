@@ -17,12 +17,12 @@ ghost use Prim.Native.Nat.{_+_, _≤_, _<_};
 ghost use lib.ListN.{length};
 ghost use Rattle.formats.specs.Locations.{locationCount, modesAt};
 ghost use Rattle.formats.specs.Joint.{switchesOf};
-ghost use Rattle.models.specs.Index.{entry, componentsFrom, modelFrom, conditionsIn, variablesIn};
+ghost use Rattle.models.specs.Index.{entry, componentsFrom, conditionsIn, variablesIn};
 ghost use Rattle.hypotheses.specs.Tables.{hypothesisIn, hypothesesFrom};
-ghost use Rattle.papers.specs.Paper.{GoodPaper, regionsOf};
+ghost use Rattle.papers.specs.Paper.{GoodPaper};
 ghost use Rattle.papers.specs.Standing.{Stands};
 ghost use Rattle.rules.specs.Beside.{found};
-ghost use Rattle.queries.specs.Finding.{rowFound, hypothesisFound, rowOf, groupHypotheses, jointHypotheses, jointHere, soughtOne, KnownSought};
+ghost use Rattle.queries.specs.Finding.{rowFound, hypothesisFound, rowOf, jointHere, KnownSought, groupHypothesesFor, jointHypothesesFor, soughtOneFor};
 
 // The table of a location's group.
 fn table_at(
@@ -37,7 +37,7 @@ fn table_at(
 ) -> usize
     requires { ⌜ GoodPaper (now model) (now index) (now second) (now regions) ⌝ }
     requires { ⌜ Stands (now model) (now index) location modes × ((g < 2 + conditionsIn (now index)) × (256 ≤ length (now table))) ⌝ }
-    ensures { λ r. ⌜ hypothesesFrom (now (model .entry)) (now (second .entry)) (variablesIn (now (index .entry))) (now (table .exit)) r ≡ groupHypotheses (modelFrom (now (model .entry)) (now (index .entry))) (regionsOf (now (model .entry)) (now (index .entry)) (now (second .entry)) (now (regions .entry))) location g ⌝ }
+    ensures { λ r. ⌜ hypothesesFrom (now (model .entry)) (now (second .entry)) (variablesIn (now (index .entry))) (now (table .exit)) r ≡ groupHypothesesFor (now (model .entry)) (now (index .entry)) (now (second .entry)) (now (regions .entry)) location g ⌝ }
     ensures { λ r. ⌜ r ≤ 128 ⌝ }
 {
     if g == 0 {
@@ -102,7 +102,7 @@ fn location_row(
 ) -> RowFound
     requires { ⌜ GoodPaper (now model) (now index) (now second) (now regions) ⌝ }
     requires { ⌜ (location < locationCount (componentsFrom (now model) (now index))) × (g < 2 + conditionsIn (now index)) ⌝ }
-    ensures { λ r. ⌜ r ≡ rowFound (hypothesisFound (groupHypotheses (modelFrom (now (model .entry)) (now (index .entry))) (regionsOf (now (model .entry)) (now (index .entry)) (now (second .entry)) (now (regions .entry))) location g) h) ⌝ }
+    ensures { λ r. ⌜ r ≡ rowFound (hypothesisFound (groupHypothesesFor (now (model .entry)) (now (index .entry)) (now (second .entry)) (now (regions .entry)) location g) h) ⌝ }
 {
     let modes = modes_at(model, index, location);
     let n = index[VARIABLES_AT] as u32;
@@ -133,7 +133,7 @@ fn joint_row(
 ) -> RowFound
     requires { ⌜ GoodPaper (now model) (now index) (now second) (now regions) ⌝ }
     requires { ⌜ (location < locationCount (componentsFrom (now model) (now index))) × ((e ≤ 15) × (x < length (switchesOf (componentsFrom (now model) (now index)) (modesAt (componentsFrom (now model) (now index)) location) e))) ⌝ }
-    ensures { λ r. ⌜ r ≡ rowFound (hypothesisFound (jointHypotheses (modelFrom (now (model .entry)) (now (index .entry))) (regionsOf (now (model .entry)) (now (index .entry)) (now (second .entry)) (now (regions .entry))) (jointHere (now (model .entry)) (now (index .entry)) location e x)) h) ⌝ }
+    ensures { λ r. ⌜ r ≡ rowFound (hypothesisFound (jointHypothesesFor (now (model .entry)) (now (index .entry)) (now (second .entry)) (now (regions .entry)) (jointHere (now (model .entry)) (now (index .entry)) location e x)) h) ⌝ }
 {
     let modes = modes_at(model, index, location);
     let switches = joint_at(model, index, modes, e, x);
@@ -165,7 +165,7 @@ pub fn sought_row(
 ) -> RowFound
     requires { ⌜ GoodPaper (now model) (now index) (now second) (now regions) ⌝ }
     requires { ⌜ KnownSought (now model) (now index) sought ⌝ }
-    ensures { λ r. ⌜ r ≡ rowOf (soughtOne (now (model .entry)) (now (index .entry)) (regionsOf (now (model .entry)) (now (index .entry)) (now (second .entry)) (now (regions .entry))) sought) h ⌝ }
+    ensures { λ r. ⌜ r ≡ rowOf (soughtOneFor (now (model .entry)) (now (index .entry)) (now (second .entry)) (now (regions .entry)) sought) h ⌝ }
 {
     match sought {
         Sought::AtLocation(location, g, _) => location_row(

@@ -20,14 +20,12 @@ ghost use Prim.Native.Nat.{_+_, _≤_, _<_};
 ghost use lib.ListN.{length};
 ghost use Rattle.formats.specs.Locations.{locationCount};
 ghost use Rattle.formats.specs.Joint.{joints};
-ghost use Rattle.models.specs.Index.{entry, componentsFrom, modelFrom, variablesIn};
+ghost use Rattle.models.specs.Index.{entry, componentsFrom, modelFrom};
 ghost use Rattle.formats.specs.ModelSheet.{examLimits};
 ghost use Rattle.formats.specs.Certificate.{readRegions};
-ghost use Rattle.second_sheets.specs.CertificateAnswers.{regionsFrom};
-ghost use Rattle.rules.specs.Obligations.{obligations};
-ghost use Rattle.papers.specs.Paper.{GoodPaper, regionsOf, Accepted};
+ghost use Rattle.papers.specs.Paper.{GoodPaper, Accepted, obligationsFor};
 ghost use Rattle.rules.specs.Beside.{findHypothesis, showAnswer, showPart};
-ghost use Rattle.queries.specs.Finding.{whichObligation, groupWhich, rowFound, RowInside, whichOf, toldRefused, toldIn, toldAfter, toldFor, soughtOne, PartIs};
+ghost use Rattle.queries.specs.Finding.{whichObligation, groupWhich, rowFound, RowInside, whichOf, toldRefused, toldIn, toldAfter, toldFor, PartIs, soughtOneFor};
 
 // Which obligation a location's group has at a line.
 fn group_which(size: u32, location: u32, g: u32, line: u32) -> Which
@@ -62,7 +60,7 @@ fn sought_which(
     sought: Sought,
 ) -> Which
     requires { ⌜ GoodPaper (now model) (now index) (now second) (now regions) ⌝ }
-    ensures { λ r. ⌜ r ≡ whichOf (length (now (second .entry))) (soughtOne (now (model .entry)) (now (index .entry)) (regionsOf (now (model .entry)) (now (index .entry)) (now (second .entry)) (now (regions .entry))) sought) ⌝ }
+    ensures { λ r. ⌜ r ≡ whichOf (length (now (second .entry))) (soughtOneFor (now (model .entry)) (now (index .entry)) (now (second .entry)) (now (regions .entry)) sought) ⌝ }
 {
     let size = second.len() as u32;
     match sought {
@@ -117,7 +115,7 @@ fn tell_rest(
 ) -> Told
     requires { ⌜ GoodPaper (now model) (now index) (now second) (now regions) ⌝ }
     requires { ⌜ (locations ≡ locationCount (componentsFrom (now model) (now index))) × (length (joints (componentsFrom (now model) (now index))) ≤ 4096) ⌝ }
-    ensures { λ r. ⌜ r ≡ toldIn (length (now (second .entry))) (obligations (modelFrom (now (model .entry)) (now (index .entry))) (regionsFrom (now (second .entry)) (variablesIn (now (index .entry))) (now (regions .entry)) locations)) o h ⌝ }
+    ensures { λ r. ⌜ r ≡ toldIn (length (now (second .entry))) (obligationsFor (now (model .entry)) (now (index .entry)) (now (second .entry)) (now (regions .entry)) locations) o h ⌝ }
 {
     let sought = find(model, index, second, regions, locations, o);
     let which = sought_which(model, index, second, regions, sought);

@@ -15,8 +15,9 @@ use Rattle.models.specs.Counts.{perComponent, KnownSwitches}
 use Rattle.second_sheets.specs.declared.Switches.{Switches}
 use Rattle.second_sheets.specs.declared.Step as coded
 use Rattle.second_sheets.specs.declared.Step.the-variants as step
-use Rattle.second_sheets.specs.RunAnswers.{switchesIn}
+use Rattle.second_sheets.specs.RunAnswers.{switchesIn, stepOf}
 use Rattle.rules.specs.Runs.{State, conditionHolds, modesFit}
+use Rattle.formats.specs.RunSheet.{Step}
 
 -- the first of eight values, one per variable
 unfoldable pub perVariable : List ℕ → List ℤ → List ℤ
@@ -74,3 +75,7 @@ pub record KnownStep (index : List ℕ) (by : coded.Step) : Type 0 where
   pub time : (δ : ℕ) → by ≡ step.Flow δ → δ < 2 ^ 24
   pub event : (e : ℕ) (w : Switches) → by ≡ step.Jump e w → e ≤ 15
   pub switches : (e : ℕ) (w : Switches) → by ≡ step.Jump e w → KnownSwitches index (switchesIn w)
+
+-- a step that was read, with its new values in an array of eight
+abbrev pub stepWith : List ℕ → coded.Step → List ℤ → Step
+stepWith index by next = stepOf (entry index 1) by (perVariable index next)

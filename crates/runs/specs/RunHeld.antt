@@ -12,7 +12,9 @@ use Rattle.runs.specs.declared.RunMarked.{RunMarked}
 use Rattle.rules.specs.Runs.{State}
 use Rattle.papers.specs.Standing.{Stands}
 use Rattle.runs.specs.Held.{stateOf, SmallValues}
-use Rattle.rules.specs.Marking.{Marked, passed, stopped}
+use Rattle.rules.specs.Marking.{Marked, passed, stopped, markSteps, markOpening}
+use Rattle.models.specs.Index.{modelFrom}
+use Rattle.rules.specs.declared.Answer.{Answer}
 
 -- a run sheet up to its steps: its header, then how the run begins
 unfoldable pub runOpening : Model → Reader Opening
@@ -34,3 +36,11 @@ pub record RunStands (model index sheet : List ℕ) (r : RunMarked) : Type 0 whe
   pub stands : Stands model index (r .location) (r .modes)
   pub small : SmallValues (r .values)
   pub placed : r .place ≤ length sheet
+
+-- so many steps more, from where a run stands
+abbrev pub stepsFrom : List ℕ → List ℕ → ℕ → RunMarked → ℕ → List ℕ → Marked State
+stepsFrom model index q r steps sheet = markSteps (modelFrom model index) q (stateOf index (r .location) (r .values)) steps sheet (r .place) (r .done)
+
+-- the answer on a run sheet whose body begins here
+abbrev pub markedBody : List ℕ → List ℕ → List ℕ → ℕ → Answer
+markedBody model index sheet place = markOpening (modelFrom model index) sheet (readOpening (modelFrom model index) sheet place)

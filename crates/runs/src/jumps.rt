@@ -25,7 +25,7 @@ ghost use Rattle.models.specs.Counts.{componentAt, perComponent, KnownSwitches}
 ghost use Rattle.second_sheets.specs.RunAnswers.{stepOf};
 ghost use Rattle.rules.specs.Runs as runs;
 ghost use Rattle.papers.specs.Standing.{Stands};
-ghost use Rattle.runs.specs.Held.{perVariable, stateOf, SmallValues, KnownStep};
+ghost use Rattle.runs.specs.Held.{perVariable, stateOf, SmallValues, KnownStep, stepWith};
 
 // Whether a component moves by this number: that of one of its switches, which has this label and leaves this mode.
 fn moves_by(model: &[u8], index: &Index, k: usize, mode: u8, e: u32, i: u8) -> bool
@@ -162,7 +162,7 @@ fn rule_met(
     requires { ⌜ GoodIndex (now model) (now index) ⌝ }
     requires { ⌜ KnownStep (now index) by ⌝ }
     requires { ⌜ Stands (now model) (now index) location modes × ((q < 2 ^ 24) × (SmallValues values × SmallValues next)) ⌝ }
-    ensures { λ r. ⌜ r ≡ runs.ruleMet (modelFrom (now (model .entry)) (now (index .entry))) q (stateOf (now (index .entry)) location values) (stepOf (componentsIn (now (index .entry))) by (perVariable (now (index .entry)) next)) ⌝ }
+    ensures { λ r. ⌜ r ≡ runs.ruleMet (modelFrom (now (model .entry)) (now (index .entry))) q (stateOf (now (index .entry)) location values) (stepWith (now (index .entry)) by next) ⌝ }
 {
     match by {
         Step::Flow(time) => flow_rule(model, index, location, modes, time, values, next),
@@ -198,7 +198,7 @@ pub fn step_allowed(
     requires { ⌜ KnownStep (now index) by ⌝ }
     requires { ⌜ Stands (now model) (now index) location modes × ((q < 2 ^ 24) × (SmallValues values × SmallValues next)) ⌝ }
     requires { ⌜ Stands (now model) (now index) target targets × (target ≡ runs.after (modelFrom (now model) (now index)) (stateOf (now index) location []) (stepOf (componentsIn (now index)) by []) .location) ⌝ }
-    ensures { λ r. ⌜ r ≡ runs.stepAllowed (modelFrom (now (model .entry)) (now (index .entry))) q (stateOf (now (index .entry)) location values) (stepOf (componentsIn (now (index .entry))) by (perVariable (now (index .entry)) next)) ⌝ }
+    ensures { λ r. ⌜ r ≡ runs.stepAllowed (modelFrom (now (model .entry)) (now (index .entry))) q (stateOf (now (index .entry)) location values) (stepWith (now (index .entry)) by next) ⌝ }
 {
     if !admissible(model, index, target, targets, q, next) {
         return false;

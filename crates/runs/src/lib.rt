@@ -1,5 +1,6 @@
 // Run sheets marked: rows on states, joint switches by their bytes, the steps one after the other, and the whole sheet.
 pub mod jumps;
+pub mod rows;
 pub mod run;
 pub mod values;
 

@@ -23,10 +23,8 @@ ghost use Prim.Native.Nat.{_+_, _^_, _≤_, _<_};
 ghost use lib.ListN.{length};
 ghost use Rattle.models.specs.Index.{modelFrom, GoodIndex};
 ghost use Rattle.formats.specs.ModelSheet.{examLimits};
-ghost use Rattle.formats.specs.RunSheet.{readOpening};
-ghost use Rattle.runs.specs.Held.{stateOf};
-ghost use Rattle.runs.specs.RunHeld.{stoppedAt, markedAs, RunStands};
-ghost use Rattle.rules.specs.Marking.{markSteps, closeRun, markOpening, markRun};
+ghost use Rattle.runs.specs.RunHeld.{stoppedAt, markedAs, RunStands, markedBody, stepsFrom};
+ghost use Rattle.rules.specs.Marking.{closeRun, markRun};
 
 // A run whose marking has stopped: the number and place of the refusal, and the state as it was.
 fn stopped_at(run: RunMarked, number: u32, place: usize) -> RunMarked
@@ -49,7 +47,7 @@ fn mark_step(model: &[u8], index: &Index, s: &[u8], q: u32, run: RunMarked) -> R
     requires { ⌜ GoodIndex (now model) (now index) ⌝ }
     requires { ⌜ RunStands (now model) (now index) (now s) run ⌝ }
     requires { ⌜ (q < 2 ^ 24) × (run .done < 4095) ⌝ }
-    ensures { λ r. ⌜ markedAs (now (index .entry)) r ≡ markSteps (modelFrom (now (model .entry)) (now (index .entry))) q (stateOf (now (index .entry)) (run .location) (run .values)) 1 (now (s .entry)) (run .place) (run .done) ⌝ }
+    ensures { λ r. ⌜ markedAs (now (index .entry)) r ≡ stepsFrom (now (model .entry)) (now (index .entry)) q run 1 (now (s .entry)) ⌝ }
     ensures { λ r. ⌜ RunStands (now (model .entry)) (now (index .entry)) (now (s .entry)) r ⌝ }
 {
     let read = step(model, index, s, run.place);
@@ -100,7 +98,7 @@ fn mark_steps(
     requires { ⌜ GoodIndex (now model) (now index) ⌝ }
     requires { ⌜ RunStands (now model) (now index) (now s) first ⌝ }
     requires { ⌜ (q < 2 ^ 24) × ((first .number ≡ 0) × (first .done + steps ≤ 4095)) ⌝ }
-    ensures { λ r. ⌜ markedAs (now (index .entry)) r ≡ markSteps (modelFrom (now (model .entry)) (now (index .entry))) q (stateOf (now (index .entry)) (first .location) (first .values)) steps (now (s .entry)) (first .place) (first .done) ⌝ }
+    ensures { λ r. ⌜ markedAs (now (index .entry)) r ≡ stepsFrom (now (model .entry)) (now (index .entry)) q first steps (now (s .entry)) ⌝ }
     ensures { λ r. ⌜ RunStands (now (model .entry)) (now (index .entry)) (now (s .entry)) r ⌝ }
 {
     let mut run = first;
@@ -143,7 +141,7 @@ fn close_run(model: &[u8], index: &Index, s: &[u8], q: u32, run: RunMarked) -> A
 fn mark_body(model: &[u8], index: &Index, s: &[u8]) -> Answer
     requires { ⌜ GoodIndex (now model) (now index) ⌝ }
     requires { ⌜ (4 ≤ length (now s)) × (length (now s) ≤ 32768) ⌝ }
-    ensures { λ r. ⌜ r ≡ markOpening (modelFrom (now (model .entry)) (now (index .entry))) (now (s .entry)) (readOpening (modelFrom (now (model .entry)) (now (index .entry))) (now (s .entry)) 4) ⌝ }
+    ensures { λ r. ⌜ r ≡ markedBody (now (model .entry)) (now (index .entry)) (now (s .entry)) 4 ⌝ }
 {
     let read = opening(model, index, location_count(model, index), s, 4);
     let values = read.values;

@@ -12,20 +12,17 @@ use papers::standing::all_start;
 use papers::standing::modes_fit;
 use second_sheets::ranges::Regions;
 ghost use mathlib.Core.Path.{_≡_};
-ghost use mathlib.Core.List.{[]};
 ghost use Prim.Native.Nat.{_+_, _*_, _≤_, _<_};
-ghost use lib.ListN.{length, getD};
-ghost use Rattle.formats.specs.Locations.{locationCount, modesAt, locationOf};
-ghost use Rattle.formats.specs.Joint.{numbersFrom, modesAfter, switchesOf, jointsOf, joints, joinAll, countUp};
-ghost use Rattle.models.specs.Index.{entry, componentsFrom, modelFrom, GoodIndex, variablesIn};
+ghost use lib.ListN.{length};
+ghost use Rattle.formats.specs.Locations.{locationCount, modesAt};
+ghost use Rattle.formats.specs.Joint.{numbersFrom, switchesOf, jointsOf, joints, joinAll, countUp};
+ghost use Rattle.models.specs.Index.{entry, componentsFrom, modelFrom, GoodIndex};
 ghost use Rattle.models.specs.Counts.{perComponent};
-ghost use Rattle.second_sheets.specs.CertificateAnswers.{regionsFrom};
 ghost use Rattle.model_sheets.specs.Ways.{Ways};
 ghost use Rattle.rules.specs.Runs.{modesFit};
-ghost use Rattle.rules.specs.Obligations.{locationObligations, obligations};
 ghost use Rattle.rules.specs.Marking.{refusedScore};
-ghost use Rattle.papers.specs.Paper.{GoodPaper, regionsOf};
-ghost use Rattle.scores.specs.Counting.{targetRows};
+ghost use Rattle.papers.specs.Paper.{GoodPaper, regionsOf, locationObligationsFor, obligationsFor};
+ghost use Rattle.scores.specs.Counting.{targetRowsFor, rowsAfter};
 
 // How many unsafe conditions there are whose modes fit the present ones.
 fn fitting_count(model: &[u8], index: &Index, modes: [u8; 4]) -> u32
@@ -68,7 +65,7 @@ pub fn location_goals(
 ) -> u32
     requires { ⌜ GoodPaper (now model) (now index) (now second) (now regions) ⌝ }
     requires { ⌜ location < locationCount (componentsFrom (now model) (now index)) ⌝ }
-    ensures { λ r. ⌜ r ≡ length (locationObligations (modelFrom (now (model .entry)) (now (index .entry))) (regionsOf (now (model .entry)) (now (index .entry)) (now (second .entry)) (now (regions .entry))) location) ⌝ }
+    ensures { λ r. ⌜ r ≡ length (locationObligationsFor (now (model .entry)) (now (index .entry)) (now (second .entry)) (now (regions .entry)) location) ⌝ }
 {
     let modes = modes_at(model, index, location);
     let rows = region_rows(model, index, second, regions, location);
@@ -87,7 +84,7 @@ fn all_location_goals(
 ) -> u32
     requires { ⌜ GoodPaper (now model) (now index) (now second) (now regions) ⌝ }
     requires { ⌜ locations ≡ locationCount (componentsFrom (now model) (now index)) ⌝ }
-    ensures { λ r. ⌜ r ≡ length (joinAll (locationObligations (modelFrom (now (model .entry)) (now (index .entry))) (regionsOf (now (model .entry)) (now (index .entry)) (now (second .entry)) (now (regions .entry)))) (countUp 0 locations)) ⌝ }
+    ensures { λ r. ⌜ r ≡ length (joinAll (locationObligationsFor (now (model .entry)) (now (index .entry)) (now (second .entry)) (now (regions .entry))) (countUp 0 locations)) ⌝ }
 {
     let mut count: u32 = 0;
     let mut location: u32 = 0;
@@ -115,7 +112,7 @@ pub fn target_goals(
     requires { ⌜ (location < locationCount (componentsFrom (now model) (now index))) × (perComponent (now index) modes ≡ modesAt (componentsFrom (now model) (now index)) location) ⌝ }
     requires { ⌜ (128 ≤ length (now ways)) × Ways (now model) (now index) modes e (now ways) counts ⌝ }
     requires { ⌜ (e ≤ 15) × (x < length (switchesOf (componentsFrom (now model) (now index)) (modesAt (componentsFrom (now model) (now index)) location) e)) ⌝ }
-    ensures { λ r. ⌜ r ≡ length (regionsOf (now (model .entry)) (now (index .entry)) (now (second .entry)) (now (regions .entry)) (locationOf (componentsFrom (now (model .entry)) (now (index .entry))) (modesAfter (componentsFrom (now (model .entry)) (now (index .entry))) (modesAt (componentsFrom (now (model .entry)) (now (index .entry))) location) (getD (switchesOf (componentsFrom (now (model .entry)) (now (index .entry))) (modesAt (componentsFrom (now (model .entry)) (now (index .entry))) location) e) x [])))) ⌝ }
+    ensures { λ r. ⌜ r ≡ length (rowsAfter (now (model .entry)) (now (index .entry)) (now (second .entry)) (now (regions .entry)) location e x) ⌝ }
 {
     let switches = way_at(model, index, modes, e, ways, counts, x);
     let target = target_of(model, index, modes, switches);
@@ -138,7 +135,7 @@ fn listed_goals(
     requires { ⌜ (location < locationCount (componentsFrom (now model) (now index))) × (perComponent (now index) modes ≡ modesAt (componentsFrom (now model) (now index)) location) ⌝ }
     requires { ⌜ (128 ≤ length (now ways)) × Ways (now model) (now index) modes e (now ways) counts ⌝ }
     requires { ⌜ e ≤ 15 ⌝ }
-    ensures { λ r. ⌜ r ≡ length (targetRows (regionsOf (now (model .entry)) (now (index .entry)) (now (second .entry)) (now (regions .entry))) (jointsOf (componentsFrom (now (model .entry)) (now (index .entry))) location e)) ⌝ }
+    ensures { λ r. ⌜ r ≡ length (targetRowsFor (now (model .entry)) (now (index .entry)) (now (second .entry)) (now (regions .entry)) (jointsOf (componentsFrom (now (model .entry)) (now (index .entry))) location e)) ⌝ }
 {
     let switches = ways_count(model, index, modes, e, ways, counts);
     let mut count: u32 = 0;
@@ -174,7 +171,7 @@ pub fn event_goals(
     requires { ⌜ GoodPaper (now model) (now index) (now second) (now regions) ⌝ }
     requires { ⌜ (location < locationCount (componentsFrom (now model) (now index))) × (perComponent (now index) modes ≡ modesAt (componentsFrom (now model) (now index)) location) ⌝ }
     requires { ⌜ e ≤ 15 ⌝ }
-    ensures { λ r. ⌜ r ≡ length (targetRows (regionsOf (now (model .entry)) (now (index .entry)) (now (second .entry)) (now (regions .entry))) (jointsOf (componentsFrom (now (model .entry)) (now (index .entry))) location e)) ⌝ }
+    ensures { λ r. ⌜ r ≡ length (targetRowsFor (now (model .entry)) (now (index .entry)) (now (second .entry)) (now (regions .entry)) (jointsOf (componentsFrom (now (model .entry)) (now (index .entry))) location e)) ⌝ }
 {
     let mut ways = [0u8; WAYS_LENGTH];
     let counts = list_ways(model, index, modes, e, &mut ways);
@@ -201,7 +198,7 @@ pub fn jump_goals(
 ) -> u32
     requires { ⌜ GoodPaper (now model) (now index) (now second) (now regions) ⌝ }
     requires { ⌜ location < locationCount (componentsFrom (now model) (now index)) ⌝ }
-    ensures { λ r. ⌜ r ≡ length (targetRows (regionsOf (now (model .entry)) (now (index .entry)) (now (second .entry)) (now (regions .entry))) (joinAll (jointsOf (componentsFrom (now (model .entry)) (now (index .entry))) location) (countUp 0 16))) ⌝ }
+    ensures { λ r. ⌜ r ≡ length (targetRowsFor (now (model .entry)) (now (index .entry)) (now (second .entry)) (now (regions .entry)) (joinAll (jointsOf (componentsFrom (now (model .entry)) (now (index .entry))) location) (countUp 0 16))) ⌝ }
 {
     let modes = modes_at(model, index, location);
     let mut count: u32 = 0;
@@ -223,7 +220,7 @@ fn all_jump_goals(
 ) -> u32
     requires { ⌜ GoodPaper (now model) (now index) (now second) (now regions) ⌝ }
     requires { ⌜ (locations ≡ locationCount (componentsFrom (now model) (now index))) × (length (joints (componentsFrom (now model) (now index))) ≤ 4096) ⌝ }
-    ensures { λ r. ⌜ r ≡ length (targetRows (regionsOf (now (model .entry)) (now (index .entry)) (now (second .entry)) (now (regions .entry))) (joints (componentsFrom (now (model .entry)) (now (index .entry))))) ⌝ }
+    ensures { λ r. ⌜ r ≡ length (targetRowsFor (now (model .entry)) (now (index .entry)) (now (second .entry)) (now (regions .entry)) (joints (componentsFrom (now (model .entry)) (now (index .entry))))) ⌝ }
 {
     let mut count: u32 = 0;
     let mut location: u32 = 0;
@@ -244,7 +241,7 @@ pub fn obligation_count(
 ) -> u32
     requires { ⌜ GoodPaper (now model) (now index) (now second) (now regions) ⌝ }
     requires { ⌜ (locations ≡ locationCount (componentsFrom (now model) (now index))) × (length (joints (componentsFrom (now model) (now index))) ≤ 4096) ⌝ }
-    ensures { λ r. ⌜ r ≡ length (obligations (modelFrom (now (model .entry)) (now (index .entry))) (regionsFrom (now (second .entry)) (variablesIn (now (index .entry))) (now (regions .entry)) locations)) ⌝ }
+    ensures { λ r. ⌜ r ≡ length (obligationsFor (now (model .entry)) (now (index .entry)) (now (second .entry)) (now (regions .entry)) locations) ⌝ }
 {
     let here = all_location_goals(model, index, second, regions, locations);
     here + all_jump_goals(model, index, second, regions, locations)

@@ -6,8 +6,8 @@ use lib.IntN.{pos, _+ℤ_}
 use mir.Facts.{toZ-ofZ}
 use Rattle.formats.specs.Reading.{signed}
 use Rattle.fields.specs.Places.{signedAt}
-use Rattle.runs.proofs.values.raised_at.Statement.{statement}
-use Rattle.runs.proofs.values.raised_at.Tie as tie
+use Rattle.runs.proofs.rows.raised_at.Statement.{statement}
+use Rattle.runs.proofs.rows.raised_at.Tie as tie
 
 number-requires : tie.Need-number-requires
 number-requires c κs = search needs

@@ -6,8 +6,8 @@ use lib.Bits.{bitXor}
 use mir.Syntax.{w64}
 use mir.ValLaws.{toZ-pos}
 use Rattle.runs.proofs.ValueLaws.{raised-told, raised-small}
-use Rattle.runs.proofs.values.raised.Statement.{statement}
-use Rattle.runs.proofs.values.raised.Tie as tie
+use Rattle.runs.proofs.rows.raised.Statement.{statement}
+use Rattle.runs.proofs.rows.raised.Tie as tie
 
 cast-result : tie.Need-cast-result
 cast-result c = omega (arith, raised-small (c .args .number) (omega arith))

@@ -10,8 +10,8 @@ use Rattle.models.specs.Index.{entry}
 use Rattle.runs.specs.Held.{modeHolds}
 use Rattle.runs.proofs.ValueLoops.{each-start, each-pass, each-fail, each-none}
 use Rattle.runs.proofs.ValueLaws.{point-for, mode-place, mode-span, mode-told}
-use Rattle.runs.proofs.values.modes_hold.Statement.{statement}
-use Rattle.runs.proofs.values.modes_hold.Tie as tie
+use Rattle.runs.proofs.rows.modes_hold.Statement.{statement}
+use Rattle.runs.proofs.rows.modes_hold.Tie as tie
 
 abbrev Inv-loop : tie.InvT-loop
 Inv-loop model index offset point q modes n components k₀ k = (k ≤ components) × (every (modeHolds model index modes offset q point) (countUp k (components - k)) ≡ every (modeHolds model index modes offset q point) (countUp 0 (entry index 1)))

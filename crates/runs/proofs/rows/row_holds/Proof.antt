@@ -13,8 +13,8 @@ use mir.ValLaws.{toZ-pos}
 use Rattle.farkas.specs.Rows.{item, dot}
 use Rattle.fields.specs.Places.{signedAt, numbersAt}
 use Rattle.runs.proofs.ValueLaws.{raised-dot, sum-room, sum-grows, total-room, total-grows, bound-room, raised-room, row-compared}
-use Rattle.runs.proofs.values.row_holds.Statement.{statement}
-use Rattle.runs.proofs.values.row_holds.Tie as tie
+use Rattle.runs.proofs.rows.row_holds.Statement.{statement}
+use Rattle.runs.proofs.rows.row_holds.Tie as tie
 
 abbrev Inv-loop : tie.InvT-loop
 Inv-loop s at count point q sum₀ total₀ i₀ sum total i =

@@ -9,8 +9,8 @@ use Rattle.fields.specs.Places.{rowsFrom}
 use Rattle.models.specs.Index.{entry, spanRows}
 use Rattle.rules.specs.Runs as runs
 use Rattle.runs.proofs.ValueLaws.{row-room, row-next, rows-start, rows-pass, rows-fail, rows-none}
-use Rattle.runs.proofs.values.condition_holds.Statement.{statement}
-use Rattle.runs.proofs.values.condition_holds.Tie as tie
+use Rattle.runs.proofs.rows.condition_holds.Statement.{statement}
+use Rattle.runs.proofs.rows.condition_holds.Tie as tie
 
 abbrev Inv-loop : tie.InvT-loop
 Inv-loop s index place count point q rows at₀ j₀ at j = (j ≤ rows) × ((at ≡ entry index place + 4 * (count + 1) * j) × (runs.conditionHolds q (take count point) (rowsFrom s count at (rows - j)) ≡ runs.conditionHolds q (take count point) (spanRows s count index place)))
