@@ -1,32 +1,17 @@
 /* The exam desk: marks a paper with the proved entries and says the answer in words. */
 #include "marker.h"
+#include "model.h"
+#include "obligation.h"
+#include "run.h"
 #include "sheet.h"
+#include "words.h"
 
+#include <inttypes.h>
 #include <stdio.h>
-#include <stdlib.h>
 #include <string.h>
 
 /* What the desk returns to the shell. */
 enum { ACCEPTED = 0, REFUSED = 1, UNUSABLE = 2 };
-
-static const char *const meanings[] = {
-    "accepted",
-    "the sheet has under 4 or over 32,768 bytes, or its first two bytes do not say how many follow",
-    "the sheet's version is not 1",
-    "the sheet is of another kind",
-    "the sheet ends inside a field, or has bytes left after its last field",
-    "a field, or a number given to the desk, is outside its range",
-    "a switch has an event that is not in its component's alphabet",
-    "the model has over 64 locations",
-    "the model has over 4,096 joint switches",
-    "a proof's hypotheses are not ascending",
-    "a proof's coefficients do not sum to k times the goal's",
-    "a proof's bound fails",
-    "the run's start is not allowed",
-    "a step is not allowed",
-    "the run does not end in an unsafe state",
-    "the table is too short",
-};
 
 static const char help[] =
     "usage: desk MODEL SECOND             mark a certificate or a run sheet\n"
@@ -35,152 +20,88 @@ static const char help[] =
     "       desk --help                   this text\n"
     "\n"
     "MODEL and SECOND are files with one sheet each. SECOND is marked as a run if its byte 3 is 3, else as a certificate.\n"
+    "Variables are the letters a to h, in the model's order; a' is the value of a after a jump.\n"
     "Status: 0 accepted, 1 refused, 2 the desk could not do what was asked.\n";
 
-/* Where a refusal points. */
-static void print_place(const struct silfoddra_answer *answer, const struct sheet *model, const struct sheet *second)
-{
-    if (answer->sheet == 2)
-        printf("Place: the numbers given to the desk.\n");
-    else
-        printf("Place: %s, byte %u.\n", answer->sheet == 0 ? model->name : second->name, answer->place);
-}
+/* What is asked for: how it is answered, and on what. */
+struct request {
+    int (*answer)(const struct request *request);
+    const char *model_name;
+    const char *second_name; /* null where one sheet is enough */
+    struct sheet model;
+    struct sheet second;
+    uint32_t obligation;
+    uint32_t hypothesis;
+};
 
-static void print_refusal(const struct silfoddra_answer *answer, const struct sheet *model, const struct sheet *second)
+static int mark_run(const struct sheet *model, const struct sheet *run)
 {
-    const char *meaning = answer->number < sizeof meanings / sizeof *meanings ? meanings[answer->number] : "an unknown number";
-    printf("Refused (%u): %s.\n", answer->number, meaning);
-    print_place(answer, model, second);
-}
-
-/* Which obligation has this number, in words. */
-static void print_obligation(const struct sheet *model, const struct sheet *second, uint32_t number)
-{
-    struct silfoddra_which which = silfoddra_which(model->bytes, model->length, second->bytes, second->length, number);
-    if (which.number != 0)
-        return;
-    switch (which.kind) {
-    case 0:
-        printf("Obligation %u: region row %u of location %u, from the start.\n", number, which.line, which.subject);
-        break;
-    case 1:
-        printf("Obligation %u: region row %u of location %u, after a flow.\n", number, which.line, which.subject);
-        break;
-    case 2:
-        printf("Obligation %u: unsafe condition %u in location %u.\n", number, which.line, which.subject);
-        break;
-    default:
-        printf("Obligation %u: joint switch %u, region row %u of its target.\n", number, which.subject, which.line);
-        break;
-    }
-}
-
-static int is_run(const struct sheet *second)
-{
-    return second->length > 3 && second->bytes[3] == 3;
-}
-
-static int mark_run(const struct sheet *model, const struct sheet *second)
-{
-    struct silfoddra_answer answer = silfoddra_mark_run(model->bytes, model->length, second->bytes, second->length);
+    struct silfoddra_answer answer = silfoddra_mark_run(model->bytes, model->length, run->bytes, run->length);
     if (answer.number == 0) {
         printf("Accepted: a run of the model that ends in an unsafe state.\n");
-        printf("Steps: %u. Score: %u.\n", answer.done, answer.score);
+        printf("Steps: %" PRIu32 ". Score: %" PRIu32 ".\n", answer.done, answer.score);
         return ACCEPTED;
     }
-    print_refusal(&answer, model, second);
-    printf("Steps passed: %u. Score: %u.\n", answer.done, answer.score);
+    print_refusal(&answer, model, run);
+    printf("Steps passed: %" PRIu32 ". Score: %" PRIu32 ".\n", answer.done, answer.score);
+    print_run_fault(&answer, model, run);
     return REFUSED;
 }
 
-/* Whether the refusal is of a proof, so that an obligation can be named. */
-static int proof_failed(const struct silfoddra_answer *answer)
+static int mark_certificate(const struct sheet *model, const struct sheet *certificate)
 {
-    return answer->number == 9 || answer->number == 10 || answer->number == 11;
-}
-
-static int mark_certificate(const struct sheet *model, const struct sheet *second)
-{
-    struct silfoddra_answer answer = silfoddra_mark_certificate(model->bytes, model->length, second->bytes, second->length);
+    struct silfoddra_answer answer =
+        silfoddra_mark_certificate(model->bytes, model->length, certificate->bytes, certificate->length);
     if (answer.number == 0) {
         printf("Accepted: no run of the model reaches an unsafe state.\n");
-        printf("Proofs: %u. Score: %u.\n", answer.done, answer.score);
+        printf("Proofs: %" PRIu32 ". Score: %" PRIu32 ".\n", answer.done, answer.score);
         return ACCEPTED;
     }
-    print_refusal(&answer, model, second);
-    printf("Proofs passed: %u. Score: %u.\n", answer.done, answer.score);
-    if (answer.sheet == 1 && (proof_failed(&answer) || answer.number == 4 || answer.number == 5))
-        print_obligation(model, second, answer.done);
+    print_refusal(&answer, model, certificate);
+    printf("Proofs passed: %" PRIu32 ". Score: %" PRIu32 ".\n", answer.done, answer.score);
+    print_obligation(model, certificate, answer.done);
     return REFUSED;
 }
 
-static int mark(const char *model_name, const char *second_name)
+static int mark(const struct request *request)
 {
-    static struct sheet model, second;
-    if (sheet_read(&model, model_name) != 0 || sheet_read(&second, second_name) != 0)
-        return UNUSABLE;
-    return is_run(&second) ? mark_run(&model, &second) : mark_certificate(&model, &second);
+    int is_run = sheet_byte(&request->second, 3) == 3;
+    return is_run ? mark_run(&request->model, &request->second) : mark_certificate(&request->model, &request->second);
 }
 
-/* A row of a sheet: its bytes, then its numbers. */
-static void print_row(const struct sheet *sheet, size_t offset, size_t numbers)
+static int show_row(const struct request *request)
 {
-    printf("Row: %s, bytes %zu to %zu.\n ", sheet->name, offset, offset + 4 * numbers - 1);
-    for (size_t i = 0; i < 4 * numbers; i++)
-        printf(" %02x", sheet->bytes[offset + i]);
-    printf("\nCoefficients:");
-    for (size_t i = 0; i + 1 < numbers; i++)
-        printf(" %d", (int)sheet_number(sheet, offset + 4 * i));
-    printf("; bound %d\n", (int)sheet_number(sheet, offset + 4 * (numbers - 1)));
-}
-
-static int show_row(uint32_t obligation, uint32_t hypothesis, const char *model_name, const char *second_name)
-{
-    static struct sheet model, second;
-    if (sheet_read(&model, model_name) != 0 || sheet_read(&second, second_name) != 0)
-        return UNUSABLE;
+    const struct sheet *model = &request->model;
+    const struct sheet *second = &request->second;
     struct silfoddra_answer answer =
-        silfoddra_show_row(model.bytes, model.length, second.bytes, second.length, obligation, hypothesis);
+        silfoddra_show_row(model->bytes, model->length, second->bytes, second->length, request->obligation, request->hypothesis);
     if (answer.number != 0) {
-        print_refusal(&answer, &model, &second);
+        print_refusal(&answer, model, second);
         return REFUSED;
     }
-    print_obligation(&model, &second, obligation);
-    if (answer.sheet == 0)
-        print_row(&model, answer.place, model_row_numbers(&model, answer.place));
-    else if (answer.sheet == 1)
-        print_row(&second, answer.place, (size_t)model.bytes[4] + 1);
-    else
-        printf("Hypothesis %u is a row of no sheet: -d <= 0, or a variable that stays.\n", hypothesis);
+    print_obligation(model, second, request->obligation);
+    print_hypothesis(model, second, request->obligation, request->hypothesis, &answer);
     return ACCEPTED;
 }
 
-static int list_joints(const char *model_name)
+static int list_joints(const struct request *request)
 {
-    static struct sheet model;
-    static struct silfoddra_joint table[4096];
-    if (sheet_read(&model, model_name) != 0)
-        return UNUSABLE;
-    struct silfoddra_answer answer = silfoddra_joint_list(model.bytes, model.length, table, 4096);
+    const struct sheet *model = &request->model;
+    const struct silfoddra_joint *records;
+    struct silfoddra_answer answer = model_joints(model, &records);
     if (answer.number != 0) {
-        print_refusal(&answer, &model, &model);
+        print_refusal(&answer, model, model);
         return REFUSED;
     }
-    printf("Joint switches: %u.\n", answer.done);
+    printf("Joint switches: %" PRIu32 ".\n", answer.done);
     for (uint32_t i = 0; i < answer.done; i++) {
-        printf("%u: location %u, event %u, switches", i, table[i].source, table[i].event);
-        for (int k = 0; k < 4; k++) {
-            if (table[i].switches[k] == 255)
-                printf(" -");
-            else
-                printf(" %u", table[i].switches[k]);
-        }
-        printf(", to location %u\n", table[i].target);
+        printf("%" PRIu32 ": ", i);
+        print_joint(model, &records[i]);
     }
     return ACCEPTED;
 }
 
-/* A whole number from 0 to 2^32 - 1. Returns 0, or prints what is wrong and returns -1. */
+/* A whole number from 0 to 2^32 - 1. Returns 0, or says what is wrong and returns -1. */
 static int read_number(const char *word, uint32_t *number)
 {
     uint64_t value = 0;
@@ -196,22 +117,50 @@ static int read_number(const char *word, uint32_t *number)
     return 0;
 }
 
+/* What the words of the command ask for. Returns 0, or says what is wrong and returns -1. */
+static int read_request(struct request *request, int count, char **words)
+{
+    if (count == 3 && strcmp(words[1], "--joints") == 0) {
+        *request = (struct request){.answer = list_joints, .model_name = words[2]};
+        return 0;
+    }
+    if (count == 6 && strcmp(words[1], "--row") == 0) {
+        *request = (struct request){.answer = show_row, .model_name = words[4], .second_name = words[5]};
+        return read_number(words[2], &request->obligation) == 0 ? read_number(words[3], &request->hypothesis) : -1;
+    }
+    if (count == 3 && words[1][0] != '-') {
+        *request = (struct request){.answer = mark, .model_name = words[1], .second_name = words[2]};
+        return 0;
+    }
+    fputs(help, stderr);
+    return -1;
+}
+
+/* Reads the sheets and answers. */
+static int serve(struct request *request)
+{
+    int status = UNUSABLE;
+    if (sheet_read(&request->model, request->model_name) == 0 &&
+        (request->second_name == NULL || sheet_read(&request->second, request->second_name) == 0))
+        status = request->answer(request);
+    sheet_free(&request->second);
+    sheet_free(&request->model);
+    return status;
+}
+
 int main(int count, char **words)
 {
+    struct request request;
+    int status = UNUSABLE;
     if (count == 2 && strcmp(words[1], "--help") == 0) {
         fputs(help, stdout);
-        return ACCEPTED;
+        status = ACCEPTED;
+    } else if (read_request(&request, count, words) == 0) {
+        status = serve(&request);
     }
-    if (count == 3 && strcmp(words[1], "--joints") == 0)
-        return list_joints(words[2]);
-    if (count == 6 && strcmp(words[1], "--row") == 0) {
-        uint32_t obligation, hypothesis;
-        if (read_number(words[2], &obligation) != 0 || read_number(words[3], &hypothesis) != 0)
-            return UNUSABLE;
-        return show_row(obligation, hypothesis, words[4], words[5]);
+    if (fflush(stdout) != 0 || ferror(stdout)) {
+        fprintf(stderr, "desk: cannot write to standard output\n");
+        return UNUSABLE;
     }
-    if (count == 3 && words[1][0] != '-')
-        return mark(words[1], words[2]);
-    fputs(help, stderr);
-    return UNUSABLE;
+    return status;
 }

@@ -2,74 +2,79 @@
 
 #include <errno.h>
 #include <stdio.h>
+#include <stdlib.h>
 #include <string.h>
+
+/* Room for the longest sheet that can be accepted, and a byte more. */
+enum { FIRST_ROOM = 32769 };
+
+/* Makes more room for a sheet's bytes. Returns 0, or -1 if there is no memory. */
+static int sheet_grow(struct sheet *sheet, size_t *room)
+{
+    if (*room > SIZE_MAX / 2)
+        return -1;
+    size_t wider = *room == 0 ? FIRST_ROOM : 2 * *room;
+    uint8_t *bytes = realloc(sheet->bytes, wider);
+    if (bytes == NULL)
+        return -1;
+    sheet->bytes = bytes;
+    *room = wider;
+    return 0;
+}
+
+/* Reads an open file to its end. Returns what went wrong, or null. */
+static const char *sheet_fill(struct sheet *sheet, FILE *file)
+{
+    size_t room = 0;
+    do {
+        if (sheet->length == room && sheet_grow(sheet, &room) != 0)
+            return "it does not fit into memory";
+        errno = 0;
+        sheet->length += fread(sheet->bytes + sheet->length, 1, room - sheet->length, file);
+        if (ferror(file))
+            return strerror(errno);
+    } while (!feof(file));
+    return NULL;
+}
 
 int sheet_read(struct sheet *sheet, const char *name)
 {
+    *sheet = (struct sheet){.name = name};
     FILE *file = fopen(name, "rb");
     if (file == NULL) {
         fprintf(stderr, "desk: cannot open %s: %s\n", name, strerror(errno));
         return -1;
     }
-    sheet->name = name;
-    sheet->length = fread(sheet->bytes, 1, SHEET_MOST, file);
-    int failed = ferror(file);
+    const char *fault = sheet_fill(sheet, file);
     fclose(file);
-    if (failed) {
-        fprintf(stderr, "desk: cannot read %s\n", name);
-        return -1;
-    }
-    if (sheet->length == SHEET_MOST) {
-        fprintf(stderr, "desk: %s has more than 32768 bytes, so it is no sheet\n", name);
+    if (fault != NULL) {
+        fprintf(stderr, "desk: cannot read %s: %s\n", name, fault);
         return -1;
     }
     return 0;
 }
 
-/* The place after a condition whose rows have so many numbers; sets *found where one of its rows begins at the offset. */
-static size_t pass_condition(const struct sheet *model, size_t at, size_t numbers, size_t offset, size_t *found)
+void sheet_free(struct sheet *sheet)
 {
-    size_t rows = model->bytes[at];
-    size_t from = at + 1;
-    size_t end = from + 4 * numbers * rows;
-    if (from <= offset && offset < end)
-        *found = numbers;
-    return end;
+    free(sheet->bytes);
+    *sheet = (struct sheet){0};
 }
 
-/* The place after a component's modes and switches. */
-static size_t pass_component(const struct sheet *model, size_t at, size_t n, size_t offset, size_t *found)
+uint8_t sheet_byte(const struct sheet *sheet, size_t at)
 {
-    size_t modes = model->bytes[at + 2];
-    size_t switches = model->bytes[at + 3];
-    at += 4;
-    for (size_t mode = 0; mode < modes; mode++) {
-        at += 1;
-        for (int condition = 0; condition < 3; condition++)
-            at = pass_condition(model, at, n + 1, offset, found);
-    }
-    for (size_t i = 0; i < switches; i++)
-        at = pass_condition(model, at + 3, 2 * n + 1, offset, found);
-    return at;
+    return at < sheet->length ? sheet->bytes[at] : 0;
 }
 
-size_t model_row_numbers(const struct sheet *model, size_t offset)
+uint32_t sheet_unsigned(const struct sheet *sheet, size_t at)
 {
-    size_t n = model->bytes[4];
-    size_t components = model->bytes[5];
-    size_t conditions = model->bytes[6];
-    size_t found = 0;
-    size_t at = 7 + n;
-    for (size_t k = 0; k < components; k++)
-        at = pass_component(model, at, n, offset, &found);
-    for (size_t u = 0; u < conditions; u++)
-        at = pass_condition(model, at + components, n + 1, offset, &found);
-    return found;
+    uint32_t number = 0;
+    for (size_t i = 0; i < 4; i++)
+        number = number << 8 | sheet_byte(sheet, at + i);
+    return number;
 }
 
-int32_t sheet_number(const struct sheet *sheet, size_t offset)
+int64_t sheet_signed(const struct sheet *sheet, size_t at)
 {
-    const uint8_t *b = sheet->bytes + offset;
-    uint32_t bits = (uint32_t)b[0] << 24 | (uint32_t)b[1] << 16 | (uint32_t)b[2] << 8 | b[3];
-    return (int32_t)bits;
+    int64_t number = sheet_unsigned(sheet, at);
+    return number > INT32_MAX ? number - UINT32_MAX - 1 : number;
 }

@@ -1,27 +1,27 @@
-/* Sheets as the desk handles them: files read into memory, and where the rows of a model stand. */
+/* A sheet as the desk holds it: the bytes of a file, however many. */
 #ifndef DESK_SHEET_H
 #define DESK_SHEET_H
 
 #include <stddef.h>
 #include <stdint.h>
 
-/* One byte more than a sheet may have, so that a longer file is handed over as too long. */
-enum { SHEET_MOST = 32769 };
-
 struct sheet {
     const char *name;
+    uint8_t *bytes;
     size_t length;
-    uint8_t bytes[SHEET_MOST];
 };
 
-/* Reads a file into a sheet. Returns 0, or prints why it cannot and returns -1. */
+/* Reads a whole file. Returns 0, or says on standard error why it cannot and returns -1. Its memory goes back by sheet_free. */
 int sheet_read(struct sheet *sheet, const char *name);
 
-/* How many numbers the row at this offset of a model has: n + 1, or 2n + 1 in a switch's jump condition. The model must be one that the
-   marker has read without refusing it. */
-size_t model_row_numbers(const struct sheet *model, size_t offset);
+/* Gives a sheet's memory back; one that was never read, all zero, has none. */
+void sheet_free(struct sheet *sheet);
 
-/* The signed number of four bytes at an offset. */
-int32_t sheet_number(const struct sheet *sheet, size_t offset);
+/* The byte at an offset. Beyond the end nothing is read, and it is 0. */
+uint8_t sheet_byte(const struct sheet *sheet, size_t at);
+
+/* The four bytes from an offset as a number: u32 and s32 of document 01. */
+uint32_t sheet_unsigned(const struct sheet *sheet, size_t at);
+int64_t sheet_signed(const struct sheet *sheet, size_t at);
 
 #endif

@@ -1,28 +1,135 @@
 #!/usr/bin/env bash
-# Runs the desk on the examples and prints each command, what it wrote and its status; `bash desk/try.sh | diff desk/try.txt -` compares.
+# Runs the desk on the examples, and on sheets made from them, and prints each command, what it wrote and its status;
+# `bash desk/try.sh | diff desk/try.txt -` compares. UNDER='valgrind -q' puts these words before each command.
 set -u
-cd "$(dirname "$0")/.."
+top=$(cd "$(dirname "$0")/.." && pwd)
+for program in desk null; do
+    if [ ! -x "$top/desk/$program" ]; then
+        echo "desk/try.sh: desk/$program is not built; make -C desk builds it" >&2
+        exit 2
+    fi
+done
 
+# Sheets are made in a folder that has the examples beside them, so that no name which is printed depends on the machine.
+folder=$(mktemp -d) || exit 2
+trap 'rm -rf "$folder"' EXIT
+ln -s "$top/examples" "$folder/examples"
+cd "$folder" || exit 2
+
+# try PROGRAM WORD..
 try() {
-    echo "\$ desk $*"
-    desk/desk "$@" 2>&1
+    echo "\$ $*"
+    ${UNDER:-} "$top/desk/$1" "${@:2}" 2>&1
     echo "status $?"
 }
 
-try examples/tank.model examples/tank.certificate
-try examples/unsafe-tank.model examples/tank.certificate
-try examples/tank.model examples/tank.run
-try examples/unsafe-tank.model examples/unsafe-tank.run
-try examples/plant.model examples/plant.certificate
-try examples/tank.certificate examples/tank.certificate
-try --row 0 0 examples/tank.model examples/tank.certificate
-try --row 1 0 examples/tank.model examples/tank.certificate
-try --row 1 5 examples/tank.model examples/tank.certificate
-try --row 3 0 examples/tank.model examples/tank.certificate
-try --row 0 x examples/tank.model examples/tank.certificate
-try --row 0 4294967296 examples/tank.model examples/tank.certificate
-try --joints examples/tank.model
-try --joints examples/plant.model
-try examples/tank.model examples/no-such-file
-try examples/tank.model
-try --help
+# The same, with nowhere to write.
+try_full() {
+    echo "\$ $* > /dev/full"
+    ${UNDER:-} "$top/desk/$1" "${@:2}" 2>&1 >/dev/full
+    echo "status $?"
+}
+
+# edit FROM TO OFFSET BYTE..: a copy of a sheet with other bytes, in hexadecimal, from an offset on
+edit() {
+    cp "$1" "$2"
+    printf "$(printf '\\x%s' "${@:4}")" | dd of="$2" bs=1 seek="$3" conv=notrunc status=none
+}
+
+echo '# Accepted, and refused'
+try desk examples/tank.model examples/tank.certificate
+try desk examples/unsafe-tank.model examples/tank.certificate
+try desk examples/tank.model examples/tank.run
+try desk examples/unsafe-tank.model examples/unsafe-tank.run
+try desk examples/plant.model examples/plant.certificate
+try desk examples/unsafe-plant.model examples/unsafe-plant.run
+try desk examples/tank.certificate examples/tank.certificate
+
+echo '# Proofs refused: from the start, after a flow, against an unsafe condition, after a jump, in a field; and a byte left'
+edit examples/plant.certificate start.certificate 539 00 00 00 02
+try desk examples/plant.model start.certificate
+edit examples/plant.certificate flow.certificate 823 00 00 00 01
+try desk examples/plant.model flow.certificate
+edit examples/plant.certificate unsafe.certificate 973 03
+try desk examples/plant.model unsafe.certificate
+edit examples/plant.certificate jump.certificate 387 00 00 00 09
+try desk examples/plant.model jump.certificate
+edit examples/plant.certificate alone.certificate 1759 00 00 00 03
+try desk examples/plant.model alone.certificate
+edit examples/plant.certificate field.certificate 608 00 00 00 01
+try desk examples/plant.model field.certificate
+edit examples/plant.certificate longer.certificate 2108 00
+edit longer.certificate left.certificate 0 08 3b
+try desk examples/plant.model left.certificate
+
+echo '# Runs refused: the start, a flow, a jump, the end'
+edit examples/tank.run start.run 14 06
+try desk examples/tank.model start.run
+edit examples/unsafe-plant.run other-start.run 10 05
+try desk examples/unsafe-plant.model other-start.run
+edit examples/unsafe-plant.run flow.run 71 00 00 00 08
+try desk examples/unsafe-plant.model flow.run
+edit examples/unsafe-plant.run jump.run 58 ff ff ff fe
+try desk examples/unsafe-plant.model jump.run
+edit examples/unsafe-plant.run event.run 49 02
+try desk examples/unsafe-plant.model event.run
+edit examples/unsafe-plant.run end.run 170 00 00 00 05
+try desk examples/unsafe-plant.model end.run
+
+echo '# Rows: initial, region, invariant, flow, time, unsafe, jump, two variables that stay; no such row'
+try desk --row 0 3 examples/plant.model examples/plant.certificate
+try desk --row 87 3 examples/plant.model examples/plant.certificate
+try desk --row 87 9 examples/plant.model examples/plant.certificate
+try desk --row 3 14 examples/plant.model examples/plant.certificate
+try desk --row 3 17 examples/plant.model examples/plant.certificate
+try desk --row 30 9 examples/plant.model examples/plant.certificate
+try desk --row 49 12 examples/plant.model examples/plant.certificate
+try desk --row 49 14 examples/plant.model examples/plant.certificate
+try desk --row 49 16 examples/plant.model examples/plant.certificate
+try desk --row 49 19 examples/plant.model examples/plant.certificate
+try desk --row 49 20 examples/plant.model examples/plant.certificate
+try desk --row 115 0 examples/plant.model examples/plant.certificate
+
+echo '# Rows with the least and the greatest numbers, and without coefficients'
+edit examples/tank.model least.model 14 80 00 00 00 80 00 00 00
+try desk --row 0 0 least.model examples/tank.certificate
+edit examples/tank.model greatest.model 14 7f ff ff ff 7f ff ff ff
+try desk --row 0 0 greatest.model examples/tank.certificate
+edit examples/tank.model without.model 14 00 00 00 00 00 00 00 05
+try desk --row 0 0 without.model examples/tank.certificate
+
+echo '# Joint switches'
+try desk --joints examples/tank.model
+try desk --joints examples/plant.model
+
+echo '# Sheets of any length'
+head -c 32768 /dev/zero >zeros
+edit zeros longest.model 0 7f fe 01 01
+try desk longest.model examples/tank.certificate
+head -c 40000 /dev/zero >zeros
+edit zeros overlong.model 0 9c 3e 01 01
+try desk overlong.model examples/tank.certificate
+try desk --joints overlong.model
+edit zeros overlong.run 0 9c 3e 01 03
+try desk examples/tank.model overlong.run
+head -c 3000000 /dev/zero >huge.certificate
+try desk examples/tank.model huge.certificate
+: >empty
+try desk empty empty
+try desk examples/tank.model empty
+try desk --row 0 0 examples/tank.model empty
+try desk --joints empty
+
+echo '# Null pointers in place of each sheet and of the table'
+try null examples/plant.model examples/plant.certificate examples/unsafe-plant.run examples/tank.model
+
+echo '# What the desk cannot do'
+try_full desk examples/tank.model examples/tank.certificate
+try_full desk --joints examples/plant.model
+try_full desk --help
+try desk examples/tank.model examples/no-such-file
+try desk examples examples/tank.certificate
+try desk --row 0 x examples/tank.model examples/tank.certificate
+try desk --row 0 4294967296 examples/tank.model examples/tank.certificate
+try desk examples/tank.model
+try desk --help

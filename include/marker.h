@@ -34,8 +34,8 @@ struct silfoddra_answer {
     uint32_t score;
 };
 
-/* Which obligation of a certificate has a number. */
-struct silfoddra_which {
+/* One obligation of a certificate: what silfoddra_which_obligation hands back. */
+struct silfoddra_obligation {
     /* 0, or why there is none: as in an answer, and 5 where the number is not below that of the obligations. */
     uint32_t number;
     /* Where the place is: 1 if number is 0, else as in an answer; 2, the call itself, for a number out of range. */
@@ -51,8 +51,8 @@ struct silfoddra_which {
     uint32_t line;
 };
 
-/* The calls take sheets as they were handed in: the bytes and how many there are. A pointer is never null, even where its
-   length is 0. The bytes are only read, and nothing of them is kept. */
+/* The calls take sheets as they were handed in: the bytes, of any length, and how many there are. A null pointer with length 0 is an
+   empty sheet; with any other length the pointer must not be null. The bytes are only read, and nothing of them is kept. */
 
 /* Marks a certificate. Accepted: no run of the model, of any length and with any values, ever reaches an unsafe state. */
 struct silfoddra_answer silfoddra_mark_certificate(const uint8_t *model, size_t model_length,
@@ -76,7 +76,8 @@ struct silfoddra_joint {
 /* Lists a model's joint switches in a table that the caller lends, by location, then event, then switch numbers. The answer has
    number 0, sheet 0, the model's length as its place, and done, the records written: the first ones of the table, in order. Later
    records keep their content. A refusal writes nothing: the model's own, or 15 at sheet 2, whose place is the count of records
-   needed. The table's pointer, too, is never null, even where its length is 0. */
+   needed. The table must not overlap the model sheet, which is read while records are written. A null pointer with length 0 is
+   an empty table. */
 struct silfoddra_answer silfoddra_joint_list(const uint8_t *model, size_t model_length,
                                              struct silfoddra_joint *table, size_t table_length);
 
@@ -91,12 +92,36 @@ struct silfoddra_answer silfoddra_show_row(const uint8_t *model, size_t model_le
                                            uint32_t obligation, uint32_t hypothesis);
 
 /* Which obligation has a number: whether it is of a start, a flow, an unsafe condition or a jump, where, and which row. */
-struct silfoddra_which silfoddra_which(const uint8_t *model, size_t model_length,
-                                       const uint8_t *second, size_t second_length,
-                                       uint32_t obligation);
+struct silfoddra_obligation silfoddra_which_obligation(const uint8_t *model, size_t model_length,
+                                                       const uint8_t *second, size_t second_length,
+                                                       uint32_t obligation);
 
 #ifdef __cplusplus
 }
+#endif
+
+/* The layout that the library has: fields without gaps, in this order. */
+#if defined __cplusplus && __cplusplus >= 201103L
+#define SILFODDRA_STATIC_ASSERT static_assert
+#elif defined __STDC_VERSION__ && __STDC_VERSION__ >= 201112L
+#define SILFODDRA_STATIC_ASSERT _Static_assert
+#endif
+
+#ifdef SILFODDRA_STATIC_ASSERT
+SILFODDRA_STATIC_ASSERT(sizeof(struct silfoddra_answer) == 20 && offsetof(struct silfoddra_answer, number) == 0 &&
+                            offsetof(struct silfoddra_answer, sheet) == 4 && offsetof(struct silfoddra_answer, place) == 8 &&
+                            offsetof(struct silfoddra_answer, done) == 12 && offsetof(struct silfoddra_answer, score) == 16,
+                        "an answer is five numbers of four bytes");
+SILFODDRA_STATIC_ASSERT(sizeof(struct silfoddra_obligation) == 24 && offsetof(struct silfoddra_obligation, number) == 0 &&
+                            offsetof(struct silfoddra_obligation, sheet) == 4 && offsetof(struct silfoddra_obligation, place) == 8 &&
+                            offsetof(struct silfoddra_obligation, kind) == 12 && offsetof(struct silfoddra_obligation, subject) == 16 &&
+                            offsetof(struct silfoddra_obligation, line) == 20,
+                        "an obligation is six numbers of four bytes");
+SILFODDRA_STATIC_ASSERT(sizeof(struct silfoddra_joint) == 7 && offsetof(struct silfoddra_joint, source) == 0 &&
+                            offsetof(struct silfoddra_joint, event) == 1 && offsetof(struct silfoddra_joint, switches) == 2 &&
+                            offsetof(struct silfoddra_joint, target) == 6,
+                        "a joint switch is seven bytes");
+#undef SILFODDRA_STATIC_ASSERT
 #endif
 
 #endif

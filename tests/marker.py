@@ -348,6 +348,22 @@ def statement(model, regions, obligation):
     return jump_hypotheses(model, regions, where), after(n, [regions[where.target][i]])[0]
 
 
+def parts(model, regions, obligation):
+    """The bytes of an obligation's hypotheses as they stand in their sheets, and none for a row of no sheet."""
+    kind, where, i = obligation
+    source = where.source if kind == 'jump' else where
+    here = regions[source] + invariants(model, source)
+    if kind == 'start':
+        rows = start_hypotheses(model, where)
+    elif kind == 'flow':
+        rows = here + invariants(model, where) + [row for mode in present(model, modes_at(model, where)) for row in mode.flow] + [None]
+    elif kind == 'unsafe':
+        rows = here + model.unsafe[i].rows
+    else:
+        rows = here + invariants(model, where.target) + jump_rows(model, where.switches) + [None, None] * len(staying(model, where.switches))
+    return [b'' if row is None else b''.join(v.to_bytes(4, 'big', signed=True) for v in row.coefs + [row.bound]) for row in rows]
+
+
 def read_regions(r, model):
     count = location_count(model)
     r.within(1, count, count)
@@ -456,6 +472,18 @@ def mark_run(model_sheet, second):
 
 
 # Beside the marking
+
+def show_part(model_sheet, second, obligation, hypothesis):
+    """The bytes that show row gives: none where a sheet or a number is refused."""
+    try:
+        model = read_model(model_sheet)
+        regions = read_regions(Reader(second, 2), model)
+    except Refused:
+        return b''
+    found = obligations(model, regions)[obligation:obligation + 1]
+    shown = parts(model, regions, found[0])[hypothesis:hypothesis + 1] if found else []
+    return shown[0] if shown else b''
+
 
 def list_answer(model_sheet, lent):
     """The joint list's answer for a table of so many records."""

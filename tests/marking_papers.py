@@ -23,7 +23,7 @@ from tank import C, PLANT_CERTIFICATE, PLANT_RUN, SAFE_PLANT, T, UNSAFE_PLANT, t
 
 ANY = 255
 STAYS = 255
-MODEL, CERTIFICATE, RUN, LIST, INPUT = range(5)
+MODEL, CERTIFICATE, RUN, LIST, INPUT, PART = range(6)
 
 
 def data_of(sheet):
@@ -64,6 +64,14 @@ class Papers:
     def list(self, label, model_sheet, lent, *expected):
         m = data_of(model_sheet)
         self.paper(label, LIST, lent, m, b'', marker.list_answer(m, lent), expected)
+
+    def part(self, label, model_sheet, second, obligation, hypothesis, *expected):
+        """Expected: nothing, or the numbers of the row."""
+        m, s = data_of(model_sheet), data_of(second)
+        part = marker.show_part(m, s, obligation, hypothesis)
+        stated = b''.join(v.to_bytes(4, 'big', signed=True) for v in expected)
+        assert part == stated, (label, part, expected)
+        self.paper(label, PART, 256 * obligation + hypothesis, m, s, (len(part), *part), ())
 
     def input(self, label, data, expected):
         assert marker.line(data) == expected, (label, marker.line(data), expected)
@@ -153,6 +161,39 @@ def rejected_readings(papers):
 
 
 # Lengths, headers, cuts
+
+def standing_still(papers):
+    """A flow in which nothing changes: its rates are tested at every time above 0, and at time 0 it is allowed."""
+    p = papers
+    rising = model([0], [component([mode(1, [], [], [(-1, -1)])])], [([0], [])])
+    p.run('standing still for 0 where the rate is at least 1', rising, run(1, 0, (5,), flow(0, 5)), 0, 1, 24, 1, 100)
+    p.run('standing still for 1 where the rate is at least 1', rising, run(1, 0, (5,), flow(1, 5)), 13, 1, 15, 0, 0)
+    p.run('rising by 1 in 1 where the rate is at least 1', rising, run(1, 0, (5,), flow(1, 6)), 0, 1, 24, 1, 100)
+
+
+def shown_rows(papers):
+    """The part that show row gives: rows of all kinds, rows of no sheet, and refusals."""
+    p, plant = papers, (SAFE_PLANT, PLANT_CERTIFICATE)
+    p.part('shown: initial row', *plant, 0, 3, 0, -1, 0, 0, -20)
+    p.part('shown: invariant at the start', *plant, 0, 6, 0, -1, 0, 0, 0)
+    p.part('shown: region row on x', *plant, 3, 2, 0, 1, 0, 0, 90)
+    p.part('shown: invariant on x', *plant, 3, 6, 0, 0, 0, 1, 30)
+    p.part("shown: invariant on x'", *plant, 3, 10, 0, 0, 0, 1, 30)
+    p.part('shown: flow row', *plant, 3, 16, 0, 0, 0, -1, -1)
+    p.part('shown: time', *plant, 3, 17)
+    p.part('shown: past the last hypothesis of a flow', *plant, 3, 18)
+    p.part('shown: unsafe row', *plant, 6, 7, -1, 0, 0, 0, -11)
+    p.part('shown: invariant of the target', *plant, 46, 7, 2, 0, 0, 0, 20)
+    p.part('shown: jump row', *plant, 46, 12, -1, 0, 0, 0, 1, 0, 0, 0, 0)
+    p.part('shown: last jump row', *plant, 46, 15, 0, 0, 0, 0, 0, 0, 0, -1, 0)
+    p.part('shown: first row of a staying variable', *plant, 46, 16)
+    p.part('shown: last row of a staying variable', *plant, 46, 19)
+    p.part('shown: past the last hypothesis of a jump', *plant, 46, 20)
+    p.part('shown: past the last obligation', *plant, 115, 0)
+    p.part('shown: of a refused model', C, C, 0, 0)
+    p.part('shown: of a run sheet', T, AT_FIVE, 0, 0)
+    p.part('shown: of a certificate cut after its regions', T, fixed(C.bytes()[:14]), 1, 0, 1, 10)
+
 
 def headers(papers):
     p = papers
@@ -756,7 +797,7 @@ def inputs(papers):
 
 
 SECTIONS = [
-    the_table, rejected_readings, headers, cuts, counts_of_a_model, conditions_of_a_model, switches_of_a_model, refused_models_in_each_call,
+    the_table, rejected_readings, standing_still, shown_rows, headers, cuts, counts_of_a_model, conditions_of_a_model, switches_of_a_model, refused_models_in_each_call,
     fields_of_a_certificate, fields_of_a_run, fields_of_a_jump, joint_steps, starts, conditions, large_numbers,
     order_of_joint_switches, order_of_hypotheses, order_of_locations, order_of_staying_variables, contradictions, scores,
     plant_certificate, plant_run, joint_list, inputs, sizes,

@@ -23,7 +23,7 @@ pub extern "C" fn silfoddra_show_row(
 
 // Which obligation has a number: its kind, its location or joint switch, and its line.
 #[no_mangle]
-pub extern "C" fn silfoddra_which(model: &[u8], second: &[u8], obligation: u32) -> Which
+pub extern "C" fn silfoddra_which_obligation(model: &[u8], second: &[u8], obligation: u32) -> Which
     ensures { λ r. ⌜ r ≡ whichObligation examLimits (now (model .entry)) (now (second .entry)) obligation ⌝ }
 {
     which(model, second, obligation)

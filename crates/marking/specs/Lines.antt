@@ -1,5 +1,6 @@
 -- What the program's contracts name besides the definitions of 01: a line as the code has it, where the first sheet ends, and the line for
 -- two sheets. Assumes nothing.
+use mathlib.Core.Path.{_≡_}
 use mathlib.Core.Bool.{true, false}
 use mathlib.Core.List.{List}
 use Prim.Native.Nat.{ℕ, min}
@@ -9,6 +10,7 @@ use Rattle.marking.specs.declared.Line as coded
 use Rattle.marking.specs.declared.Line.the-variants as line
 use Rattle.rules.specs.Marking.{markCertificate, markRun}
 use Rattle.rules.specs.Program.{Line, safe, unsafe, turnedDown, firstLength, lineFor, isRun}
+use Rattle.buffers.specs.Over.{over}
 
 -- a line as the code has it
 unfoldable pub lineOf : coded.Line → Line
@@ -27,3 +29,8 @@ sheetsLine first second =
       | true ↦ lineFor unsafe (markRun examLimits first second)
       | false ↦ lineFor safe (markCertificate examLimits first second)
     ]
+
+-- a text was written over the start of a buffer, and this is its length; bytes past it stay
+pub record Written (before after text : List ℕ) (size : ℕ) : Type 0 where
+  pub sized : size ≡ length text
+  pub bytes : after ≡ over before 0 text

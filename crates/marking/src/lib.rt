@@ -1,5 +1,6 @@
 // The line that the program prints, for any input.
 pub mod program;
+pub mod text;
 
 // The line that the program prints: document 01, "What is handed back".
 pub enum Line {

@@ -2,13 +2,15 @@
 // tests/marking_papers.py writes the papers, and says what must be written for each.
 // A paper: the label's length and the label, a kind, a number in two bytes, a sheet's length in two bytes, and the sheet. Kind 0 takes
 // the sheet as the model for the papers that follow, 1 marks it as a certificate, 2 as a run; 3 asks for the joint list's answer with
-// so many records lent as the number says; 4 asks for the program's line for the sheet's bytes as its input.
+// so many records lent as the number says; 4 asks for the program's line for the sheet's bytes as its input; 5 asks for the part that show
+// row gives, with the number's high byte as the obligation and its low byte as the hypothesis: how many bytes, and the bytes.
 use certificates::certificate::mark_certificate;
 use libc::STDIN_FILENO;
 use libc::STDOUT_FILENO;
-use marking::Line;
-use marking::program::mark_input;
+use marking::text::LINE_LENGTH;
+use marking::text::mark_text;
 use queries::list::list_answer;
+use queries::show::show_row;
 use rules::Answer;
 use runs::run::mark_run;
 ghost use Prim.Native.Nat.{_^_, _<_};
@@ -28,21 +30,27 @@ fn write_answer(before: &[u8], answer: Answer) {
     number(b" ", answer.score);
 }
 
-// Writes a line of the program.
-fn write_line(line: Line) {
-    match line {
-        Line::Safe(done) => number(b": SAFE ", done),
-        Line::Unsafe(done) => number(b": UNSAFE ", done),
-        Line::Refused(number, sheet, place, done, score) => {
-            let answer = Answer {
-                number,
-                sheet,
-                place,
-                done,
-                score,
-            };
-            write_answer(b": REFUSED ", answer);
-        }
+// Writes the program's line for an input, with its newline.
+fn write_line(input: &[u8]) {
+    let mut line = [0u8; LINE_LENGTH];
+    let size = mark_text(input, &mut line);
+    io::write_all(STDOUT_FILENO, b": ");
+    io::write_all(STDOUT_FILENO, &line[..size]);
+}
+
+// Writes a byte after a space.
+fn write_byte(b: u8) {
+    number(b" ", b as u32);
+}
+
+// Writes how many bytes a part has, and the bytes.
+fn write_part(part: &[u8]) {
+    io::write_all(STDOUT_FILENO, b": ");
+    io::print_decimal(STDOUT_FILENO, part.len() as u64);
+    let mut i: usize = 0;
+    while i < part.len() {
+        write_byte(part[i]);
+        i += 1;
     }
 }
 
@@ -65,15 +73,19 @@ fn two_bytes(all: &[u8], at: usize) -> usize
 }
 
 // Marks a sheet beside a model.
-fn mark(kind: usize, lent: u32, model: &[u8], sheet: &[u8]) {
+fn mark<'a>(kind: usize, asked: u32, model: &'a [u8], sheet: &'a [u8]) {
+    if kind == 4 {
+        write_line(sheet);
+        return;
+    }
     if kind == 1 {
         write_answer(b": ", mark_certificate(model, sheet));
     } else if kind == 2 {
         write_answer(b": ", mark_run(model, sheet));
     } else if kind == 3 {
-        write_answer(b": ", list_answer(model, lent));
+        write_answer(b": ", list_answer(model, asked));
     } else {
-        write_line(mark_input(sheet));
+        write_part(show_row(model, sheet, asked / 256, asked % 256));
     }
     io::write_all(STDOUT_FILENO, b"\n");
 }

@@ -12,13 +12,14 @@ ghost use mathlib.Core.Path.{_≡_};
 ghost use Prim.Native.Nat.{_≤_};
 ghost use lib.ListN.{length};
 ghost use Rattle.formats.specs.Model.{readModelBody};
-ghost use Rattle.models.specs.Index.{Sized, entry, readTotals, totalsFrom, readParts, partsFrom, modelFrom, Kept, componentsIn, firstBlock, indexLength, variablesIn};
+ghost use Rattle.models.specs.Index.{Sized, entry, readTotals, totalsFrom, readParts, partsFrom, modelFrom, Kept, componentsIn, firstBlock, indexLength, variablesIn, firstOwner, indexLength};
 ghost use Rattle.fields.specs.Answers.{gotAs};
 
 // How many variables, components and unsafe conditions there are, kept at the first three numbers of the index.
 fn totals_into(s: &[u8], at: usize, index: &mut [u16]) -> Next
     requires { ⌜ indexLength ≤ length (now index) ⌝ }
     ensures { λ r. ⌜ gotAs (totalsFrom (now (index .exit))) r ≡ readTotals (now (s .entry)) at ⌝ }
+    ensures { λ _. ⌜ Kept 0 firstOwner (now (index .entry)) (now (index .exit)) ⌝ }
 {
     match byte_within(s, at, 1, 8) {
         Field::Refused(number, place) => Next::Refused(number, place),
@@ -51,10 +52,11 @@ fn parts_into(s: &[u8], at: usize, n: usize, c: usize, count: usize, index: &mut
     }
 }
 
-// The body from this place on.
+// The body from this place on. After a refusal the numbers of the index are free; what a longer array holds past them stays.
 pub fn body_into(s: &[u8], at: usize, index: &mut [u16]) -> Next
     requires { ⌜ Sized (now s) (now index) ⌝ }
     ensures { λ r. ⌜ gotAs (modelFrom (now (s .entry)) (now (index .exit))) r ≡ readModelBody 1 (now (s .entry)) at ⌝ }
+    ensures { λ _. ⌜ Kept 0 indexLength (now (index .entry)) (now (index .exit)) ⌝ }
 {
     match totals_into(s, at, index) {
         Next::Refused(number, place) => Next::Refused(number, place),

@@ -21,7 +21,6 @@ use Rattle.models.specs.Counts.{perComponent, KnownSwitches}
 use Rattle.formats.specs.ModelSheet.{Limits, readModel, examLimits}
 use Rattle.formats.specs.Certificate.{readRegions}
 use Rattle.second_sheets.specs.CertificateAnswers.{regionsFrom}
-use Rattle.rules.specs.declared.Answer.{Answer}
 use Rattle.queries.specs.declared.Which.{Which}
 use Rattle.queries.specs.declared.RowFound.{RowFound}
 use Rattle.queries.specs.declared.RowFound.the-variants as row
@@ -33,7 +32,7 @@ use Rattle.papers.specs.Standing.{Stands}
 use Rattle.papers.specs.Paper.{regionsOf}
 use Rattle.hypotheses.specs.Listing.{startLines, flowLines, unsafeLines, jumpLines}
 use Rattle.rules.specs.Beside.{Found, found, unfound, noObligation, findIn, findAfter, findHypothesis, foundAnswer, showAnswer, sheetOf, partOf, showPart}
-use Rattle.queries.specs.Finding.{whichTells, whichRefused, whichIn, whichAfter, whichObligation, standsIn, rowFound, RowInside, PartIs, hypothesisFound, rowOf, whichOf, toldRefused, toldIn, toldAfter, toldFor, oneAt, kindNumber, groupKind, groupLine, groupWhich, groupHypotheses, paperObligations}
+use Rattle.queries.specs.Finding.{whichTells, whichRefused, whichIn, whichAfter, whichObligation, standsIn, rowFound, RowInside, PartIs, hypothesisFound, rowOf, whichOf, toldRefused, toldIn, toldAfter, toldFor, oneAt, kindNumber, groupKind, groupLine, groupWhich, groupHypotheses, paperObligations, rowAnswer, rowLength}
 use Rattle.hypotheses.proofs.HypothesisLines.{told, start-told, flow-told, unsafe-told, jump-lines-told}
 use Rattle.papers.proofs.RegionLaws.{region-at}
 use Rattle.rules.proofs.MarkedRanges.{found-within}
@@ -297,15 +296,8 @@ found-inside limits model second o h (unfound number sheet place) e = tt
 pub row-inside : (limits : Limits) (model second : List ℕ) (o h : ℕ) → RowInside model second (rowFound (findHypothesis limits model second o h))
 row-inside limits model second o h = found-inside limits model second o h (findHypothesis limits model second o h) refl
 
--- the sister's answer and the shown part, by what is found
-unfoldable answerOf : RowFound → Answer
-answerOf (row.InModel place size) = answer 0 0 place 0 0
-answerOf (row.InSecond place size) = answer 0 1 place 0 0
-answerOf row.Nowhere = answer 0 2 0 0 0
-answerOf (row.Refused number sheet place) = answer number sheet place 0 0
-
-stands-answer : (model second : List ℕ) (sheet place size : ℕ) → sheet ≤ 2 → place + size ≤ length (sheetOf model second sheet) → answerOf (standsIn sheet place size) ≡ answer 0 sheet place 0 0
-unfolding sheetOf standsIn answerOf
+stands-answer : (model second : List ℕ) (sheet place size : ℕ) → sheet ≤ 2 → place + size ≤ length (sheetOf model second sheet) → rowAnswer (standsIn sheet place size) ≡ answer 0 sheet place 0 0
+unfolding sheetOf standsIn rowAnswer
 stands-answer model second zero place size l h = refl
 stands-answer model second (suc zero) place size l h = refl
 stands-answer model second (suc (suc zero)) place size l h = ap (λ (p : ℕ). answer 0 2 p 0 0) (none place size h)
@@ -314,33 +306,33 @@ stands-answer model second (suc (suc zero)) place size l h = ap (λ (p : ℕ). a
     none place size h = omega arith
 stands-answer model second (suc (suc (suc sheet))) place size l h = absurd (omega (arith, l))
 
-found-answer : (limits : Limits) (model second : List ℕ) (o h : ℕ) (f : Found) → findHypothesis limits model second o h ≡ f → answerOf (rowFound f) ≡ foundAnswer f
-unfolding rowFound foundAnswer answerOf
+found-answer : (limits : Limits) (model second : List ℕ) (o h : ℕ) (f : Found) → findHypothesis limits model second o h ≡ f → rowAnswer (rowFound f) ≡ foundAnswer f
+unfolding rowFound foundAnswer rowAnswer
 found-answer limits model second o h (found x) e =
     let w = found-within limits model second o h x e in
     stands-answer model second (x .sheet) (x .place) (x .size) (w .sheet) (w .ends)
 found-answer limits model second o h (unfound number sheet place) e = refl
 
 module _ (limits : Limits) (model second : List ℕ) (o h : ℕ) {r : RowFound} (e : r ≡ rowFound (findHypothesis limits model second o h)) where
-  shown-answer : answerOf r ≡ showAnswer limits model second o h
+  shown-answer : rowAnswer r ≡ showAnswer limits model second o h
   unfolding showAnswer
-  shown-answer = ap answerOf e ∙ found-answer limits model second o h (findHypothesis limits model second o h) refl
+  shown-answer = ap rowAnswer e ∙ found-answer limits model second o h (findHypothesis limits model second o h) refl
 
   pub answer-in-model : (place size : ℕ) → r ≡ row.InModel place size → answer 0 0 place 0 0 ≡ showAnswer limits model second o h
-  unfolding answerOf
-  answer-in-model place size k = sym (ap answerOf k) ∙ shown-answer
+  unfolding rowAnswer
+  answer-in-model place size k = sym (ap rowAnswer k) ∙ shown-answer
 
   pub answer-in-second : (place size : ℕ) → r ≡ row.InSecond place size → answer 0 1 place 0 0 ≡ showAnswer limits model second o h
-  unfolding answerOf
-  answer-in-second place size k = sym (ap answerOf k) ∙ shown-answer
+  unfolding rowAnswer
+  answer-in-second place size k = sym (ap rowAnswer k) ∙ shown-answer
 
   pub answer-nowhere : r ≡ row.Nowhere → answer 0 2 0 0 0 ≡ showAnswer limits model second o h
-  unfolding answerOf
-  answer-nowhere k = sym (ap answerOf k) ∙ shown-answer
+  unfolding rowAnswer
+  answer-nowhere k = sym (ap rowAnswer k) ∙ shown-answer
 
   pub answer-refused : (number sheet place : ℕ) → r ≡ row.Refused number sheet place → answer number sheet place 0 0 ≡ showAnswer limits model second o h
-  unfolding answerOf
-  answer-refused number sheet place k = sym (ap answerOf k) ∙ shown-answer
+  unfolding rowAnswer
+  answer-refused number sheet place k = sym (ap rowAnswer k) ∙ shown-answer
 
 -- the part that is shown
 unfoldable partShown : List ℕ → List ℕ → RowFound → List ℕ
@@ -414,3 +406,18 @@ part-size s place size = ap (λ (n : ℕ). take n (drop place s)) (same place si
   where
     same : (place size : ℕ) → place + size - place ≡ size
     same place size = omega arith
+
+-- the numbers of a row's answer, by its cases, are the sister call's; and the part that is shown has the row's length
+pub row-tells : (limits : Limits) (model second : List ℕ) (o h : ℕ) (r : RowFound) → r ≡ rowFound (findHypothesis limits model second o h) → rowAnswer r ≡ showAnswer limits model second o h
+unfolding rowAnswer
+row-tells limits model second o h (row.InModel place size) e = answer-in-model limits model second o h e place size refl
+row-tells limits model second o h (row.InSecond place size) e = answer-in-second limits model second o h e place size refl
+row-tells limits model second o h row.Nowhere e = answer-nowhere limits model second o h e refl
+row-tells limits model second o h (row.Refused number sheet place) e = answer-refused limits model second o h e number sheet place refl
+
+pub part-sized : (model second : List ℕ) (r : RowFound) (part : List ℕ) → PartIs model second r part → length part ≡ rowLength r
+unfolding PartIs rowLength
+part-sized model second (row.InModel place size) part w = w .1 .1
+part-sized model second (row.InSecond place size) part w = w .1 .1
+part-sized model second row.Nowhere part w = ap (λ (l : List ℕ). length l) w
+part-sized model second (row.Refused number sheet place) part w = ap (λ (l : List ℕ). length l) w

@@ -30,6 +30,8 @@ use Rattle.hypotheses.specs.Listing.{noUnsafe}
 use Rattle.papers.specs.Paper.{regionsOf, locationObligationsFor, jumpsObligationsFor}
 use Rattle.scores.specs.Counting.{targetRows}
 use Rattle.rules.specs.Beside.{Found, found, unfound, noObligation, findIn, findAfter, findHypothesis}
+use Rattle.rules.specs.declared.Answer.{Answer}
+use Rattle.rules.specs.Marking.{answer}
 
 -- Which obligation it is: its kind as a number
 unfoldable pub kindNumber : Kind → ℕ
@@ -79,6 +81,20 @@ standsIn (suc (suc sheet)) place size = row.Nowhere
 unfoldable pub rowFound : Found → RowFound
 rowFound (found h) = standsIn (h .sheet) (h .place) (h .size)
 rowFound (unfound number sheet place) = row.Refused number sheet place
+
+-- what each case stands for: the sister call's numbers, "the number, with the row's sheet and offset (2 and 0 for a row in no sheet)", and
+-- how many bytes the row has
+unfoldable pub rowAnswer : RowFound → Answer
+rowAnswer (row.InModel place size) = answer 0 0 place 0 0
+rowAnswer (row.InSecond place size) = answer 0 1 place 0 0
+rowAnswer row.Nowhere = answer 0 2 0 0 0
+rowAnswer (row.Refused number sheet place) = answer number sheet place 0 0
+
+unfoldable pub rowLength : RowFound → ℕ
+rowLength (row.InModel place size) = size
+rowLength (row.InSecond place size) = size
+rowLength row.Nowhere = 0
+rowLength (row.Refused number sheet place) = 0
 
 -- and that it lies inside its sheet
 unfoldable pub RowInside : List ℕ → List ℕ → RowFound → Type 0

@@ -25,7 +25,7 @@ ghost use Rattle.formats.specs.ModelSheet.{examLimits};
 ghost use Rattle.formats.specs.Certificate.{readRegions};
 ghost use Rattle.papers.specs.Paper.{GoodPaper, Accepted, obligationsFor};
 ghost use Rattle.rules.specs.Beside.{findHypothesis, showAnswer, showPart};
-ghost use Rattle.queries.specs.Finding.{whichObligation, groupWhich, rowFound, RowInside, whichOf, toldRefused, toldIn, toldAfter, toldFor, PartIs, soughtOneFor};
+ghost use Rattle.queries.specs.Finding.{whichObligation, groupWhich, rowFound, RowInside, whichOf, toldRefused, toldIn, toldAfter, toldFor, PartIs, soughtOneFor, rowAnswer};
 
 // Which obligation a location's group has at a line.
 fn group_which(size: u32, location: u32, g: u32, line: u32) -> Which
@@ -167,6 +167,7 @@ pub fn which(model: &[u8], second: &[u8], o: u32) -> Which
 pub fn find_row(model: &[u8], second: &[u8], o: u32, h: u32) -> RowFound
     ensures { λ r. ⌜ r ≡ rowFound (findHypothesis examLimits (now (model .entry)) (now (second .entry)) o h) ⌝ }
     ensures { λ r. ⌜ RowInside (now (model .entry)) (now (second .entry)) r ⌝ }
+    ensures { λ r. ⌜ rowAnswer r ≡ showAnswer examLimits (now (model .entry)) (now (second .entry)) o h ⌝ }
 {
     let told = tell(model, second, o, h);
     told.row

@@ -1,19 +1,19 @@
 -- Joint switches by an index: a component's part, loops over the components, and where a joint switch leads. Assumes nothing.
-use mathlib.Core.Path.{_≡_, refl, sym, ap, _∙_, subst, subst₂}
+use mathlib.Core.Path.{_≡_, refl, sym, ap, _∙_, subst, subst₂, ap₂}
 use mathlib.Core.Bool.{Bool, true, false, cond, not, _&&_}
-use mathlib.Core.List.{List, []}
+use mathlib.Core.List.{List, [], _∷_}
 use Prim.Native.Nat.{ℕ, zero, suc, _+_, _≤_, _<_}
 use native.Mathlib.Omega.{arith}
 use lib.Count.{ones}
-use lib.Dec.{eqb}
+use lib.Dec.{eqb, T}
 use lib.IntN.{ℤ}
 use lib.ListN.{length, getD, drop-of-length-le}
 use borrow.Author.Tests.{lt-ltb, le-ltb, eq-eqb, ne-eqb}
 use Rattle.second_sheets.specs.declared.Step as coded
 use Rattle.second_sheets.specs.declared.Step.the-variants as step
-use Rattle.formats.specs.Model.{Component, Model, hasEvent}
+use Rattle.formats.specs.Model.{Component, Model, hasEvent, Switch}
 use Rattle.formats.specs.Locations.{locationCount, modesAt, locationOf}
-use Rattle.formats.specs.Joint.{stays, switchOf, leaves, moves, scopeMask, moverCount, partIn, membersMove, allStay, oneMoves, isJoint, modesAfter}
+use Rattle.formats.specs.Joint.{stays, switchOf, leaves, moves, scopeMask, moverCount, partIn, membersMove, allStay, oneMoves, isJoint, modesAfter, bit}
 use Rattle.models.specs.Index.{entry, componentsFrom, modelFrom, GoodIndex}
 use Rattle.models.specs.Counts.{componentAt, perComponent, KnownSwitches}
 use Rattle.formats.specs.RunSheet.{Step, jump}
@@ -22,11 +22,14 @@ use Rattle.formats.proofs.Locations.{modes-at, location-of}
 use Rattle.formats.proofs.Joint.{Known, no-numbers, number-and, modes-after}
 use Rattle.models.proofs.GoodIndexLaws.{components-drop, components-end, switch-length, good-components}
 use Rattle.model_sheets.proofs.JointLoops.{componentsOn, numbersOn, per-component-length, per-component-drop}
-use Rattle.rules.specs.Runs.{State, admissible, jumpRows, stayingKept, jumpRule, after, ruleMet, stepAllowed}
+use Rattle.rules.specs.Runs.{State, admissible, jumpRows, stayingKept, jumpRule, after, ruleMet, stepAllowed, movers}
 use Rattle.papers.specs.Standing.{Stands}
 use Rattle.runs.specs.Held.{perVariable, stateOf}
 use Rattle.papers.proofs.StandingLaws.{have-modes}
 use Rattle.rules.proofs.ListFacts.{first-fails, first-passes}
+use Rattle.rules.proofs.Movers.{moved-together}
+use Rattle.farkas.specs.Lists.{All, none, more}
+use Rattle.formats.proofs.WellFormed.{GoodComponent}
 
 -- a component's part
 pub moves-past : (c : Component) (mode e i : ℕ) → length (c .switches) ≤ i → moves c mode e i ≡ false
@@ -144,6 +147,46 @@ module _ (components : List Component) (modes switches : List ℕ) where
   joint-members zero mask h p q = absurd (h refl)
   joint-members (suc e) mask h p q =
       ap (λ b. not b && membersMove components modes (suc e) switches) (ne-eqb (ones (scopeMask components (suc e))) 0 (λ r. q (ap ones p ∙ r)))
+
+-- "As many components move together as the scope mask has ones": as many movers, or no joint switch
+is-not : (b : Bool) → (b ≡ true → ⊥) → false ≡ b
+is-not true f = absurd (f refl)
+is-not false f = refl
+
+few-switches : {n : ℕ} {components : List Component} → All (GoodComponent n) components → All (λ c. length (c .switches) ≤ 32) components
+few-switches none = none
+few-switches (more g rest) = more (g .few) (few-switches rest)
+
+pub joint-many : {model index : List ℕ} → GoodIndex model index → (modes switches : List ℕ) (e mask : ℕ) → (e ≡ 0 → ⊥) → mask ≡ scopeMask (componentsFrom model index) e → (length (movers (componentsFrom model index) switches) ≡ ones mask → ⊥) → false ≡ isJoint (componentsFrom model index) modes e switches
+unfolding moverCount
+joint-many g modes switches zero mask h p f = absurd (h refl)
+joint-many {model} {index} g modes switches (suc e) mask h p f =
+    is-not (isJoint (componentsFrom model index) modes (suc e) switches)
+    (λ q. f (moved-together e (componentsFrom model index) modes switches (few-switches (good-components g)) (subst T (sym q) tt) ∙ ap ones (sym p)))
+
+-- the components that move, from one on
+abbrev pub moversOn : List ℕ → List ℕ → List ℕ → ℕ → List Switch
+moversOn s index switches k = movers (componentsOn s index k) (numbersOn index switches k)
+
+module _ (s index switches : List ℕ) (wide : entry index 1 ≤ length switches) where
+  mover-more : (c : Component) (components : List Component) (i : ℕ) (rest : List ℕ) (a : Bool) → not (eqb i stays) ≡ a → length (movers (c ∷ components) (i ∷ rest)) ≡ bit a + length (movers components rest)
+  unfolding movers bit
+  mover-more c components i rest a e = go (eqb i stays) a e
+    where
+      go : (b a : Bool) → not b ≡ a → length {A = Switch} (elim b as (λ _. List Switch) [ true ↦ movers components rest | false ↦ switchOf c i ∷ movers components rest ]) ≡ bit a + length (movers components rest)
+      go true true e = let z : _≡_ {A = ℕ} 0 1 = cc in absurd (omega arith)
+      go true false e = omega arith
+      go false true e = omega arith
+      go false false e = let z : _≡_ {A = ℕ} 0 1 = cc in absurd (omega arith)
+
+  pub movers-turn : (k : ℕ) (a : Bool) → k < entry index 1 → not (eqb (getD switches k 0) stays) ≡ a → length (moversOn s index switches k) ≡ bit a + length (moversOn s index switches (k + 1))
+  movers-turn k a h e =
+      ap₂ (λ components numbers. length (movers components numbers)) (components-drop s index k h) (per-component-drop index switches wide k h)
+      ∙ mover-more (componentAt s index k) (componentsOn s index (k + 1)) (getD switches k 0) (numbersOn index switches (k + 1)) a e
+
+  pub movers-end : (k : ℕ) → k ≡ entry index 1 → length (moversOn s index switches k) ≡ 0
+  unfolding movers
+  movers-end k h = ap (λ (components : List Component). length (movers components (numbersOn index switches k))) (ap (λ (i : ℕ). componentsOn s index i) h ∙ components-end s index)
 
 -- Known switches lead from a location to a location
 module _ (s index switches : List ℕ) (wide : entry index 1 ≤ length switches) (known : KnownSwitches index switches) where

@@ -1,16 +1,16 @@
 -- What the contracts of marking name besides the definitions of 01: a state as the code holds it, with its values in an array of eight,
 -- and their sizes; and the tests of a state, one component, unsafe condition or variable at a time. Assumes nothing.
 use mathlib.Core.Bool.{Bool, not, _&&_, _||_}
-use mathlib.Core.List.{List}
+use mathlib.Core.List.{List, _++_}
 use mathlib.Core.Path.{_≡_}
-use Prim.Native.Nat.{ℕ, _+_, _*_, _^_, _≤_, _<_}
+use Prim.Native.Nat.{ℕ, _+_, _*_, _^_, _≤_, _<_, _-_}
 use lib.Dec.{eqb}
 use lib.IntN.{ℤ, natAbs}
-use lib.ListN.{getD, take}
+use lib.ListN.{getD, take, replicate}
 use Rattle.farkas.specs.Rows.{item}
 use Rattle.farkas.specs.Farkas.{sameZ}
 use Rattle.formats.specs.Joint.{stays}
-use Rattle.models.specs.Index.{entry, ownerPlace, componentPlace, modePlace, switchPlace, unsafePlace, spanRows, unsafeFrom}
+use Rattle.models.specs.Index.{entry, ownerPlace, componentPlace, modePlace, switchPlace, unsafePlace, spanRows, unsafeFrom, componentsFrom}
 use Rattle.models.specs.Counts.{perComponent, KnownSwitches}
 use Rattle.second_sheets.specs.declared.Switches.{Switches}
 use Rattle.second_sheets.specs.declared.Step as coded
@@ -18,6 +18,7 @@ use Rattle.second_sheets.specs.declared.Step.the-variants as step
 use Rattle.second_sheets.specs.RunAnswers.{switchesIn, stepOf}
 use Rattle.rules.specs.Runs.{State, conditionHolds, modesFit}
 use Rattle.formats.specs.RunSheet.{Step}
+use Rattle.formats.specs.Locations.{modesAt}
 
 -- the first of eight values, one per variable
 unfoldable pub perVariable : List ℕ → List ℤ → List ℤ
@@ -79,3 +80,8 @@ pub record KnownStep (index : List ℕ) (by : coded.Step) : Type 0 where
 -- a step that was read, with its new values in an array of eight
 abbrev pub stepWith : List ℕ → coded.Step → List ℤ → Step
 stepWith index by next = stepOf (entry index 1) by (perVariable index next)
+
+-- the modes after a step, in an array of four: a flow keeps them, after a jump they are those of its target, and 0 past the components
+unfoldable pub modesNext : List ℕ → List ℕ → List ℕ → coded.Step → ℕ → List ℕ
+modesNext model index modes (step.Flow δ) target = modes
+modesNext model index modes (step.Jump e w) target = modesAt (componentsFrom model index) target ++ replicate (4 - entry index 1) 0

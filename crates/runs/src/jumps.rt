@@ -3,6 +3,7 @@ use crate::values::admissible;
 use crate::values::flow_rule;
 use crate::values::jump_rows;
 use crate::values::staying_kept;
+use model_sheets::joints::bit_of;
 use model_sheets::joints::in_scope;
 use model_sheets::joints::leaves_by;
 use model_sheets::joints::modes_at;
@@ -17,7 +18,7 @@ use second_sheets::Step;
 ghost use mathlib.Core.Path.{_≡_};
 ghost use mathlib.Core.List.{[]};
 ghost use Prim.Native.Nat.{_^_, _≤_, _<_};
-ghost use lib.ListN.{drop};
+ghost use lib.ListN.{drop, length};
 ghost use Rattle.formats.specs.Locations.{locationCount};
 ghost use Rattle.formats.specs.Joint.{moves, partIn, membersMove, allStay, oneMoves, isJoint};
 ghost use Rattle.models.specs.Index.{entry, componentsFrom, modelFrom, GoodIndex, componentsIn};
@@ -25,7 +26,7 @@ ghost use Rattle.models.specs.Counts.{componentAt, perComponent, KnownSwitches}
 ghost use Rattle.second_sheets.specs.RunAnswers.{stepOf};
 ghost use Rattle.rules.specs.Runs as runs;
 ghost use Rattle.papers.specs.Standing.{Stands};
-ghost use Rattle.runs.specs.Held.{perVariable, stateOf, SmallValues, KnownStep, stepWith};
+ghost use Rattle.runs.specs.Held.{perVariable, stateOf, SmallValues, KnownStep, stepWith, modesNext};
 
 // Whether a component moves by this number: that of one of its switches, which has this label and leaves this mode.
 fn moves_by(model: &[u8], index: &Index, k: usize, mode: u8, e: u32, i: u8) -> bool
@@ -105,8 +106,22 @@ fn one_moves(model: &[u8], index: &Index, modes: [u8; 4], switches: [u8; 4]) -> 
     false
 }
 
-// Whether switch numbers, one per component, are a joint switch of an event from a location with these modes. An empty scope gives no
-// step.
+// How many components move: those whose number is not 255.
+fn mover_count(model: &[u8], index: &Index, switches: [u8; 4]) -> u32
+    requires { ⌜ GoodIndex (now model) (now index) ⌝ }
+    ensures { λ r. ⌜ r ≡ length (runs.movers (componentsFrom (now (model .entry)) (now (index .entry))) (perComponent (now (index .entry)) switches)) ⌝ }
+{
+    let mut count: u32 = 0;
+    let mut k = index[COMPONENTS_AT] as usize;
+    while 0 < k {
+        k -= 1;
+        count = bit_of(switches[k] != 255) + count;
+    }
+    count
+}
+
+// Whether switch numbers, one per component, are a joint switch of an event from a location with these modes. As many components
+// move as the scope mask has ones, and an empty scope gives no step.
 pub fn is_joint(model: &[u8], index: &Index, modes: [u8; 4], e: u32, switches: [u8; 4]) -> bool
     requires { ⌜ GoodIndex (now model) (now index) ⌝ }
     requires { ⌜ e ≤ 15 ⌝ }
@@ -115,8 +130,11 @@ pub fn is_joint(model: &[u8], index: &Index, modes: [u8; 4], e: u32, switches: [
     if e == 0 {
         return one_moves(model, index, modes, switches);
     }
-    let mask = scope_mask(model, index, e);
-    if u32::count_ones(mask) == 0 {
+    let members = u32::count_ones(scope_mask(model, index, e));
+    if members == 0 {
+        return false;
+    }
+    if mover_count(model, index, switches) != members {
         return false;
     }
     members_move(model, index, modes, e, switches)
@@ -233,6 +251,7 @@ pub fn modes_after(
     requires { ⌜ Stands (now model) (now index) location modes ⌝ }
     requires { ⌜ target < locationCount (componentsFrom (now model) (now index)) ⌝ }
     requires { ⌜ target ≡ runs.after (modelFrom (now model) (now index)) (stateOf (now index) location []) (stepOf (componentsIn (now index)) by []) .location ⌝ }
+    ensures { λ r. ⌜ r ≡ modesNext (now (model .entry)) (now (index .entry)) modes by target ⌝ }
     ensures { λ r. ⌜ Stands (now (model .entry)) (now (index .entry)) target r ⌝ }
 {
     match by {

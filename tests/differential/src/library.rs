@@ -25,7 +25,13 @@ mod entries {
             obligation: u32,
             hypothesis: u32,
         ) -> Answer;
-        pub fn silfoddra_which(model: *const u8, model_length: usize, second: *const u8, second_length: usize, obligation: u32) -> Which;
+        pub fn silfoddra_which_obligation(
+            model: *const u8,
+            model_length: usize,
+            second: *const u8,
+            second_length: usize,
+            obligation: u32,
+        ) -> Which;
     }
 }
 
@@ -49,5 +55,5 @@ pub fn show_row(model: &[u8], second: &[u8], obligation: u32, hypothesis: u32) -
 }
 
 pub fn which(model: &[u8], second: &[u8], obligation: u32) -> Which {
-    unsafe { entries::silfoddra_which(model.as_ptr(), model.len(), second.as_ptr(), second.len(), obligation) }
+    unsafe { entries::silfoddra_which_obligation(model.as_ptr(), model.len(), second.as_ptr(), second.len(), obligation) }
 }

@@ -13,7 +13,7 @@ impl Comparison {
             let obligation = random_argument(random, obligations);
             let which = marker::which(model, second, obligation);
             let got = self.on_sheets(edge, model, second, |model, second| library::which(model, second, obligation));
-            self.same(&format!("silfoddra_which({obligation})"), kind, model, second, got, which)?;
+            self.same(&format!("silfoddra_which_obligation({obligation})"), kind, model, second, got, which)?;
 
             let hypothesis = random_argument(random, hypothesis_count(model, second, obligation));
             let (answer, bytes) = marker::show_row(model, second, obligation, hypothesis);

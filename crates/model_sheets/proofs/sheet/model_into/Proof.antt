@@ -14,6 +14,7 @@ use Rattle.fields.proofs.ChainLaws.{told-at, told-refused}
 use Rattle.model_sheets.proofs.SheetLaws.{body-good, header-read, sheet-first, sheet-second, sheet-third, sheet-limits}
 use Rattle.model_sheets.proofs.sheet.model_into.Statement.{statement}
 use Rattle.model_sheets.proofs.sheet.model_into.Tie as tie
+use Rattle.models.proofs.IndexLaws.{kept-none}
 
 header-requires : tie.Need-header-requires
 header-requires c κs = search needs
@@ -62,14 +63,14 @@ within-limits-requires c κs =
     let y = c .before .before .before .before .before .before .before .before .body-into .last .1 .1 .0 in
     let there : readModelBody 1 s at ≡ readModelBody 1 s 4 = ap (λ (x : ℕ). readModelBody 1 s x) (r .four) in
     let end = c .before .before .before .before .before .before .end .given .0 .0 in
-    let two : readModelBody 1 s 4 ≡ got (modelFrom s y) end = sym there ∙ told-at (modelFrom s y) (readModelBody 1 s at) (c .before .before .before .before .before .before .before .before .body-into .ensures) (c .before .before .before .before .before .before .end .given .1) in
+    let two : readModelBody 1 s 4 ≡ got (modelFrom s y) end = sym there ∙ told-at (modelFrom s y) (readModelBody 1 s at) (c .before .before .before .before .before .before .before .before .body-into .ensures .0) (c .before .before .before .before .before .before .end .given .1) in
     body-good s y 4 end two
 
 returns : tie.Need-returns
 unfolding gotAs
 returns c =
     let a = c .before .before .before .before .before .args in
-    sym (sheet-first examLimits (now (a .s)) (c .before .number .given .0 .0) (c .before .number .given .0 .1 .0) (sym (c .before .before .before .header .ensures) ∙ field-refused (c .before .number .given .1)))
+    (sym (sheet-first examLimits (now (a .s)) (c .before .number .given .0 .0) (c .before .number .given .0 .1 .0) (sym (c .before .before .before .header .ensures) ∙ field-refused (c .before .number .given .1))), kept-none 0 988 (now (a .index)))
 
 returns-2 : tie.Need-returns-2
 unfolding gotAs
@@ -83,7 +84,7 @@ returns-2 c =
     let one : reading.header 1 s 0 ≡ got 1 4 = e ∙ ap (λ (x : ℕ). got x at) (r .one) ∙ ap (λ (x : ℕ). got 1 x) (r .four) in
     let y = c .before .before .before .body-into .last .1 .1 .0 in
     let there : readModelBody 1 s at ≡ readModelBody 1 s 4 = ap (λ (x : ℕ). readModelBody 1 s x) (r .four) in
-    sym (sheet-second examLimits s one (c .before .number2 .given .0 .0) (c .before .number2 .given .0 .1 .0) (sym there ∙ told-refused (modelFrom s y) (readModelBody 1 s at) (c .before .before .before .body-into .ensures) (c .before .number2 .given .1)))
+    (sym (sheet-second examLimits s one (c .before .number2 .given .0 .0) (c .before .number2 .given .0 .1 .0) (sym there ∙ told-refused (modelFrom s y) (readModelBody 1 s at) (c .before .before .before .body-into .ensures .0) (c .before .number2 .given .1))), c .before .before .before .body-into .ensures .1)
 
 returns-3 : tie.Need-returns-3
 unfolding gotAs
@@ -98,8 +99,8 @@ returns-3 c =
     let y = c .before .before .before .before .before .before .before .body-into .last .1 .1 .0 in
     let there : readModelBody 1 s at ≡ readModelBody 1 s 4 = ap (λ (x : ℕ). readModelBody 1 s x) (r .four) in
     let end = c .before .before .before .before .before .end .given .0 .0 in
-    let two : readModelBody 1 s 4 ≡ got (modelFrom s y) end = sym there ∙ told-at (modelFrom s y) (readModelBody 1 s at) (c .before .before .before .before .before .before .before .body-into .ensures) (c .before .before .before .before .before .end .given .1) in
-    sym (sheet-third examLimits s one (modelFrom s y) end two (c .before .number3 .given .0 .0) (c .before .number3 .given .0 .1 .0) (told-refused tt (reading.finished s end) (c .before .before .before .finished .ensures) (c .before .number3 .given .1)))
+    let two : readModelBody 1 s 4 ≡ got (modelFrom s y) end = sym there ∙ told-at (modelFrom s y) (readModelBody 1 s at) (c .before .before .before .before .before .before .before .body-into .ensures .0) (c .before .before .before .before .before .end .given .1) in
+    (sym (sheet-third examLimits s one (modelFrom s y) end two (c .before .number3 .given .0 .0) (c .before .number3 .given .0 .1 .0) (told-refused tt (reading.finished s end) (c .before .before .before .finished .ensures) (c .before .number3 .given .1))), c .before .before .before .before .before .before .before .body-into .ensures .1)
 
 returns-4 : tie.Need-returns-4
 unfolding modelFrom
@@ -114,8 +115,8 @@ returns-4 c =
     let y = c .before .before .before .before .before .before .before .before .before .body-into .last .1 .1 .0 in
     let there : readModelBody 1 s at ≡ readModelBody 1 s 4 = ap (λ (x : ℕ). readModelBody 1 s x) (r .four) in
     let end = c .before .before .before .before .before .before .before .end .given .0 .0 in
-    let two : readModelBody 1 s 4 ≡ got (modelFrom s y) end = sym there ∙ told-at (modelFrom s y) (readModelBody 1 s at) (c .before .before .before .before .before .before .before .before .before .body-into .ensures) (c .before .before .before .before .before .before .before .end .given .1) in
-    sheet-limits examLimits s one (modelFrom s y) end two (c .before .before .before .next .given .0 .0) (told-at tt (reading.finished s end) (c .before .before .before .before .before .finished .ensures) (c .before .before .before .next .given .1)) (c .within-limits .result) (c .within-limits .ensures)
+    let two : readModelBody 1 s 4 ≡ got (modelFrom s y) end = sym there ∙ told-at (modelFrom s y) (readModelBody 1 s at) (c .before .before .before .before .before .before .before .before .before .body-into .ensures .0) (c .before .before .before .before .before .before .before .end .given .1) in
+    (sheet-limits examLimits s one (modelFrom s y) end two (c .before .before .before .next .given .0 .0) (told-at tt (reading.finished s end) (c .before .before .before .before .before .finished .ensures) (c .before .before .before .next .given .1)) (c .within-limits .result) (c .within-limits .ensures), c .before .before .before .before .before .before .before .before .before .body-into .ensures .1)
 
 pub model-into-spec : {M : Type 1} → statement M
 model-into-spec =

@@ -13,6 +13,7 @@ use mathlib.Core.List.{map}
 use Rattle.models.proofs.BodyLaws.{totals-small, body-first, body-second, body-read, model-whole}
 use Rattle.models.proofs.body.body_into.Statement.{statement}
 use Rattle.models.proofs.body.body_into.Tie as tie
+use Rattle.models.proofs.IndexLaws.{kept-then, kept-wider}
 
 totals-into-requires : tie.Need-totals-into-requires
 totals-into-requires c κs = search needs
@@ -55,7 +56,7 @@ owners-into-requires c κs =
     let x = c .before .before .before .before .before .before .before .before .before .totals-into .last .1 .1 .0 in
     let t = totalsFrom x in
     let second = c .before .before .before .before .before .second .given .0 .0 in
-    let one : readTotals s (a .at) ≡ got t second = told-at t (readTotals s (a .at)) (c .before .before .before .before .before .before .before .before .before .totals-into .ensures) (c .before .before .before .before .before .second .given .1) in
+    let one : readTotals s (a .at) ≡ got t second = told-at t (readTotals s (a .at)) (c .before .before .before .before .before .before .before .before .before .totals-into .ensures .0) (c .before .before .before .before .before .second .given .1) in
     let small = totals-small s (a .at) t second one in
     (record { short = c .before .before .before .before .before .before .before .before .before .before .before .before .before .pre .short; long = omega (arith, c .before .before .before .before .before .before .before .before .before .before .before .before .before .pre .long, c .before .before .before .before .before .before .before .before .before .totals-into .kept .1 .1 .0) }, (small .most, small .few))
 
@@ -73,7 +74,7 @@ cast-parts-into c =
     let x = c .before .before .before .before .before .before .before .before .before .before .before .before .before .before .before .totals-into .last .1 .1 .0 in
     let t = totalsFrom x in
     let second = c .before .before .before .before .before .before .before .before .before .before .before .second .given .0 .0 in
-    let one : readTotals s (a .at) ≡ got t second = told-at t (readTotals s (a .at)) (c .before .before .before .before .before .before .before .before .before .before .before .before .before .before .before .totals-into .ensures) (c .before .before .before .before .before .before .before .before .before .before .before .second .given .1) in
+    let one : readTotals s (a .at) ≡ got t second = told-at t (readTotals s (a .at)) (c .before .before .before .before .before .before .before .before .before .before .before .before .before .before .before .totals-into .ensures .0) (c .before .before .before .before .before .before .before .before .before .before .before .second .given .1) in
     let small = totals-small s (a .at) t second one in
     omega (arith, small .few)
 
@@ -85,7 +86,7 @@ parts-into-requires c κs =
     let x = c .before .before .before .before .before .before .before .before .before .before .before .before .before .before .before .before .totals-into .last .1 .1 .0 in
     let t = totalsFrom x in
     let second = c .before .before .before .before .before .before .before .before .before .before .before .before .second .given .0 .0 in
-    let one : readTotals s (a .at) ≡ got t second = told-at t (readTotals s (a .at)) (c .before .before .before .before .before .before .before .before .before .before .before .before .before .before .before .before .totals-into .ensures) (c .before .before .before .before .before .before .before .before .before .before .before .before .second .given .1) in
+    let one : readTotals s (a .at) ≡ got t second = told-at t (readTotals s (a .at)) (c .before .before .before .before .before .before .before .before .before .before .before .before .before .before .before .before .totals-into .ensures .0) (c .before .before .before .before .before .before .before .before .before .before .before .before .second .given .1) in
     let small = totals-small s (a .at) t second one in
     let y = c .before .before .before .before .before .before .owners-into .last .1 .1 .1 .1 .0 in
     let k₁ = c .before .before .before .before .before .before .owners-into .ensures .1 in
@@ -101,7 +102,7 @@ returns c =
     let a = c .before .before .before .before .before .before .before .before .before .args in
     let s = now (a .s) in
     let x = c .before .before .before .before .before .totals-into .last .1 .1 .0 in
-    sym (body-first s (a .at) (c .before .number .given .0 .0) (c .before .number .given .0 .1 .0) (told-refused (totalsFrom x) (readTotals s (a .at)) (c .before .before .before .before .before .totals-into .ensures) (c .before .number .given .1)))
+    (sym (body-first s (a .at) (c .before .number .given .0 .0) (c .before .number .given .0 .1 .0) (told-refused (totalsFrom x) (readTotals s (a .at)) (c .before .before .before .before .before .totals-into .ensures .0) (c .before .number .given .1))), kept-wider (omega arith) (omega arith) (c .before .before .before .before .before .totals-into .ensures .1))
 
 same-length-2 : tie.Need-same-length-2
 same-length-2 c = search needs
@@ -114,12 +115,12 @@ returns-2 c =
     let x = c .before .before .before .before .before .before .before .before .before .before .before .before .before .before .before .totals-into .last .1 .1 .0 in
     let t = totalsFrom x in
     let second = c .before .before .before .before .before .before .before .before .before .before .before .second .given .0 .0 in
-    let one : readTotals s (a .at) ≡ got t second = told-at t (readTotals s (a .at)) (c .before .before .before .before .before .before .before .before .before .before .before .before .before .before .before .totals-into .ensures) (c .before .before .before .before .before .before .before .before .before .before .before .second .given .1) in
+    let one : readTotals s (a .at) ≡ got t second = told-at t (readTotals s (a .at)) (c .before .before .before .before .before .before .before .before .before .before .before .before .before .before .before .totals-into .ensures .0) (c .before .before .before .before .before .before .before .before .before .before .before .second .given .1) in
     let small = totals-small s (a .at) t second one in
     let y = c .before .before .before .before .before .owners-into .last .1 .1 .1 .1 .0 in
     let k₁ = c .before .before .before .before .before .owners-into .ensures .1 in
     let os = map (λ v. entry y (ownerPlace v)) (countUp 0 (entry x 0)) in
-    sym (body-second s (a .at) t second one (c .before .number2 .given .0 .0) (c .before .number2 .given .0 .1 .0) (told-refused os (many (entry x 0) (below (entry x 1) u8) s second) (c .before .before .before .before .before .owners-into .ensures .0) (c .before .number2 .given .1)))
+    (sym (body-second s (a .at) t second one (c .before .number2 .given .0 .0) (c .before .number2 .given .0 .1 .0) (told-refused os (many (entry x 0) (below (entry x 1) u8) s second) (c .before .before .before .before .before .owners-into .ensures .0) (c .before .number2 .given .1))), kept-then (kept-wider (omega arith) (omega arith) (c .before .before .before .before .before .before .before .before .before .before .before .before .before .before .before .totals-into .ensures .1)) (kept-wider (omega arith) (omega arith) (k₁)))
 
 same-length-3 : tie.Need-same-length-3
 same-length-3 c = search needs
@@ -132,7 +133,7 @@ returns-3 c =
     let x = c .before .before .before .before .before .before .before .before .before .before .before .before .before .before .before .before .before .before .before .totals-into .last .1 .1 .0 in
     let t = totalsFrom x in
     let second = c .before .before .before .before .before .before .before .before .before .before .before .before .before .before .before .second .given .0 .0 in
-    let one : readTotals s (a .at) ≡ got t second = told-at t (readTotals s (a .at)) (c .before .before .before .before .before .before .before .before .before .before .before .before .before .before .before .before .before .before .before .totals-into .ensures) (c .before .before .before .before .before .before .before .before .before .before .before .before .before .before .before .second .given .1) in
+    let one : readTotals s (a .at) ≡ got t second = told-at t (readTotals s (a .at)) (c .before .before .before .before .before .before .before .before .before .before .before .before .before .before .before .before .before .before .before .totals-into .ensures .0) (c .before .before .before .before .before .before .before .before .before .before .before .before .before .before .before .second .given .1) in
     let small = totals-small s (a .at) t second one in
     let y = c .before .before .before .before .before .before .before .before .before .owners-into .last .1 .1 .1 .1 .0 in
     let k₁ = c .before .before .before .before .before .before .before .before .before .owners-into .ensures .1 in
@@ -142,7 +143,7 @@ returns-3 c =
     let two = told-at os (many (entry x 0) (below (entry x 1) u8) s second) (c .before .before .before .before .before .before .before .before .before .owners-into .ensures .0) (c .before .before .before .before .before .third .given .1) in
     let p = partsFrom s (entry x 0) (entry x 1) (entry x 2) z in
     let e = body-read s (a .at) t second one os third two p (c .before .before .parts-into .result) (c .before .before .parts-into .ensures .0) in
-    ap (λ w. gotAs w (c .before .before .parts-into .result)) (model-whole s x y z os refl k₁ (c .before .before .parts-into .ensures .1) (small .most)) ∙ e
+    (ap (λ w. gotAs w (c .before .before .parts-into .result)) (model-whole s x y z os refl k₁ (c .before .before .parts-into .ensures .1) (small .most)) ∙ e, kept-then (kept-wider (omega arith) (omega arith) (c .before .before .before .before .before .before .before .before .before .before .before .before .before .before .before .before .before .before .before .totals-into .ensures .1)) (kept-then (kept-wider (omega arith) (omega arith) (k₁)) (kept-wider (omega arith) (omega arith) (c .before .before .parts-into .ensures .1))))
 
 pub body-into-spec : {M : Type 1} → statement M
 body-into-spec =

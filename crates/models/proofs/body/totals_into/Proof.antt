@@ -11,6 +11,7 @@ use Rattle.formats.proofs.FieldLaws.{range-read}
 use Rattle.models.proofs.BodyLaws.{totals-first, totals-second, totals-third, totals-read, totals-put}
 use Rattle.models.proofs.body.totals_into.Statement.{statement}
 use Rattle.models.proofs.body.totals_into.Tie as tie
+use Rattle.models.proofs.IndexLaws.{kept-none, kept-set, kept-then}
 
 byte-within-requires : tie.Need-byte-within-requires
 byte-within-requires c κs = search needs
@@ -90,7 +91,7 @@ returns : tie.Need-returns
 unfolding gotAs
 returns c =
     let a = c .before .before .before .before .before .before .args in
-    sym (totals-first (now (a .s)) (a .at) (c .before .number .given .0 .0) (c .before .number .given .0 .1 .0) (sym (c .before .before .before .byte-within .ensures) ∙ field-refused (c .before .number .given .1)))
+    (sym (totals-first (now (a .s)) (a .at) (c .before .number .given .0 .0) (c .before .number .given .0 .1 .0) (sym (c .before .before .before .byte-within .ensures) ∙ field-refused (c .before .number .given .1))), kept-none 0 3 (now (a .index)))
 
 returns-2 : tie.Need-returns-2
 unfolding gotAs
@@ -100,7 +101,7 @@ returns-2 c =
     let n = c .before .before .before .before .before .variables .given .0 .0 in
     let second = c .before .before .before .before .before .variables .given .0 .1 .0 in
     let one : within 1 8 u8 s (a .at) ≡ got n second = sym (c .before .before .before .before .before .before .before .byte-within .ensures) ∙ field-value (c .before .before .before .before .before .variables .given .1) in
-    sym (totals-second s (a .at) n second one (c .before .number2 .given .0 .0) (c .before .number2 .given .0 .1 .0) (sym (c .before .before .before .byte-within2 .ensures) ∙ field-refused (c .before .number2 .given .1)))
+    (sym (totals-second s (a .at) n second one (c .before .number2 .given .0 .0) (c .before .number2 .given .0 .1 .0) (sym (c .before .before .before .byte-within2 .ensures) ∙ field-refused (c .before .number2 .given .1))), kept-none 0 3 (now (a .index)))
 
 returns-3 : tie.Need-returns-3
 unfolding gotAs
@@ -113,7 +114,7 @@ returns-3 c =
     let k = c .before .before .before .before .before .components .given .0 .0 in
     let third = c .before .before .before .before .before .components .given .0 .1 .0 in
     let two : within 1 4 u8 s second ≡ got k third = sym (c .before .before .before .before .before .before .before .byte-within2 .ensures) ∙ field-value (c .before .before .before .before .before .components .given .1) in
-    sym (totals-third s (a .at) n second one k third two (c .before .number3 .given .0 .0) (c .before .number3 .given .0 .1 .0) (sym (c .before .before .before .byte-within3 .ensures) ∙ field-refused (c .before .number3 .given .1)))
+    (sym (totals-third s (a .at) n second one k third two (c .before .number3 .given .0 .0) (c .before .number3 .given .0 .1 .0) (sym (c .before .before .before .byte-within3 .ensures) ∙ field-refused (c .before .number3 .given .1))), kept-none 0 3 (now (a .index)))
 
 same-length : tie.Need-same-length
 same-length c = search needs
@@ -132,7 +133,7 @@ returns-4 c =
     let u = c .before .conditions .given .0 .0 in
     let next = c .before .conditions .given .0 .1 .0 in
     let three : within 0 16 u8 s third ≡ got u next = sym (c .before .before .before .byte-within3 .ensures) ∙ field-value (c .before .conditions .given .1) in
-    ap (λ w. got w next) (totals-put (now (a .index)) n k u (omega (arith, c .before .before .before .before .before .before .before .before .before .before .before .before .before .before .pre))) ∙ sym (totals-read s (a .at) n second one k third two u next three)
+    (ap (λ w. got w next) (totals-put (now (a .index)) n k u (omega (arith, c .before .before .before .before .before .before .before .before .before .before .before .before .before .before .pre))) ∙ sym (totals-read s (a .at) n second one k third two u next three), kept-then (kept-set 0 3 (now (a .index)) 0 n (omega arith) (omega arith)) (kept-then (kept-set 0 3 (set (now (a .index)) 0 n) 1 k (omega arith) (omega arith)) (kept-set 0 3 (set (set (now (a .index)) 0 n) 1 k) 2 u (omega arith) (omega arith))))
 
 pub totals-into-spec : {M : Type 1} → statement M
 totals-into-spec =

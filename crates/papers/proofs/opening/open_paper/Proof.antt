@@ -24,7 +24,7 @@ on-model-requires c κs =
     let into = c .before .before .before in
     let s = now (into .before .before .before .before .args .model) in
     let told = c .before .number .given in
-    model-placed examLimits s (told .0 .0) (told .0 .1 .0) (told-refused (modelFrom s (into .model-into .last .1 .0)) (readModel examLimits s) (into .model-into .ensures) (told .1))
+    model-placed examLimits s (told .0 .0) (told .0 .1 .0) (told-refused (modelFrom s (into .model-into .last .1 .0)) (readModel examLimits s) (into .model-into .ensures .0) (told .1))
 
 enum-told : tie.Need-enum-told
 enum-told c = search needs
@@ -58,9 +58,12 @@ returns c =
     let a = into .before .before .before .before .args in
     let s = now (a .model) in
     let told = c .before .before .number .given in
-    let e : readModel examLimits s ≡ refused (told .0 .0) (told .0 .1 .0) = told-refused (modelFrom s (into .model-into .last .1 .0)) (readModel examLimits s) (into .model-into .ensures) (told .1) in (
+    let e : readModel examLimits s ≡ refused (told .0 .0) (told .0 .1 .0) = told-refused (modelFrom s (into .model-into .last .1 .0)) (readModel examLimits s) (into .model-into .ensures .0) (told .1) in (
       c .on-model .ensures ∙ opened-model examLimits (a .kind) s (now (a .second)) (told .0 .0) (told .0 .1 .0) e,
-      λ z. absurd (refuses (told .0 .0) 0 (told .0 .1 .0) 0 0 (c .on-model .ensures) (model-number examLimits (a .kind) s (now (a .second)) (told .0 .0) (told .0 .1 .0) e) z),
+      (
+        into .model-into .ensures .1,
+        λ z. absurd (refuses (told .0 .0) 0 (told .0 .1 .0) 0 0 (c .on-model .ensures) (model-number examLimits (a .kind) s (now (a .second)) (told .0 .0) (told .0 .1 .0) e) z),
+      ),
     )
 
 returns-2 : tie.Need-returns-2
@@ -72,10 +75,13 @@ returns-2 c =
     let m = modelFrom s (into .model-into .last .1 .0) in
     let read = h .before .enum-told .given in
     let told = c .before .before .number2 .given in
-    let e : readModel examLimits s ≡ got m (read .0 .0) = told-at m (readModel examLimits s) (into .model-into .ensures) (read .1) in
+    let e : readModel examLimits s ≡ got m (read .0 .0) = told-at m (readModel examLimits s) (into .model-into .ensures .0) (read .1) in
     let d : header (a .kind) (now (a .second)) 0 ≡ refused (told .0 .0) (told .0 .1 .0) = sym (h .header .ensures) ∙ field-refused (told .1) in (
       c .on-second .ensures ∙ opened-second examLimits (a .kind) s (now (a .second)) m (read .0 .0) (told .0 .0) (told .0 .1 .0) e d,
-      λ z. absurd (refuses (told .0 .0) 1 (told .0 .1 .0) 0 0 (c .on-second .ensures) (header-number (a .kind) (now (a .second)) (told .0 .0) (told .0 .1 .0) d) z),
+      (
+        into .model-into .ensures .1,
+        λ z. absurd (refuses (told .0 .0) 1 (told .0 .1 .0) 0 0 (c .on-second .ensures) (header-number (a .kind) (now (a .second)) (told .0 .0) (told .0 .1 .0) d) z),
+      ),
     )
 
 returns-3 : tie.Need-returns-3
@@ -87,10 +93,13 @@ returns-3 c =
     let index = into .model-into .last .1 .0 in
     let read = h .before .enum-told .given in
     let told = c .before .before .body .given in
-    let e : readModel examLimits s ≡ got (modelFrom s index) (read .0 .0) = told-at (modelFrom s index) (readModel examLimits s) (into .model-into .ensures) (read .1) in
+    let e : readModel examLimits s ≡ got (modelFrom s index) (read .0 .0) = told-at (modelFrom s index) (readModel examLimits s) (into .model-into .ensures .0) (read .1) in
     let d : header (a .kind) (now (a .second)) 0 ≡ got (told .0 .0) (told .0 .1 .0) = sym (h .header .ensures) ∙ field-value (told .1) in (
       c .on-second2 .ensures ∙ opened-both examLimits (a .kind) s (now (a .second)) (modelFrom s index) (read .0 .0) (told .0 .0) (told .0 .1 .0) e d,
-      λ z. is-open (a .kind) s index (now (a .second)) (read .0 .0) (told .0 .0) (told .0 .1 .0) e d,
+      (
+        into .model-into .ensures .1,
+        λ z. is-open (a .kind) s index (now (a .second)) (read .0 .0) (told .0 .0) (told .0 .1 .0) e d,
+      ),
     )
 
 pub open-paper-spec : {M : Type 1} → statement M

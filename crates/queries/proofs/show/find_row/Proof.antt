@@ -6,7 +6,7 @@ use Rattle.formats.specs.ModelSheet.{examLimits}
 use Rattle.queries.specs.declared.Told.{Told}
 use Rattle.rules.specs.Beside.{findHypothesis}
 use Rattle.queries.specs.Finding.{toldFor, rowFound, RowInside}
-use Rattle.queries.proofs.ShowLaws.{row-inside}
+use Rattle.queries.proofs.ShowLaws.{row-inside, row-tells}
 use Rattle.queries.proofs.show.find_row.Statement.{statement}
 use Rattle.queries.proofs.show.find_row.Tie as tie
 
@@ -20,7 +20,7 @@ returns c =
     let model = now (a .model) in
     let second = now (a .second) in
     let same : c .tell .result .row ≡ rowFound (findHypothesis examLimits model second (a .o) (a .h)) = ap (λ (t : Told). t .row) (c .tell .ensures) in
-    (same, subst (RowInside model second) (sym same) (row-inside examLimits model second (a .o) (a .h)))
+    (same, (subst (RowInside model second) (sym same) (row-inside examLimits model second (a .o) (a .h)), row-tells examLimits model second (a .o) (a .h) (c .tell .result .row) same))
 
 pub find-row-spec : {M : Type 1} → statement M
 find-row-spec =

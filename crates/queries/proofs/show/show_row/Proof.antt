@@ -34,7 +34,7 @@ part-result-end c =
     let a = c .before .before .before .before .before .before .args in
     let told = c .before .place .given in
     let found = c .before .before .before .find-row in
-    inside-model examLimits (now (a .model)) (now (a .second)) (a .o) (a .h) (found .ensures .0) (found .ensures .1) [] (told .0 .0) (told .0 .1 .0) (told .1)
+    inside-model examLimits (now (a .model)) (now (a .second)) (a .o) (a .h) (found .ensures .0) (found .ensures .1 .0) [] (told .0 .0) (told .0 .1 .0) (told .1)
 
 enum-known-place-2 : tie.Need-enum-known-place-2
 enum-known-place-2 c = search needs
@@ -59,7 +59,7 @@ part-result-end-2 c =
     let a = c .before .before .before .before .before .before .args in
     let told = c .before .place2 .given in
     let found = c .before .before .before .find-row in
-    inside-second examLimits (now (a .model)) (now (a .second)) (a .o) (a .h) (found .ensures .0) (found .ensures .1) [] (told .0 .0) (told .0 .1 .0) (told .1)
+    inside-second examLimits (now (a .model)) (now (a .second)) (a .o) (a .h) (found .ensures .0) (found .ensures .1 .0) [] (told .0 .0) (told .0 .1 .0) (told .1)
 
 enum-told : tie.Need-enum-told
 enum-told c = search needs
@@ -90,28 +90,28 @@ returns c =
     let a = c .before .before .before .before .before .before .before .args in
     let told = c .before .before .place .given in
     let found = c .before .before .before .before .find-row in
-    shown-in-model examLimits (now (a .model)) (now (a .second)) (a .o) (a .h) (found .ensures .0) (found .ensures .1) _ (told .0 .0) (told .0 .1 .0) (told .1) (part-size (now (a .model)) (told .0 .0) (told .0 .1 .0))
+    shown-in-model examLimits (now (a .model)) (now (a .second)) (a .o) (a .h) (found .ensures .0) (found .ensures .1 .0) _ (told .0 .0) (told .0 .1 .0) (told .1) (part-size (now (a .model)) (told .0 .0) (told .0 .1 .0))
 
 returns-2 : tie.Need-returns-2
 returns-2 c =
     let a = c .before .before .before .before .before .before .before .args in
     let told = c .before .before .place2 .given in
     let found = c .before .before .before .before .find-row in
-    shown-in-second examLimits (now (a .model)) (now (a .second)) (a .o) (a .h) (found .ensures .0) (found .ensures .1) _ (told .0 .0) (told .0 .1 .0) (told .1) (part-size (now (a .second)) (told .0 .0) (told .0 .1 .0))
+    shown-in-second examLimits (now (a .model)) (now (a .second)) (a .o) (a .h) (found .ensures .0) (found .ensures .1 .0) _ (told .0 .0) (told .0 .1 .0) (told .1) (part-size (now (a .second)) (told .0 .0) (told .0 .1 .0))
 
 returns-3 : tie.Need-returns-3
 returns-3 c =
     let a = c .before .before .before .before .before .before .args in
     let told = c .before .enum-told .given in
     let found = c .before .before .before .find-row in
-    shown-nowhere examLimits (now (a .model)) (now (a .second)) (a .o) (a .h) (found .ensures .0) (found .ensures .1) [] (told .1) refl
+    shown-nowhere examLimits (now (a .model)) (now (a .second)) (a .o) (a .h) (found .ensures .0) (found .ensures .1 .0) [] (told .1) refl
 
 returns-4 : tie.Need-returns-4
 returns-4 c =
     let a = c .before .before .before .before .before .before .args in
     let told = c .before .enum-told2 .given in
     let found = c .before .before .before .find-row in
-    shown-refused examLimits (now (a .model)) (now (a .second)) (a .o) (a .h) (found .ensures .0) (found .ensures .1) [] (told .0 .0) (told .0 .1 .0) (told .0 .1 .1 .0) (told .1) refl
+    shown-refused examLimits (now (a .model)) (now (a .second)) (a .o) (a .h) (found .ensures .0) (found .ensures .1 .0) [] (told .0 .0) (told .0 .1 .0) (told .0 .1 .1 .0) (told .1) refl
 
 pub show-row-spec : {M : Type 1} → statement M
 show-row-spec =

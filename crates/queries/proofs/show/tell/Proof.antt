@@ -34,14 +34,14 @@ returns c =
 
 tell-body-requires : tie.Need-tell-body-requires
 tell-body-requires c κs =
-    let w = c .before .before .before .open-paper .ensures .1 (c .before .if1 .left) in
+    let w = c .before .before .before .open-paper .ensures .1 .1 (c .before .if1 .left) in
     (w .accepted, (w .bodied, w .brief))
 
 returns-2 : tie.Need-returns-2
 returns-2 c =
     let o = c .before .before .before .before in
     let a = o .before .before .before .before .args in
-    c .tell-body .ensures ∙ told-open (now (a .model)) (now (a .second)) (a .o) (a .h) (o .open-paper .ensures .1 (c .before .before .if1 .left))
+    c .tell-body .ensures ∙ told-open (now (a .model)) (now (a .second)) (a .o) (a .h) (o .open-paper .ensures .1 .1 (c .before .before .if1 .left))
 
 pub tell-spec : {M : Type 1} → statement M
 tell-spec =

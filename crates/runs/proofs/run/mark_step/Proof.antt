@@ -52,7 +52,7 @@ step-allowed-requires c κs =
     let call = c .before .before .before .before .before .before .before .before .step in
     let told = c .before .before .before .told2 .given in
     let known = step-known (p .0) (now (a .s)) (a .run .place) (call .result) (told .0 .0) (told .0 .1 .0) (call .ensures .1) (told .1) in
-    (p .0, (known .0, ((p .1 .0 .stands, (p .1 .1 .0, (p .1 .0 .small, known .1))), (c .modes-after .ensures, c .before .location-after .ensures .0))))
+    (p .0, (known .0, ((p .1 .0 .stands, (p .1 .1 .0, (p .1 .0 .small, known .1))), (c .modes-after .ensures .1, c .before .location-after .ensures .0))))
 
 stopped-at-requires-2 : tie.Need-stopped-at-requires-2
 stopped-at-requires-2 c κs = search needs
@@ -115,7 +115,7 @@ returns-3 c =
     let modes = c .before .before .before .modes-after in (
       mark-passed m index (a .q) (a .run .location) (a .run .modes) (a .run .values) s (a .run .place) (a .run .done) t (told .0 .1 .0) reads (there .result) (modes .result) (call .result .values) passes (step-after m index (a .run .location) (there .result) (entry index 1) (told .0 .0) (a .run .values) (call .result .values) (there .ensures .0)),
       record {
-        stands = modes .ensures;
+        stands = modes .ensures .1;
         small = known .1;
         placed = step-placed m index (a .q) (a .run .location) (a .run .modes) (a .run .values) s (a .run .place) (a .run .done) t (told .0 .1 .0) (p .1 .0 .placed) reads;
       },

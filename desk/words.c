@@ -1,0 +1,69 @@
+#include "words.h"
+
+#include <inttypes.h>
+#include <stdio.h>
+
+/* By the number of the answer. */
+static const char *const meanings[] = {
+    "accepted",
+    "the sheet has under 4 or over 32,768 bytes, or its first two bytes do not say how many follow",
+    "the sheet's version is not 1",
+    "the sheet is of another kind",
+    "the sheet ends inside a field, or has bytes left after its last field",
+    "a field, or a number given to the desk, is outside its range",
+    "a switch has an event that is not in its component's alphabet",
+    "the model has over 64 locations",
+    "the model has over 4,096 joint switches",
+    "a proof's hypotheses are not ascending",
+    "a proof's coefficients do not sum to k times the goal's",
+    "a proof's bound fails",
+    "the run's start is not allowed",
+    "a step is not allowed",
+    "the run does not end in an unsafe state",
+    "the table is too short",
+};
+
+void print_refusal(const struct silfoddra_answer *answer, const struct sheet *model, const struct sheet *second)
+{
+    const char *meaning = answer->number < sizeof meanings / sizeof *meanings ? meanings[answer->number] : "an unknown number";
+    printf("Refused (%" PRIu32 "): %s.\n", answer->number, meaning);
+    if (answer->sheet == 2)
+        printf("Place: the numbers given to the desk.\n");
+    else
+        printf("Place: %s, byte %" PRIu32 ".\n", answer->sheet == 0 ? model->name : second->name, answer->place);
+}
+
+void print_location(const struct sheet *model, uint32_t location)
+{
+    uint32_t modes[MOST_COMPONENTS];
+    model_modes(model, location, modes);
+    printf("location %" PRIu32 " = modes", location);
+    for (size_t k = 0; k < model_components(model); k++)
+        printf(" %" PRIu32, modes[k]);
+}
+
+void print_event(const struct sheet *model, uint8_t event, const uint8_t switches[MOST_COMPONENTS])
+{
+    printf("event %u, switches", event);
+    for (size_t k = 0; k < model_components(model); k++) {
+        if (switches[k] == STAYS)
+            printf(" -");
+        else
+            printf(" %u", switches[k]);
+    }
+}
+
+void print_joint(const struct sheet *model, const struct silfoddra_joint *joint)
+{
+    print_location(model, joint->source);
+    printf(", ");
+    print_event(model, joint->event, joint->switches);
+    printf(", to ");
+    print_location(model, joint->target);
+    printf(".\n");
+}
+
+char variable_letter(size_t variable)
+{
+    return "abcdefgh"[variable % MOST_VARIABLES];
+}

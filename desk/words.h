@@ -1,0 +1,26 @@
+/* What the desk says about every paper, on standard output. */
+#ifndef DESK_WORDS_H
+#define DESK_WORDS_H
+
+#include "marker.h"
+#include "model.h"
+#include "sheet.h"
+
+/* Why a paper is refused, and the place. */
+void print_refusal(const struct silfoddra_answer *answer, const struct sheet *model, const struct sheet *second);
+
+/* The rest is said of a model that the marker does not refuse. */
+
+/* A location by its number and its modes, component 0 first. */
+void print_location(const struct sheet *model, uint32_t location);
+
+/* An event and the switch of each component, - for one that stays. */
+void print_event(const struct sheet *model, uint8_t event, const uint8_t switches[MOST_COMPONENTS]);
+
+/* A joint switch: its source, its event and switches, its target. */
+void print_joint(const struct sheet *model, const struct silfoddra_joint *joint);
+
+/* The letter that stands for a variable. */
+char variable_letter(size_t variable);
+
+#endif
