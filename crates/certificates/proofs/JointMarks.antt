@@ -12,10 +12,9 @@ use Rattle.formats.specs.Reading.{Got, got, refused}
 use Rattle.formats.specs.Rows.{Condition}
 use Rattle.formats.specs.Model.{Component, Model}
 use Rattle.formats.specs.Locations.{locationCount, modesAt, locationOf}
-use Rattle.formats.specs.Joint.{countUp, joinAll, switchesOf, modesAfter, JointSwitch, jointsOf, joints}
+use Rattle.formats.specs.Joint.{countUp, joinAll, switchesOf, modesAfter, JointSwitch, jointsOf, joints, jointFrom}
 use Rattle.models.specs.Index.{entry, componentsFrom, modelFrom}
 use Rattle.second_sheets.specs.CertificateAnswers.{regionsFrom}
-use Rattle.formats.proofs.Joint.{jointFrom}
 use Rattle.formats.proofs.JointCounts.{event-length}
 use Rattle.model_sheets.proofs.JointLoops.{record-at}
 use Rattle.certificates.specs.declared.Marking as declared

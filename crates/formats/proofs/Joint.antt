@@ -10,8 +10,8 @@ use lib.Dec.{T, ltb, eqb, ltb→lt, eqb→eq}
 use lib.ListN.{length}
 use borrow.Author.Tests.{eqb-true}
 use Rattle.formats.specs.Model.{Component, hasEvent}
-use Rattle.formats.specs.Locations.{locationCount, modesAt, locationOf}
-use Rattle.formats.specs.Joint.{stays, switchOf, leaves, moves, bit, scopeMask, moverCount, partIn, membersMove, allStay, oneMoves, isJoint, modesAfter, JointSwitch, leaving, allStaying, silent, inFront, together, switchesOf, countUp, joinAll, jointsOf, joints}
+use Rattle.formats.specs.Locations.{locationCount, modesAt}
+use Rattle.formats.specs.Joint.{jointFrom, stays, switchOf, leaves, moves, bit, scopeMask, moverCount, partIn, membersMove, allStay, oneMoves, isJoint, modesAfter, leaving, allStaying, silent, inFront, together, switchesOf, countUp, joinAll, jointsOf, joints}
 use Rattle.farkas.specs.Lists.{All, none, more}
 use Rattle.formats.proofs.Gives.{and-left, and-right}
 use Rattle.formats.proofs.Members.{all-below, in-map, in-joined, in-count, in-numbers}
@@ -144,11 +144,6 @@ joint-event n components modes (suc e) switches g t =
     (λ h. h)
     (λ z. absurd (none-move components (suc e) z (and-left some move t)))
     (event-or-none n components modes (suc e) switches g (and-right some move t))
-
--- a joint switch by the test, as a record of the list
-unfoldable pub jointFrom : List Component → ℕ → ℕ → List ℕ → JointSwitch
-jointFrom components location e switches =
-    record { source = location; event = e; switches = switches; target = locationOf components (modesAfter components (modesAt components location) switches) }
 
 -- the list has every joint switch
 pub joint-listed : (n : ℕ) (components : List Component) (location e : ℕ) (switches : List ℕ) → All (GoodComponent n) components → location < locationCount components → T (isJoint components (modesAt components location) e switches) → List·Memᴰ (jointFrom components location e switches) (joints components)

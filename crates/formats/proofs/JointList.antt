@@ -11,14 +11,14 @@ use lib.ListN.{length, getD}
 use borrow.Author.Tests.{ne-eqb}
 use Rattle.formats.specs.Model.{Component, hasEvent}
 use Rattle.formats.specs.Locations.{locationCount, modesAt, locationOf}
-use Rattle.formats.specs.Joint.{stays, switchOf, leaves, moves, moverCount, partIn, membersMove, allStay, oneMoves, isJoint, modesAfter, JointSwitch, leaving, allStaying, silent, inFront, together, switchesOf, countUp, joinAll, jointsOf, joints}
+use Rattle.formats.specs.Joint.{stays, switchOf, leaves, moves, moverCount, partIn, membersMove, allStay, oneMoves, isJoint, modesAfter, JointSwitch, leaving, allStaying, silent, inFront, together, switchesOf, countUp, joinAll, jointsOf, joints, jointFrom}
 use Rattle.farkas.specs.Lists.{All, none, more}
 use Rattle.farkas.proofs.All.{all-append}
 use Rattle.formats.proofs.Gives.{and-left, and-right}
 use Rattle.formats.proofs.Members.{all-in, count-in, numbers-in}
 use Rattle.formats.proofs.WellFormed.{GoodComponent}
 use Rattle.formats.proofs.Locations.{Modes, no-modes, mode-and, HaveModes, modes-at, location-of, modes-of}
-use Rattle.formats.proofs.Joint.{jointFrom, joint-listed, joint-known, modes-after}
+use Rattle.formats.proofs.Joint.{joint-listed, joint-known, modes-after}
 use Rattle.formats.proofs.JointOrder.{all-mapped, all-joined, Sorted, sorted-none, sorted-and, sorted-append, sorted-map, sorted-joined, sorted-count, sorted-numbers, sorted-at, Lex, lex-now, lex-later, lex-itself, mover, moverSwitch, ByMover, Before, by-location, by-event, by-switches, before-apart}
 
 and-both : (a b : Bool) → T a → T b → T (a && b)

@@ -143,3 +143,8 @@ jointsOf components location e =
 -- "Joint switches are listed by location, then event"; labels are 0..15
 unfoldable pub joints : List Component → List JointSwitch
 joints components = joinAll (λ location. joinAll (jointsOf components location) (countUp 0 16)) (countUp 0 (locationCount components))
+
+-- a joint switch by the test, as a record of the list
+unfoldable pub jointFrom : List Component → ℕ → ℕ → List ℕ → JointSwitch
+jointFrom components location e switches =
+    record { source = location; event = e; switches = switches; target = locationOf components (modesAfter components (modesAt components location) switches) }

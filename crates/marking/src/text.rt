@@ -92,7 +92,7 @@ fn put_line(text: &mut [u8], line: Line) -> usize
 
 // What the program prints for any input, written from the start of a lent buffer. How many bytes it has; bytes past them stay.
 pub fn mark_text(input: &[u8], text: &mut [u8]) -> usize
-    ensures { λ r. ⌜ Written (now (text .entry)) (now (text .exit)) (printed (now (input .entry))) r ⌝ }
+    ensures { λ r. ⌜ (r ≡ length (printed (now (input .entry)))) × (now (text .exit) ≡ over (now (text .entry)) 0 (printed (now (input .entry)))) ⌝ }
     ensures { λ r. ⌜ r ≤ 63 ⌝ }
 {
     put_line(text, mark_input(input))

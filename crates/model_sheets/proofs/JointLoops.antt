@@ -14,14 +14,14 @@ use lib.Seq.{drop-cons, getD-take, take-at, take-take, length-take-le}
 use Rattle.farkas.specs.Lists.{All, none, more}
 use Rattle.formats.specs.Model.{Component, hasEvent}
 use Rattle.formats.specs.Locations.{locationCount, modesAt, locationOf}
-use Rattle.formats.specs.Joint.{stays, switchOf, bit, scopeMask, moverCount, isJoint, modesAfter, leaving, allStaying, silent, together, switchesOf, countUp, joinAll, JointSwitch, jointsOf, joints, fourSwitches}
+use Rattle.formats.specs.Joint.{stays, switchOf, bit, scopeMask, moverCount, isJoint, modesAfter, leaving, allStaying, silent, together, switchesOf, countUp, joinAll, JointSwitch, jointsOf, joints, fourSwitches, jointFrom}
 use Rattle.models.specs.Index.{entry, componentsFrom, GoodIndex}
 use Rattle.models.specs.Counts.{componentAt, perComponent, KnownSwitches}
 use Rattle.formats.specs.Parts.{parts}
 use Rattle.formats.proofs.WellFormed.{GoodComponent}
 use Rattle.formats.proofs.Locations.{HaveModes, count-positive}
 use Rattle.formats.proofs.Members.{in-map, in-joined, in-count}
-use Rattle.formats.proofs.Joint.{jointFrom, Known, no-numbers, number-and}
+use Rattle.formats.proofs.Joint.{Known, no-numbers, number-and}
 use Rattle.formats.proofs.JointList.{listed-joint}
 use Rattle.models.proofs.GoodIndexLaws.{components-length, component-at, switch-length, components-drop, components-back, components-end, good-component, good-components, few-components}
 use Rattle.formats.proofs.JointCounts.{count-most, mask-below, silent-length, silent-most, together-length, together-most, left-positive, together-some, mapped-at, silent-now, silent-later, modes-digit, together-digit, jointsIn, location-length}

@@ -1,8 +1,8 @@
 -- A tally of switches: what the loops that make it keep up, and the counts of joint switches from it. Assumes nothing.
 use mathlib.Core.Path.{_≡_, refl, sym, ap, ap₂, _∙_}
-use mathlib.Core.Bool.{Bool, true, false, cond, _&&_}
+use mathlib.Core.Bool.{cond, _&&_}
 use mathlib.Core.List.{List, [], _∷_, _++_, map}
-use Prim.Native.Nat.{ℕ, zero, suc, _+_, _*_, _-_, _/_, _%_, _≤_, _<_}
+use Prim.Native.Nat.{ℕ, zero, suc, _+_, _*_, _/_, _%_, _≤_, _<_}
 use native.Mathlib.Nat.{lt-irrefl}
 use native.Mathlib.Decide.{ℕ-discrete, decLe}
 use native.Mathlib.Omega.{arith}
@@ -12,19 +12,18 @@ use lib.Dec.{eqb}
 use lib.ListN.{length, getD, drop, set, replicate}
 use lib.Seq.{getD-set-same, getD-set-other, getD-take}
 use Rattle.farkas.specs.Lists.{All, none, more}
-use Rattle.formats.specs.Model.{Component, hasEvent}
+use Rattle.formats.specs.Model.{Component}
 use Rattle.formats.specs.Locations.{locationCount, modesAt}
-use Rattle.formats.specs.Joint.{switchOf, leaves, bit, moverCount, leaving, together, switchesOf, countUp}
+use Rattle.formats.specs.Joint.{switchOf, leaves, bit, leaving, together, countUp}
 use Rattle.models.specs.Index.{entry, componentPlace, switchPlace, switchFrom, componentsFrom, GoodIndex, Kept}
 use Rattle.models.specs.Counts.{componentAt, perComponent}
-use Rattle.formats.specs.Parts.{memberCount}
 use Rattle.model_sheets.specs.Tally.{tallyPlace, tallyNumber, tallyOf, Blank, TalliedAt, Tallied, SmallModes}
 use Rattle.formats.proofs.WellFormed.{GoodComponent, GoodSwitch}
 use Rattle.formats.proofs.Members.{all-below}
 use Rattle.formats.proofs.Locations.{Modes, no-modes, mode-and, HaveModes, modes-at}
-use Rattle.models.proofs.GoodIndexLaws.{components-length, switch-length, switch-at, components-back, components-end, good-component, good-components, few-components}
-use Rattle.formats.proofs.JointCounts.{mask-members, leaving-few, leavingFrom, leaving-all, leaving-none, leaving-count, together-some}
-use Rattle.model_sheets.proofs.JointLoops.{componentsOn, per-component-modes}
+use Rattle.models.proofs.GoodIndexLaws.{components-length, switch-length, switch-at, good-component, good-components}
+use Rattle.formats.proofs.JointCounts.{leaving-few, leavingFrom, leaving-all, leaving-none, leaving-count, together-some}
+use Rattle.model_sheets.proofs.JointLoops.{per-component-modes}
 
 -- a table of zeros
 zero-at : (n p : ℕ) → getD {A = ℕ} (replicate n 0) p 0 ≡ 0
@@ -207,54 +206,11 @@ small-present {s} {index} location modes g h e = record {
 pub small-modes : {s index : List ℕ} (location : ℕ) (modes rest : List ℕ) → GoodIndex s index → location < locationCount (componentsFrom s index) → modes ≡ modesAt (componentsFrom s index) location ++ rest → SmallModes index modes
 small-modes {s} {index} location modes rest g h e = small-present location modes g h (per-component-modes s index location modes rest e)
 
--- how many components are in the scope
-one-at-most : (b : Bool) → bit b ≤ 1
-unfolding bit
-one-at-most true = omega arith
-one-at-most false = omega arith
-
-members-most : (components : List Component) (e : ℕ) → memberCount components e ≤ length components
-unfolding memberCount
-members-most [] e = omega arith
-members-most (c ∷ components) e = omega (arith, one-at-most (hasEvent (c .alphabet) e), members-most components e)
-
-module _ {s index : List ℕ} (g : GoodIndex s index) where
-  pub members-start : (e : ℕ) → 0 ≡ memberCount (componentsOn s index (entry index 1)) e
-  unfolding memberCount
-  members-start e = sym (ap (λ components. memberCount components e) (components-end s index))
-
-  pub members-go-on : (e k n members : ℕ) {b : Bool} → 0 < k → k ≤ entry index 1 → b ≡ hasEvent (componentAt s index (k - 1) .alphabet) e → n ≡ bit b → members ≡ memberCount (componentsOn s index k) e → n + members ≡ memberCount (componentsOn s index (k - 1)) e
-  unfolding memberCount
-  members-go-on e k n members h l p q r = rw (q ∙ ap bit p, r) (sym (ap (λ components. memberCount components e) (components-back s index k h l)))
-
-  pub members-few : (e k : ℕ) → memberCount (componentsOn s index k) e ≤ 4
-  members-few e k = omega (arith, members-most (componentsOn s index k) e, few-components g k)
-
--- the joint switches of an event from 1 on: none where no component is in the scope, else those of the members together
-pub none-in-scope : (components : List Component) (modes : List ℕ) (e members : ℕ) → 1 ≤ e → members ≡ memberCount components e → members ≡ 0 → 0 ≡ length (switchesOf components modes e)
-unfolding switchesOf
-none-in-scope components modes zero members h p q = absurd (omega arith)
-none-in-scope components modes (suc e) members h p q =
-    sym (ap (λ b. length (cond b [] (together components modes (suc e)))) (eq-eqb (moverCount components (suc e)) 0 (mask-members components (suc e) ∙ sym p ∙ q)))
-
-pub some-in-scope : (components : List Component) (modes : List ℕ) (e members : ℕ) → 1 ≤ e → members ≡ memberCount components e → (members ≡ 0 → ⊥) → switchesOf components modes e ≡ together components modes e
-unfolding switchesOf
-some-in-scope components modes zero members h p q = absurd (omega arith)
-some-in-scope components modes (suc e) members h p q =
-    ap (λ b. cond b [] (together components modes (suc e))) (ne-eqb (moverCount components (suc e)) 0 (λ r. q (p ∙ sym (mask-members components (suc e)) ∙ r)))
-
 -- none where the later components have none
-none-either : (b : Bool) (xs : List (List ℕ)) → length xs ≡ 0 → 0 ≡ length (cond b [] xs)
-none-either true xs h = refl
-none-either false xs h = sym h
-
 zero-too : (n m : ℕ) → (0 < n → 0 < m) → 0 ≡ m → n ≡ 0
 zero-too zero m f h = refl
 zero-too (suc n) m f h = absurd (omega (arith, f (omega arith)))
 
-pub none-later : (components : List Component) (modes : List ℕ) (e k : ℕ) → 1 ≤ e → 0 ≡ length (together (drop k components) (drop k modes) e) → 0 ≡ length (switchesOf components modes e)
-unfolding switchesOf
-none-later components modes zero k h p = absurd (omega arith)
-none-later components modes (suc e) k h p =
-    none-either (eqb (moverCount components (suc e)) 0) (together components modes (suc e))
-    (zero-too (length (together components modes (suc e))) (length (together (drop k components) (drop k modes) (suc e))) (together-some components modes (suc e) k) p)
+pub none-later : (components : List Component) (modes : List ℕ) (e k : ℕ) → 0 ≡ length (together (drop k components) (drop k modes) e) → 0 ≡ length (together components modes e)
+none-later components modes e k p =
+    sym (zero-too (length (together components modes e)) (length (together (drop k components) (drop k modes) e)) (together-some components modes e k) p)

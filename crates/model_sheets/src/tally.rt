@@ -1,9 +1,9 @@
 // A tally of a model's switches: how many each component has, by the mode that they leave and their label. It is made in one pass over
 // the switches, and then joint switches are counted from it, event by event, without another pass. The sheet is handed over for the
 // contracts.
-use crate::joints::bit_of;
 use crate::joints::component_count;
 use crate::joints::in_scope;
+use crate::joints::scope_mask;
 use crate::joints::switch_count;
 use models::layout::BLOCK_LENGTH;
 use models::layout::FIRST_BLOCK;
@@ -15,7 +15,7 @@ ghost use mathlib.Core.Path.{_≡_};
 ghost use Prim.Native.Nat.{_+_, _*_, _≤_, _<_};
 ghost use lib.ListN.{length};
 ghost use Rattle.formats.specs.Model.{hasEvent};
-ghost use Rattle.formats.specs.Joint.{switchOf, leaving, silent, switchesOf};
+ghost use Rattle.formats.specs.Joint.{switchOf, leaving, silent, together, switchesOf};
 ghost use Rattle.models.specs.Index.{entry, GoodIndex, componentsFrom, Kept, componentsIn};
 ghost use Rattle.models.specs.Counts.{componentAt, perComponent};
 ghost use Rattle.formats.specs.Parts.{parts};
@@ -125,16 +125,15 @@ fn silent_tallied(s: &[u8], index: &Index, table: &TallyTable, modes: [u8; 4]) -
     count
 }
 
-// How many joint switches an event from 1 on has: a product over the components, or none where no component is in the scope. It is over
-// with the first component that cannot take part.
+// In how many ways the components take part in an event: a product over the components. It is over with the first component that cannot
+// take part.
 fn together_tallied(s: &[u8], index: &Index, table: &TallyTable, modes: [u8; 4], e: u32) -> u32
     requires { ⌜ GoodIndex (now s) (now index) × Tallied (now s) (now index) (now table) ⌝ }
     requires { ⌜ SmallModes (now index) modes ⌝ }
-    requires { ⌜ (1 ≤ e) × (e ≤ 15) ⌝ }
-    ensures { λ r. ⌜ r ≡ length (switchesOf (componentsFrom (now (s .entry)) (now (index .entry))) (perComponent (now (index .entry)) modes) e) ⌝ }
+    requires { ⌜ e ≤ 15 ⌝ }
+    ensures { λ r. ⌜ r ≡ length (together (componentsFrom (now (s .entry)) (now (index .entry))) (perComponent (now (index .entry)) modes) e) ⌝ }
 {
     let mut count: u32 = 1;
-    let mut members: u32 = 0;
     let mut k = component_count(s, index);
     while 0 < k {
         k -= 1;
@@ -143,15 +142,11 @@ fn together_tallied(s: &[u8], index: &Index, table: &TallyTable, modes: [u8; 4],
         if count == 0 {
             return 0;
         }
-        members = bit_of(member) + members;
-    }
-    if members == 0 {
-        return 0;
     }
     count
 }
 
-// How many joint switches an event has in a location with these modes.
+// How many joint switches an event has in a location with these modes: none where the scope mask has no ones.
 pub fn tallied(s: &[u8], index: &Index, table: &TallyTable, modes: [u8; 4], e: u32) -> u32
     requires { ⌜ GoodIndex (now s) (now index) × Tallied (now s) (now index) (now table) ⌝ }
     requires { ⌜ SmallModes (now index) modes × (e ≤ 15) ⌝ }
@@ -159,6 +154,10 @@ pub fn tallied(s: &[u8], index: &Index, table: &TallyTable, modes: [u8; 4], e: u
 {
     if e == 0 {
         return silent_tallied(s, index, table, modes);
+    }
+    let mask = scope_mask(s, index, e);
+    if u32::count_ones(mask) == 0 {
+        return 0;
     }
     together_tallied(s, index, table, modes, e)
 }

@@ -18,11 +18,10 @@ use Rattle.fields.specs.Answers.{gotAs}
 use Rattle.formats.specs.Reading.{Got, got, refused}
 use Rattle.formats.specs.Model.{Component, Model}
 use Rattle.formats.specs.Locations.{locationCount, modesAt, locationOf}
-use Rattle.formats.specs.Joint.{switchesOf, modesAfter, JointSwitch, jointsOf, joints, countUp, joinAll, fourSwitches}
+use Rattle.formats.specs.Joint.{switchesOf, modesAfter, JointSwitch, jointsOf, joints, countUp, joinAll, fourSwitches, jointFrom}
 use Rattle.formats.specs.ModelSheet.{examLimits, readModel}
 use Rattle.models.specs.Index.{componentsFrom, modelFrom, GoodIndex}
 use Rattle.formats.proofs.Gives.{got-value}
-use Rattle.formats.proofs.Joint.{jointFrom}
 use Rattle.model_sheets.proofs.JointLoops.{switches-few, record-at}
 use Rattle.rules.specs.declared.Answer.{Answer}
 use Rattle.rules.specs.declared.Joint.{Joint}

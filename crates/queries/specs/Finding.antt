@@ -11,11 +11,10 @@ use Rattle.formats.specs.Reading.{Got, got, refused, _>>_, header}
 use Rattle.formats.specs.Rows.{Condition}
 use Rattle.formats.specs.Model.{Model}
 use Rattle.formats.specs.Locations.{locationCount, modesAt}
-use Rattle.formats.specs.Joint.{JointSwitch, switchesOf, joints, countUp, joinAll, jointsOf}
+use Rattle.formats.specs.Joint.{JointSwitch, switchesOf, joints, countUp, joinAll, jointsOf, jointFrom}
 use Rattle.models.specs.Index.{entry, componentsFrom, modelFrom}
 use Rattle.formats.specs.ModelSheet.{Limits, readModel}
 use Rattle.formats.specs.Certificate.{readRegions}
-use Rattle.formats.proofs.Joint.{jointFrom}
 use Rattle.queries.specs.declared.Which.{Which}
 use Rattle.queries.specs.declared.Told.{Told}
 use Rattle.queries.specs.declared.Spot.{Spot}

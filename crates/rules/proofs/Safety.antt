@@ -16,13 +16,13 @@ use Rattle.farkas.proofs.Promise.{same-means}
 use Rattle.formats.specs.Rows.{Condition}
 use Rattle.formats.specs.Model.{Model}
 use Rattle.formats.specs.Locations.{locationCount, modesAt}
-use Rattle.formats.specs.Joint.{stays, isJoint}
+use Rattle.formats.specs.Joint.{stays, isJoint, jointFrom}
 use Rattle.formats.specs.RunSheet.{Step, flow, jump}
 use Rattle.formats.proofs.Gives.{and-left, and-right}
 use Rattle.formats.proofs.Members.{all-members, numbers-in}
 use Rattle.formats.proofs.WellFormed.{Wide, GoodMode, WellFormed}
 use Rattle.formats.proofs.Locations.{HaveModes, modes-at, location-of}
-use Rattle.formats.proofs.Joint.{jointFrom, joint-listed, joint-known, modes-after}
+use Rattle.formats.proofs.Joint.{joint-listed, joint-known, modes-after}
 use Rattle.rules.specs.Runs.{State, conditionHolds, modesIn, admissible, startAllowed, ratesHold, stillAtZero, flowRule, movers, stayingVariables, stayingKept, jumpRows, jumpRule, after, ruleMet, stepAllowed, stepsAllowed, visited, modesFit, isUnsafe}
 use Rattle.rules.specs.Obligations.{onX, zeroOnly, regionOf, obligations}
 use Rattle.rules.proofs.Points.{from-next}

@@ -15,13 +15,13 @@ use Rattle.farkas.specs.declared.Row.{Row}
 use Rattle.formats.specs.Rows.{Condition}
 use Rattle.formats.specs.Model.{Component, Unsafe, Model}
 use Rattle.formats.specs.Locations.{locationCount, modesAt, locationOf}
-use Rattle.formats.specs.Joint.{bit, numbersFrom, modesAfter, switchesOf, JointSwitch, jointsOf, joints, countUp, joinAll, fourSwitches}
+use Rattle.formats.specs.Joint.{bit, numbersFrom, modesAfter, switchesOf, JointSwitch, jointsOf, joints, countUp, joinAll, fourSwitches, jointFrom}
 use Rattle.models.specs.Index.{entry, unsafePlace, unsafeFrom, componentsFrom, modelFrom, GoodIndex}
 use Rattle.models.specs.Counts.{perComponent, KnownSwitches}
 use Rattle.second_sheets.specs.CertificateAnswers.{regionsFrom}
 use Rattle.models.proofs.GoodIndexLaws.{counted-length, counted-drop, good-components}
 use Rattle.formats.proofs.Locations.{modes-at, location-of}
-use Rattle.formats.proofs.Joint.{jointFrom, Known, joint-known, modes-after}
+use Rattle.formats.proofs.Joint.{Known, joint-known, modes-after}
 use Rattle.formats.proofs.JointCounts.{numbers-length, event-length, jointsIn}
 use Rattle.model_sheets.proofs.JointLoops.{switches-few, per-component-modes, record-at, found-joint, four-known, four-first}
 use Rattle.rules.specs.Runs.{present, modesIn, modesFit}

@@ -21,7 +21,8 @@ unfolding printed
 returns c =
     let line = c .before .before .put-line in
     let mark = c .before .before .before .mark-input in
-    (written-so (ap textOf (mark .ensures)) (line .ensures .0), line .ensures .1)
+    let w = written-so (ap textOf (mark .ensures)) (line .ensures .0) in
+    ((w .sized, w .bytes), line .ensures .1)
 
 pub mark-text-spec : {M : Type 1} → statement M
 mark-text-spec = tie.close (tie.spec mark-input-requires put-line-requires same-length returns)

@@ -1,24 +1,22 @@
--- What has been counted are those of the components from here on, and how many of these are in the scope. Assumes nothing.
+-- What has been counted are those of the components from here on. Assumes nothing.
 use mathlib.Core.Path.{_≡_, sym, ap, _∙_}
 use Prim.Native.Nat.{ℕ, _-_, _<_, _≤_}
 use native.Mathlib.Omega.{arith}
-use borrow.Author.Needs.{needs}
 use denote.Ref.{now}
 use lib.Arith.{le-zero}
 use lib.ListN.{length}
 use Rattle.models.specs.Index.{entry, componentsFrom}
 use Rattle.models.specs.Counts.{perComponent}
-use Rattle.formats.specs.Parts.{memberCount}
-use Rattle.model_sheets.proofs.JointLoops.{componentsOn, numbersOn, togetherOn, together-few, together-starts, together-goes-on}
-use Rattle.model_sheets.proofs.TallyLaws.{members-start, members-go-on, members-few, none-in-scope, some-in-scope, none-later}
+use Rattle.model_sheets.proofs.JointLoops.{numbersOn, togetherOn, together-few, together-starts, together-goes-on}
+use Rattle.model_sheets.proofs.TallyLaws.{none-later}
 use Rattle.model_sheets.proofs.tally.together_tallied.Statement.{statement}
 use Rattle.model_sheets.proofs.tally.together_tallied.Tie as tie
 
 abbrev Inv-loop : tie.InvT-loop
-Inv-loop s index table e modes count₀ members₀ k₀ count members k = (k ≤ entry index 1) × (count ≡ length (togetherOn s index modes e k)) × (members ≡ memberCount (componentsOn s index k) e)
+Inv-loop s index table e modes count₀ k₀ count k = (k ≤ entry index 1) × (count ≡ length (togetherOn s index modes e k))
 
 abbrev μ-loop : tie.MeasureT-loop
-μ-loop s index table e modes count₀ members₀ k₀ count members k = k
+μ-loop s index table e modes count₀ k₀ count k = k
 
 component-count-requires : tie.Need-component-count-requires Inv-loop μ-loop
 component-count-requires c κs = c .before .pre .0 .0
@@ -29,7 +27,7 @@ loop-holds c =
     let g = c .before .before .pre .0 .0 in
     let long : entry (now (a .index)) 1 ≤ length (a .t4) = omega (arith, g .few, c .before .before .good .1 .1 .1 .0 .1 .0 .1) in
     let e = c .component-count .ensures in
-    (omega arith, rw e (together-starts g (a .t4) long (a .e)), rw e (members-start g (a .e)))
+    (omega arith, rw e (together-starts g (a .t4) long (a .e)))
 
 sub-k : tie.Need-sub-k Inv-loop μ-loop
 sub-k c = omega (arith, c .loop-test .taken)
@@ -37,7 +35,7 @@ sub-k c = omega (arith, c .loop-test .taken)
 in-scope-requires : tie.Need-in-scope-requires Inv-loop μ-loop
 in-scope-requires c κs =
     let p = c .before .before .before .before .pre in
-    (p .0 .0, (omega (arith, c .before .loop .inv .0, c .loop-test .taken), p .1 .1 .1))
+    (p .0 .0, (omega (arith, c .before .loop .inv .0, c .loop-test .taken), p .1 .1))
 
 array-read-part-tallied : tie.Need-array-read-part-tallied Inv-loop μ-loop
 array-read-part-tallied c =
@@ -48,7 +46,7 @@ part-tallied-requires c κs =
     let p = c .before .before .before .before .before .pre in
     let k = c .before .before .loop .k in
     let h : k - 1 < entry (now (c .before .before .before .before .before .args .index)) 1 = omega (arith, c .before .before .loop .inv .0, c .before .loop-test .taken) in
-    (p .0, ((h, (p .1 .0 .small (k - 1) h, p .1 .1 .1)), c .in-scope .ensures))
+    (p .0, ((h, (p .1 .0 .small (k - 1) h, p .1 .1)), c .in-scope .ensures))
 
 mul-count : tie.Need-mul-count Inv-loop μ-loop
 mul-count c =
@@ -69,53 +67,25 @@ returns c =
     let w = c .before .before .before .before .loop .inv in
     let k = c .before .before .before .before .loop .k in
     let turn = together-goes-on g (a .t4) long (a .e) k (c .before .part-tallied .result) (c .before .before .before .before .loop .count) (c .before .before .before .loop-test .taken) (w .0) (c .before .part-tallied .ensures) (w .1) in
-    none-later (componentsFrom (now (a .s)) (now (a .index))) (perComponent (now (a .index)) (a .t4)) (a .e) (k - 1) (p .1 .1 .0) (sym (c .if1 .taken) ∙ turn)
-
-bit-of-requires : tie.Need-bit-of-requires Inv-loop μ-loop
-bit-of-requires c κs = search needs
-
-add-members : tie.Need-add-members Inv-loop μ-loop
-add-members c =
-    let a = c .before .before .before .before .before .before .before .before .args in
-    let g = c .before .before .before .before .before .before .before .before .pre .0 .0 in
-    let w = c .before .before .before .before .before .loop .inv in
-    let k = c .before .before .before .before .before .loop .k in
-    let members = c .before .before .before .before .before .loop .members in
-    omega (arith, members-go-on g (a .e) k (c .bit-of .result) members (c .before .before .before .before .loop-test .taken) (w .0) (c .before .before .before .in-scope .ensures) (c .bit-of .ensures) (w .2), members-few g (a .e) (k - 1))
+    none-later (componentsFrom (now (a .s)) (now (a .index))) (perComponent (now (a .index)) (a .t4)) (a .e) (k - 1) (sym (c .if1 .taken) ∙ turn)
 
 loop-less : tie.Need-loop-less Inv-loop μ-loop
-loop-less c = omega (arith, c .before .before .before .before .loop-test .taken)
+loop-less c = omega (arith, c .before .before .before .loop-test .taken)
 
 loop-again : tie.Need-loop-again Inv-loop μ-loop
 loop-again c =
-    let a = c .before .before .before .before .before .before .before .before .args in
-    let g = c .before .before .before .before .before .before .before .before .pre .0 .0 in
-    let long : entry (now (a .index)) 1 ≤ length (a .t4) = omega (arith, g .few, c .before .before .before .before .before .before .before .before .good .1 .1 .1 .0 .1 .0 .1) in
-    let w = c .before .before .before .before .before .loop .inv in
-    let k = c .before .before .before .before .before .loop .k in
-    let h = c .before .before .before .before .loop-test .taken in (
-      omega (arith, w .0),
-      together-goes-on g (a .t4) long (a .e) k (c .before .before .part-tallied .result) (c .before .before .before .before .before .loop .count) h (w .0) (c .before .before .part-tallied .ensures) (w .1),
-      members-go-on g (a .e) k (c .bit-of .result) (c .before .before .before .before .before .loop .members) h (w .0) (c .before .before .before .in-scope .ensures) (c .bit-of .ensures) (w .2),
-    )
+    let a = c .before .before .before .before .before .before .before .args in
+    let g = c .before .before .before .before .before .before .before .pre .0 .0 in
+    let long : entry (now (a .index)) 1 ≤ length (a .t4) = omega (arith, g .few, c .before .before .before .before .before .before .before .good .1 .1 .1 .0 .1 .0 .1) in
+    let w = c .before .before .before .before .loop .inv in
+    let k = c .before .before .before .before .loop .k in
+    (omega (arith, w .0), together-goes-on g (a .t4) long (a .e) k (c .before .part-tallied .result) (c .before .before .before .before .loop .count) (c .before .before .before .loop-test .taken) (w .0) (c .before .part-tallied .ensures) (w .1))
 
 returns-2 : tie.Need-returns-2 Inv-loop μ-loop
 returns-2 c =
-    let a = c .before .before .before .before .before .args in
-    let components = componentsFrom (now (a .s)) (now (a .index)) in
-    let w = c .before .before .loop .inv in
-    let all : c .before .before .loop .members ≡ memberCount components (a .e) = w .2 ∙ ap (λ (k : ℕ). memberCount (componentsOn (now (a .s)) (now (a .index)) k) (a .e)) (le-zero (c .before .loop-test .left)) in
-    none-in-scope components (perComponent (now (a .index)) (a .t4)) (a .e) (c .before .before .loop .members) (c .before .before .before .before .before .pre .1 .1 .0) all (c .if2 .taken)
-
-returns-3 : tie.Need-returns-3 Inv-loop μ-loop
-returns-3 c =
-    let a = c .before .before .before .before .before .args in
-    let components = componentsFrom (now (a .s)) (now (a .index)) in
-    let w = c .before .before .loop .inv in
-    let end = le-zero (c .before .loop-test .left) in
-    let all : c .before .before .loop .members ≡ memberCount components (a .e) = w .2 ∙ ap (λ (k : ℕ). memberCount (componentsOn (now (a .s)) (now (a .index)) k) (a .e)) end in
-    rw (some-in-scope components (perComponent (now (a .index)) (a .t4)) (a .e) (c .before .before .loop .members) (c .before .before .before .before .before .pre .1 .1 .0) all (c .if2 .left))
-    (w .1 ∙ ap (λ (k : ℕ). length (togetherOn (now (a .s)) (now (a .index)) (a .t4) (a .e) k)) end)
+    let a = c .before .before .before .before .args in
+    c .before .loop .inv .1
+    ∙ ap (λ (k : ℕ). length (togetherOn (now (a .s)) (now (a .index)) (a .t4) (a .e) k)) (le-zero (c .loop-test .left))
 
 pub together-tallied-spec : {M : Type 1} → statement M
 together-tallied-spec =
@@ -131,9 +101,6 @@ together-tallied-spec =
     part-tallied-requires
     mul-count
     returns
-    bit-of-requires
-    add-members
     loop-less
     loop-again
-    returns-2
-    returns-3)
+    returns-2)

@@ -6,14 +6,13 @@ use native.Mathlib.Omega.{arith}
 use denote.Ref.{now}
 use lib.ListN.{length}
 use Rattle.formats.specs.Locations.{modesAt}
-use Rattle.formats.specs.Joint.{JointSwitch, switchesOf, jointsOf}
+use Rattle.formats.specs.Joint.{JointSwitch, switchesOf, jointsOf, jointFrom}
 use Rattle.models.specs.Index.{componentsFrom, modelFrom}
 use Rattle.rules.specs.Obligations.{jumpsObligations}
 use Rattle.papers.specs.Paper.{regionsOf}
 use Rattle.scores.specs.Counting.{targetRows}
 use Rattle.queries.specs.Finding.{oneAt, jointHere}
 use Rattle.papers.proofs.JoinedLaws.{joinedOn}
-use Rattle.formats.proofs.Joint.{jointFrom}
 use Rattle.scores.proofs.CountGoals.{counted-switches}
 use Rattle.queries.proofs.FindLaws.{event-each, joint-lines, joint-on, joint-counted, joint-first, joint-inside, joint-end}
 use Rattle.queries.proofs.find.find_listed.Statement.{statement}

@@ -8,7 +8,7 @@ use denote.Ref.{now}
 use lib.ListN.{length}
 use Rattle.formats.specs.Locations.{locationCount}
 use Rattle.models.specs.Index.{entry, componentsFrom, modelFrom}
-use Rattle.formats.proofs.Joint.{jointFrom}
+use Rattle.formats.specs.Joint.{jointFrom}
 use Rattle.rules.specs.Runs.{modesIn, movers, stayingVariables}
 use Rattle.rules.specs.Obligations.{Hypothesis, jumpHypotheses}
 use Rattle.papers.specs.Paper.{regionsOf}
