@@ -21,7 +21,7 @@ ghost use mathlib.Core.Path.{_≡_};
 ghost use Prim.Native.Nat.{_+_, _≤_, _<_};
 ghost use lib.ListN.{length};
 ghost use Rattle.formats.specs.Locations.{locationCount};
-ghost use Rattle.models.specs.Index.{entry, componentsFrom, GoodIndex, conditionsIn, variablesIn};
+ghost use Rattle.models.specs.Index.{entry, componentsFrom, conditionsIn, variablesIn};
 ghost use Rattle.models.specs.Counts.{perComponent, KnownSwitches};
 ghost use Rattle.hypotheses.specs.Tables.{linesIn};
 ghost use Rattle.hypotheses.specs.Listing.{rowSize, hereLines, startLines, flowLines, unsafeLines, jumpLines, tasksOf, GoodGroup, emptyGroup, regionGroup, groupTasksFor, jumpTasksFor};
@@ -29,8 +29,8 @@ ghost use Rattle.papers.specs.Standing.{KnownModes, Stands};
 ghost use Rattle.papers.specs.Paper.{GoodPaper};
 
 // How many bytes a row with a coefficient for each variable has.
-fn row_size(model: &[u8], index: &Index) -> usize
-    requires { ⌜ GoodIndex (now model) (now index) ⌝ }
+fn row_size(index: &Index) -> usize
+    requires { ⌜ variablesIn (now index) ≤ 8 ⌝ }
     ensures { λ r. ⌜ r ≡ rowSize (now (index .entry)) ⌝ }
 {
     4 * (index[VARIABLES_AT] as usize + 1)
@@ -51,7 +51,7 @@ fn push_here(
     requires { ⌜ 256 ≤ length (now table) ⌝ }
     ensures { λ r. ⌜ linesIn (now (table .exit)) r ≡ hereLines (now (index .entry)) (now (regions .entry)) location (perComponent (now (index .entry)) modes) ⌝ }
 {
-    let size = row_size(model, index);
+    let size = row_size(index);
     let at = push_kept(regions, 2 * (location as usize), 1, size, table, 0);
     push_modes(model, index, modes, INVARIANT_AT, 0, table, at)
 }
@@ -111,7 +111,7 @@ pub fn unsafe_table(
     ensures { λ r. ⌜ linesIn (now (table .exit)) r ≡ unsafeLines (now (index .entry)) (now (regions .entry)) location (perComponent (now (index .entry)) modes) u ⌝ }
 {
     let here = push_here(model, index, second, regions, location, modes, table);
-    let size = row_size(model, index);
+    let size = row_size(index);
     push_kept(
         index,
         FIRST_UNSAFE + UNSAFE_LENGTH * u + UNSAFE_ROWS_AT,

@@ -16,15 +16,14 @@ ghost use mathlib.Core.Bool.{_||_, false};
 ghost use Prim.Native.Nat.{_+_, _*_, _≤_, _<_};
 ghost use lib.Dec.{eqb};
 ghost use Rattle.farkas.specs.Lists.{every};
-ghost use Rattle.models.specs.Index.{entry, componentPlace, modePlace, componentsFrom, GoodIndex, switchPlace, componentsIn, conditionsIn, modeCountIn};
+ghost use Rattle.models.specs.Index.{entry, componentPlace, modePlace, componentsFrom, GoodIndex, switchPlace, conditionsIn};
 ghost use Rattle.models.specs.Counts.{perComponent, conditionAt};
 ghost use Rattle.rules.specs.Runs.{present, modesFit};
 ghost use Rattle.papers.specs.Standing.{KnownModes};
 
 // Whether a component's mode is a start mode.
-fn is_start(model: &[u8], index: &Index, k: usize, mode: u8) -> bool
-    requires { ⌜ GoodIndex (now model) (now index) ⌝ }
-    requires { ⌜ (k < componentsIn (now index)) × (mode < modeCountIn (now index) k) ⌝ }
+fn is_start(index: &Index, k: usize, mode: u8) -> bool
+    requires { ⌜ (k < 4) × (mode < 8) ⌝ }
     ensures { λ r. ⌜ r ≡ eqb (entry (now (index .entry)) (modePlace (componentPlace k) mode)) 1 ⌝ }
 {
     index[FIRST_BLOCK + BLOCK_LENGTH * k + FIRST_MODE + MODE_LENGTH * (mode as usize)] == 1
@@ -38,7 +37,7 @@ pub fn all_start(model: &[u8], index: &Index, modes: [u8; 4]) -> bool
     let components = index[COMPONENTS_AT] as usize;
     let mut k: usize = 0;
     while k < components {
-        if !is_start(model, index, k, modes[k]) {
+        if !is_start(index, k, modes[k]) {
             return false;
         }
         k += 1;

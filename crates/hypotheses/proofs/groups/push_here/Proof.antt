@@ -16,7 +16,7 @@ use Rattle.hypotheses.proofs.groups.push_here.Statement.{statement}
 use Rattle.hypotheses.proofs.groups.push_here.Tie as tie
 
 row-size-requires : tie.Need-row-size-requires
-row-size-requires c κs = c .before .before .before .pre .0 .good
+row-size-requires c κs = c .before .before .before .pre .0 .good .most
 
 mul-push-kept : tie.Need-mul-push-kept
 mul-push-kept c = search needs

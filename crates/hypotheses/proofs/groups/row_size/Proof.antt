@@ -12,15 +12,15 @@ element-copy-out-result c = search needs
 
 cast-result : tie.Need-cast-result
 unfolding entry
-cast-result c = omega (arith, c .before .pre .most)
+cast-result c = omega (arith, c .before .pre)
 
 add-result : tie.Need-add-result
 unfolding entry
-add-result c = omega (arith, c .before .pre .most)
+add-result c = omega (arith, c .before .pre)
 
 mul-result : tie.Need-mul-result
 unfolding entry
-mul-result c = omega (arith, c .before .pre .most)
+mul-result c = omega (arith, c .before .pre)
 
 returns : tie.Need-returns
 unfolding entry rowSize

@@ -19,7 +19,7 @@ push-here-requires : tie.Need-push-here-requires
 push-here-requires c κs = (c .before .before .before .before .pre .0, (c .before .before .before .before .pre .1 .0, c .before .before .before .before .pre .1 .1 .1))
 
 row-size-requires : tie.Need-row-size-requires
-row-size-requires c κs = c .before .before .before .before .before .before .before .pre .0 .good
+row-size-requires c κs = c .before .before .before .before .before .before .before .pre .0 .good .most
 
 mul-push-kept : tie.Need-mul-push-kept
 mul-push-kept c = omega (arith, c .before .before .before .before .before .before .before .before .before .pre .1 .1 .0, c .before .before .before .before .before .before .before .before .before .pre .0 .good .conditions)

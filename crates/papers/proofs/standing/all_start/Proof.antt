@@ -36,7 +36,7 @@ unfolding entry
 is-start-requires c κs =
     let p = c .before .before .before .before .pre in
     let h : c .before .loop .k < entry (now (c .before .before .before .before .args .index)) 1 = c .loop-test .taken in
-    (p .0, (h, p .1 .known (c .before .loop .k) h))
+    (omega (arith, h, p .0 .few), omega (arith, p .1 .known (c .before .loop .k) h, p .0 .blocks (c .before .loop .k) h .most))
 
 returns : tie.Need-returns Inv-loop μ-loop
 unfolding entry

@@ -26,7 +26,7 @@ mul-result-3 c = search needs
 
 element-copy-out-result : tie.Need-element-copy-out-result
 element-copy-out-result c =
-    omega (arith, c .pre .0 .few, c .pre .1 .0, c .pre .1 .1, c .pre .0 .blocks (c .args .k) (c .pre .1 .0) .most)
+    omega (arith, c .pre .0, c .pre .1)
 
 returns : tie.Need-returns
 unfolding entry componentPlace modePlace
