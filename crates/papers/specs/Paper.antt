@@ -1,23 +1,17 @@
--- A paper once its sheets are read, as the contracts name it: a model by its index, a certificate up to its proofs, and the regions by
--- the places that the code keeps. Assumes nothing.
+-- A paper once its sheets are read, as the contracts name it: a model by its index, and the regions by the places
+-- that the code keeps. Assumes nothing.
 use mathlib.Core.List.{List}
 use Prim.Native.Nat.{ℕ, _≤_}
 use lib.ListN.{length}
-use Rattle.formats.specs.Reading.{Reader, got, refused, _>>_, header, Got}
+use Rattle.formats.specs.Reading.{got, refused, Got}
 use Rattle.formats.specs.Rows.{Condition}
-use Rattle.formats.specs.Model.{Model}
 use Rattle.formats.specs.Locations.{locationCount}
 use Rattle.formats.specs.Joint.{joints, JointSwitch}
 use Rattle.models.specs.Index.{entry, componentsFrom, GoodIndex, modelFrom}
 use Rattle.second_sheets.specs.CertificateAnswers.{regionsFrom, GoodRegions}
 use Rattle.rules.specs.Obligations.{regionOf, Obligation, obligations, locationObligations, jumpsObligations}
-use Rattle.formats.specs.Certificate.{readRegions}
 use Rattle.fields.specs.declared.Next.{Next}
 use Rattle.fields.specs.declared.Next.the-variants as next
-
--- a certificate up to its proofs: its header, then its regions
-unfoldable pub certificateRegions : Model → Reader (List Condition)
-certificateRegions m = header 2 >> readRegions m
 
 -- a model that was read: its index is good, its sheet short, and its locations and joint switches are no more than the exam allows
 pub record Accepted (model index : List ℕ) : Type 0 where

@@ -1,13 +1,11 @@
--- What the contracts of run marking name besides the definitions of 01: a run sheet up to its steps, a step that was read, as
--- the code holds it, and how far the marking of a run has come. Assumes nothing.
+-- What the contracts of run marking name besides the definitions of 01: a run as the code holds it, and how far its marking has come.
+-- Assumes nothing.
 use mathlib.Core.Bool.{cond}
 use mathlib.Core.List.{List}
 use Prim.Native.Nat.{ℕ, _≤_}
 use lib.Dec.{eqb}
 use lib.ListN.{length}
-use Rattle.formats.specs.Reading.{Reader, _>>_, header}
-use Rattle.formats.specs.Model.{Model}
-use Rattle.formats.specs.RunSheet.{Opening, readOpening}
+use Rattle.formats.specs.RunSheet.{readOpening}
 use Rattle.runs.specs.declared.RunMarked.{RunMarked}
 use Rattle.rules.specs.Runs.{State}
 use Rattle.papers.specs.Standing.{Stands}
@@ -15,10 +13,6 @@ use Rattle.runs.specs.Held.{stateOf, SmallValues}
 use Rattle.rules.specs.Marking.{Marked, passed, stopped, markSteps, markOpening}
 use Rattle.models.specs.Index.{modelFrom}
 use Rattle.rules.specs.declared.Answer.{Answer}
-
--- a run sheet up to its steps: its header, then how the run begins
-unfoldable pub runOpening : Model → Reader Opening
-runOpening m = header 3 >> readOpening m
 
 -- how far the marking of a run has come: with number 0 its steps passed so far, with any other it has stopped
 unfoldable pub markedAs : List ℕ → RunMarked → Marked State
