@@ -1,6 +1,6 @@
 -- What the contracts of marking certificates name: where marking stands, and the answer from its proofs on and from its body on.
 -- Assumes nothing.
-use Rattle.rules.specs.Marking.{Marked, passed, stopped, markProofs, closeCertificate, markRegions}
+use Rattle.rules.specs.Marking.{Marked, passed, stopped, answer, refusedScore, markProofs, closeCertificate, markRegions}
 use Rattle.certificates.specs.declared.Marking as declared
 use mathlib.Core.List.{List}
 use Prim.Native.Nat.{ℕ}
@@ -14,6 +14,10 @@ use Rattle.papers.specs.Paper.{obligationsFor}
 unfoldable pub standsAt : Marked (Unit {0}) → declared.Marking
 standsAt (passed u place done) = record { number = 0; place = place; done = done }
 standsAt (stopped number place done) = record { number = number; place = place; done = done }
+
+-- the answer where marking stopped, of so many obligations
+abbrev pub stoppedAnswer : declared.Marking → ℕ → Answer
+stoppedAnswer marked total = answer (marked .number) 1 (marked .place) (marked .done) (refusedScore (marked .done) total)
 
 -- the answer on a certificate whose proofs begin here
 abbrev pub markedRest : List ℕ → List ℕ → List ℕ → List ℕ → ℕ → ℕ → Answer

@@ -22,9 +22,9 @@ ghost use Rattle.formats.specs.Locations.{locationCount};
 ghost use Rattle.formats.specs.Joint.{joints};
 ghost use Rattle.models.specs.Index.{entry, componentsFrom};
 ghost use Rattle.formats.specs.ModelSheet.{examLimits};
-ghost use Rattle.rules.specs.Marking.{answer, refusedScore, passed, closeCertificate, markCertificate};
+ghost use Rattle.rules.specs.Marking.{passed, closeCertificate, markCertificate};
 ghost use Rattle.papers.specs.Paper.{GoodPaper, Accepted, obligationsFor};
-ghost use Rattle.certificates.specs.Passed.{markedBody, markedRest};
+ghost use Rattle.certificates.specs.Passed.{stoppedAnswer, markedBody, markedRest};
 
 // The answer where a proof was refused. Only then are the obligations counted, for the score.
 fn stop_certificate(
@@ -38,7 +38,7 @@ fn stop_certificate(
     requires { ⌜ GoodPaper (now model) (now index) (now second) (now regions) ⌝ }
     requires { ⌜ (locations ≡ locationCount (componentsFrom (now model) (now index))) × (length (joints (componentsFrom (now model) (now index))) ≤ 4096) ⌝ }
     requires { ⌜ (marked .place ≤ 32768) × (marked .done ≤ 1000000) ⌝ }
-    ensures { λ r. ⌜ r ≡ answer (marked .number) 1 (marked .place) (marked .done) (refusedScore (marked .done) (length (obligationsFor (now (model .entry)) (now (index .entry)) (now (second .entry)) (now (regions .entry)) locations))) ⌝ }
+    ensures { λ r. ⌜ r ≡ stoppedAnswer marked (length (obligationsFor (now (model .entry)) (now (index .entry)) (now (second .entry)) (now (regions .entry)) locations)) ⌝ }
 {
     let total = obligation_count(model, index, second, regions, locations);
     let score = refused_score(marked.done, total);

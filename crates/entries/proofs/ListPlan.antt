@@ -18,7 +18,7 @@ use Rattle.rules.specs.declared.Answer.{Answer}
 use Rattle.rules.specs.declared.Joint.{Joint}
 use Rattle.rules.specs.Marking.{answer, withModel}
 use Rattle.rules.specs.Beside.{recordOf, listAnswer, filled, tableAfter}
-use Rattle.queries.specs.Records.{recordsFrom, modelBy}
+use Rattle.queries.specs.Records.{recordsFrom, IndexOf}
 use Rattle.papers.proofs.PaperLaws.{accepted}
 use Rattle.queries.proofs.RecordLaws.{whole-list, index-model}
 
@@ -32,7 +32,7 @@ pub record Plan (model index : List ℕ) (count : ℕ) (table : List Joint) : Ty
   pub starts : 0 < count → recordsFrom model index 0 0 ≡ records
   pub after : tableAfter examLimits model table ≡ records ++ drop count table
 
-module _ (model index : List ℕ) (table : List Joint) (indexed : modelBy model index ≡ readModel examLimits model) where
+module _ (model index : List ℕ) (table : List Joint) (indexed : IndexOf model index) where
   nothing : tableAfter examLimits model table ≡ table → Plan model index 0 table
   nothing e =
       record { records = []; whole = refl; fits = omega arith; good = λ h. absurd (omega arith); few = λ h. absurd (omega arith); starts = λ h. absurd (omega arith); after = e }
@@ -40,10 +40,10 @@ module _ (model index : List ℕ) (table : List Joint) (indexed : modelBy model 
   module _ (m : Model) (next : ℕ) (e : readModel examLimits model ≡ got m next) where
     same : m .components ≡ componentsFrom model index
     unfolding modelFrom
-    same = ap (λ (n : Model). n .components) (index-model model index indexed m next e)
+    same = ap (λ (n : Model). n .components) (index-model model index (indexed .0) m next e)
 
     read : readModel examLimits model ≡ got (modelFrom model index) next
-    read = e ∙ ap (λ (n : Model). got n next) (index-model model index indexed m next e)
+    read = e ∙ ap (λ (n : Model). got n next) (index-model model index (indexed .0) m next e)
 
     after-read : tableAfter examLimits model table ≡ filled (joints (m .components)) table
     unfolding tableAfter

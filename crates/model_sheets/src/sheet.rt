@@ -14,6 +14,7 @@ ghost use Rattle.formats.specs.ModelSheet.{examLimits, readModel};
 ghost use Rattle.models.specs.Index.{GoodIndex, componentsFrom, modelFrom, Kept, indexLength};
 ghost use Rattle.fields.specs.Answers.{gotAs};
 ghost use Rattle.models.specs.Counts.{limitsTest};
+ghost use Rattle.model_sheets.specs.Read.{indexWith};
 
 // How many locations and joint switches a model may have.
 pub const LOCATIONS: u32 = 64;
@@ -52,11 +53,20 @@ pub fn model_into(s: &[u8], index: &mut Index) -> Next
     }
 }
 
-// A model sheet, and the index that was read from it.
+// A model sheet, and the index that was read from it; after a refusal the index is all zeros.
 pub fn read_model(s: &[u8]) -> ReadModel
     ensures { λ r. ⌜ gotAs (modelFrom (now (s .entry)) (r .index)) (r .next) ≡ readModel examLimits (now (s .entry)) ⌝ }
+    ensures { λ r. ⌜ indexWith (r .index) (r .next) ≡ r .index ⌝ }
 {
     let mut index = [0u16; INDEX_LENGTH];
-    let next = model_into(s, &mut index);
-    ReadModel { next, index }
+    match model_into(s, &mut index) {
+        Next::Refused(number, place) => ReadModel {
+            next: Next::Refused(number, place),
+            index: [0u16; INDEX_LENGTH],
+        },
+        Next::At(end) => ReadModel {
+            next: Next::At(end),
+            index,
+        },
+    }
 }

@@ -4,9 +4,9 @@ use mathlib.Core.Bool.{_||_}
 use mathlib.Core.List.{List, map}
 use mathlib.Core.Path.{_≡_}
 use Prim.Native.Nat.{ℕ, _+_, _*_, _%_, _≤_, _<_}
-use lib.Dec.{eqb}
+use lib.Dec.{eqb, ltb}
 use lib.ListN.{length, getD}
-use Rattle.formats.specs.Reading.{Reader, _>>=_, give, u8, u16, must, within, many}
+use Rattle.formats.specs.Reading.{Reader, _>>=_, give, u8, u16, must, within, many, each}
 use Rattle.formats.specs.Rows.{Condition, readCondition}
 use Rattle.formats.specs.Model.{Mode, Switch, Component, Unsafe, Model, hasEvent, readComponent, readUnsafe}
 use Rattle.formats.specs.Joint.{countUp}
@@ -181,12 +181,23 @@ componentFrom s n index block =
       switches = map (λ i. switchFrom s n index (switchPlace block i)) (countUp 0 (entry index (block + 2)));
     }
 
+-- an unsafe condition's modes, one of a component's or 255: how they are read, and where they are kept
+abbrev pub readUnsafeModes : List Component → Reader (List ℕ)
+readUnsafeModes = each (λ (c : Component). must (λ v. ltb v (length (c .modes)) || eqb v 255) 5 u8)
+
+abbrev pub unsafeModesFrom : ℕ → List ℕ → ℕ → List ℕ
+unsafeModesFrom c index i = map (λ k. entry index (i + k)) (countUp 0 c)
+
 unfoldable pub unsafeFrom : List ℕ → ℕ → ℕ → List ℕ → ℕ → Unsafe
 unsafeFrom s n c index i =
     record {
-      modes = map (λ k. entry index (i + k)) (countUp 0 c);
+      modes = unsafeModesFrom c index i;
       rows = spanRows s n index (i + unsafeRowsAt);
     }
+
+-- so many unsafe conditions
+abbrev pub unsafesFrom : List ℕ → ℕ → ℕ → ℕ → List ℕ → List Unsafe
+unsafesFrom s n c conditions index = map (λ u. unsafeFrom s n c index (unsafePlace u)) (countUp 0 conditions)
 
 -- the components of an index, and its model
 unfoldable pub componentsFrom : List ℕ → List ℕ → List Component
@@ -199,7 +210,7 @@ modelFrom s index =
       variables = entry index 0;
       owners = map (λ v. entry index (ownerPlace v)) (countUp 0 (entry index 0));
       components = componentsFrom s index;
-      unsafe = map (λ u. unsafeFrom s (entry index 0) (entry index 1) index (unsafePlace u)) (countUp 0 (entry index 2));
+      unsafe = unsafesFrom s (entry index 0) (entry index 1) (entry index 2) index;
     }
 
 -- a model's three counts, and its components with its unsafe conditions: how they are read, and where they are kept
@@ -232,7 +243,7 @@ unfoldable pub partsFrom : List ℕ → ℕ → ℕ → ℕ → List ℕ → Bod
 partsFrom s n c conditions index =
     record {
       components = map (λ k. componentFrom s n index (componentPlace k)) (countUp 0 c);
-      unsafe = map (λ u. unsafeFrom s n c index (unsafePlace u)) (countUp 0 conditions);
+      unsafe = unsafesFrom s n c conditions index;
     }
 
 -- nothing outside a range of numbers has changed

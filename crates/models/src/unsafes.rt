@@ -12,15 +12,12 @@ use fields::Next;
 use fields::fields::byte_below;
 use fields::fields::byte_numbered;
 ghost use mathlib.Core.Path.{_≡_};
-ghost use mathlib.Core.Bool.{_||_};
 ghost use mathlib.Core.List.{map};
 ghost use Prim.Native.Nat.{ℕ, _+_, _≤_, _<_};
-ghost use lib.Dec.{ltb, eqb};
-ghost use lib.ListN.{length};
-ghost use Rattle.formats.specs.Reading.{u8, must, below, many, each};
-ghost use Rattle.formats.specs.Model.{Component, readUnsafe};
+ghost use Rattle.formats.specs.Reading.{u8, below, many};
+ghost use Rattle.formats.specs.Model.{readUnsafe};
 ghost use Rattle.formats.specs.Joint.{countUp};
-ghost use Rattle.models.specs.Index.{Sized, entry, ownerPlace, unsafePlace, unsafeFrom, componentsFrom, Kept, componentsIn, firstUnsafe, indexLength, modeCountIn, switchCountIn};
+ghost use Rattle.models.specs.Index.{Sized, entry, ownerPlace, unsafeFrom, unsafesFrom, readUnsafeModes, unsafeModesFrom, componentsFrom, Kept, componentsIn, firstUnsafe, indexLength, modeCountIn, switchCountIn};
 ghost use Rattle.fields.specs.Answers.{gotAs};
 
 // So many owners, each a byte below the count of components.
@@ -50,7 +47,7 @@ fn unsafe_modes_into(s: &[u8], at: usize, c: usize, index: &mut [u16], i: usize)
     requires { ⌜ Sized (now s) (now index) ⌝ }
     requires { ⌜ (c ≡ componentsIn (now index)) × ((c ≤ 4) × ((firstUnsafe ≤ i) × (i + 5 < indexLength))) ⌝ }
     requires { ⌜ ((k : ℕ) → k < c → modeCountIn (now index) k ≤ 8) ⌝ }
-    ensures { λ r. ⌜ gotAs (map (λ k. entry (now (index .exit)) (i + k)) (countUp 0 c)) r ≡ each (λ (m : Component). must (λ v. ltb v (length (m .modes)) || eqb v 255) 5 u8) (componentsFrom (now (s .entry)) (now (index .entry))) (now (s .entry)) at ⌝ }
+    ensures { λ r. ⌜ gotAs (unsafeModesFrom c (now (index .exit)) i) r ≡ readUnsafeModes (componentsFrom (now (s .entry)) (now (index .entry))) (now (s .entry)) at ⌝ }
     ensures { λ _. ⌜ Kept i (i + 4) (now (index .entry)) (now (index .exit)) ⌝ }
 {
     let mut place = at;
@@ -95,7 +92,7 @@ pub fn unsafes_into(
     requires { ⌜ Sized (now s) (now index) ⌝ }
     requires { ⌜ (n ≤ 8) × ((c ≡ componentsIn (now index)) × ((c ≤ 4) × (count ≤ 16))) ⌝ }
     requires { ⌜ ((k : ℕ) → k < c → (modeCountIn (now index) k ≤ 8) × (switchCountIn (now index) k ≤ 32)) ⌝ }
-    ensures { λ r. ⌜ gotAs (map (λ u. unsafeFrom (now (s .entry)) n c (now (index .exit)) (unsafePlace u)) (countUp 0 count)) r ≡ many count (readUnsafe n (componentsFrom (now (s .entry)) (now (index .entry)))) (now (s .entry)) at ⌝ }
+    ensures { λ r. ⌜ gotAs (unsafesFrom (now (s .entry)) n c count (now (index .exit))) r ≡ many count (readUnsafe n (componentsFrom (now (s .entry)) (now (index .entry)))) (now (s .entry)) at ⌝ }
     ensures { λ _. ⌜ Kept firstUnsafe indexLength (now (index .entry)) (now (index .exit)) ⌝ }
 {
     let mut place = at;

@@ -21,13 +21,14 @@ use Rattle.formats.specs.Locations.{locationCount, modesAt, locationOf}
 use Rattle.formats.specs.Joint.{switchesOf, modesAfter, JointSwitch, jointsOf, joints, countUp, joinAll, fourSwitches, jointFrom}
 use Rattle.formats.specs.ModelSheet.{examLimits, readModel}
 use Rattle.models.specs.Index.{componentsFrom, modelFrom, GoodIndex}
+use Rattle.model_sheets.specs.Read.{indexWith}
 use Rattle.formats.proofs.Gives.{got-value}
 use Rattle.model_sheets.proofs.JointLoops.{switches-few, record-at}
 use Rattle.rules.specs.declared.Answer.{Answer}
 use Rattle.rules.specs.declared.Joint.{Joint}
 use Rattle.rules.specs.Marking.{answer, withModel}
 use Rattle.rules.specs.Beside.{recordOf, listAnswer}
-use Rattle.queries.specs.Records.{slotJoints, jointsFrom, recordsFrom, noJoint, modelBy}
+use Rattle.queries.specs.Records.{slotJoints, jointsFrom, recordsFrom, noJoint, modelBy, indexBy, IndexOf}
 use Rattle.papers.proofs.JoinedLaws.{joinedOn, joined-first, joined-none}
 use Rattle.papers.proofs.PaperLaws.{few-joints}
 
@@ -164,12 +165,22 @@ unfolding gotAs
 by-index m (next.At p) = refl
 by-index m (next.Refused number place) = refl
 
-pub index-has : (model index : List ℕ) (x : Next) → gotAs (modelFrom model index) x ≡ readModel examLimits model → modelBy model index ≡ readModel examLimits model
+index-has : (model index : List ℕ) (x : Next) → gotAs (modelFrom model index) x ≡ readModel examLimits model → modelBy model index ≡ readModel examLimits model
 unfolding modelBy
 index-has model index x e =
     ap (λ (g : Got Model). elim g [ got m next ↦ got (modelFrom model index) next | refused number at ↦ refused number at ]) (sym e)
     ∙ by-index (modelFrom model index) x
     ∙ e
+
+-- after a refusal there are zeros
+cleared-by : (m : Model) (index : List ℕ) (x : Next) → indexBy (gotAs m x) index ≡ indexWith index x
+unfolding gotAs indexWith indexBy
+cleared-by m index (next.At end) = refl
+cleared-by m index (next.Refused number place) = refl
+
+pub index-of : (model index : List ℕ) (x : Next) → gotAs (modelFrom model index) x ≡ readModel examLimits model → indexWith index x ≡ index → IndexOf model index
+index-of model index x e same =
+    (index-has model index x e, ap (λ (g : Got Model). indexBy g index) (sym e) ∙ cleared-by (modelFrom model index) index x ∙ same)
 
 pub index-model : (model index : List ℕ) → modelBy model index ≡ readModel examLimits model → (m : Model) (next : ℕ) → readModel examLimits model ≡ got m next → m ≡ modelFrom model index
 unfolding modelBy

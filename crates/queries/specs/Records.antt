@@ -1,16 +1,17 @@
 -- What the joint list's contracts name besides the definitions of 01: the answer on a model that was read; the list by its slots, a slot
 -- being an event in a location; what is left of it from a place on; and an index that was read. Assumes nothing.
+use mathlib.Core.Path.{_≡_}
 use mathlib.Core.Bool.{cond}
 use mathlib.Core.List.{List, [], map}
 use Prim.Native.Nat.{ℕ, _*_, _-_, _/_, _%_, _<_}
 use lib.Dec.{leb}
-use lib.ListN.{length, drop}
+use lib.ListN.{length, drop, replicate}
 use Rattle.formats.specs.Reading.{Got, got, refused}
 use Rattle.formats.specs.Model.{Component, Model}
 use Rattle.formats.specs.Locations.{locationCount}
 use Rattle.formats.specs.Joint.{JointSwitch, jointsOf, joints, countUp, joinAll}
 use Rattle.formats.specs.ModelSheet.{examLimits, readModel}
-use Rattle.models.specs.Index.{componentsFrom, modelFrom}
+use Rattle.models.specs.Index.{componentsFrom, modelFrom, indexLength}
 use Rattle.rules.specs.declared.Answer.{Answer}
 use Rattle.rules.specs.declared.Joint.{Joint}
 use Rattle.rules.specs.Marking.{answer}
@@ -50,3 +51,12 @@ modelBy model index =
       | got m next ↦ got (modelFrom model index) next
       | refused number at ↦ refused number at
     ]
+
+-- the index that is given back with what a sheet gives: the one that was read or, where the sheet is no model, zeros
+unfoldable pub indexBy : Got Model → List ℕ → List ℕ
+indexBy (got m next) index = index
+indexBy (refused number place) index = replicate indexLength 0
+
+-- an index of a sheet
+abbrev pub IndexOf : List ℕ → List ℕ → Type 0
+IndexOf model index = (modelBy model index ≡ readModel examLimits model) × (indexBy (readModel examLimits model) index ≡ index)

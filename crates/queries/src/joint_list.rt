@@ -19,7 +19,7 @@ ghost use Rattle.formats.specs.Locations.{locationCount};
 ghost use Rattle.models.specs.Index.{componentsFrom, GoodIndex};
 ghost use Rattle.formats.specs.ModelSheet.{examLimits, readModel};
 ghost use Rattle.rules.specs.Beside.{recordOf, listAnswer};
-ghost use Rattle.queries.specs.Records.{slotJoints, recordsFrom, noJoint, modelBy, SlotStands};
+ghost use Rattle.queries.specs.Records.{slotJoints, recordsFrom, noJoint, modelBy, indexBy, SlotStands};
 
 // How many records a table has room for; of a long one, more than any list has.
 fn lent_count(records: usize) -> u32
@@ -45,9 +45,9 @@ pub fn record_count(answer: Answer) -> usize
     answer.done as usize
 }
 
-// The index of a model; of no use where the sheet is no model.
+// The index of a model; zeros where the sheet is no model.
 pub fn list_index(model: &[u8]) -> Index
-    ensures { λ r. ⌜ modelBy (now (model .entry)) r ≡ readModel examLimits (now (model .entry)) ⌝ }
+    ensures { λ r. ⌜ (modelBy (now (model .entry)) r ≡ readModel examLimits (now (model .entry))) × (indexBy (readModel examLimits (now (model .entry))) r ≡ r) ⌝ }
 {
     let read = read_model(model);
     read.index

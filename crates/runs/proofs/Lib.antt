@@ -1,6 +1,2 @@
-pub mod ValueLoops
-pub mod ValueLaws
-pub mod ValueStates
-pub mod JumpLaws
 pub mod RunCode
 pub mod RunCodeRead

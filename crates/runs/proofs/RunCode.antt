@@ -19,7 +19,7 @@ use Rattle.formats.proofs.Placed.{Fine, placed-finished, placed-step}
 use Rattle.rules.specs.declared.Answer.{Answer}
 use Rattle.runs.specs.declared.RunMarked.{RunMarked}
 use Rattle.rules.specs.Runs.{State, startAllowed, after, stepAllowed, isUnsafe}
-use Rattle.runs.specs.Held.{perVariable, stateOf}
+use Rattle.steps.specs.Held.{perVariable, stateOf}
 use Rattle.runs.specs.RunHeld.{markedAs}
 use Rattle.rules.specs.Marking.{answer, Marked, passed, stopped, withModel, testStep, markStep, markSteps, closeRun, firstState, markOpening, markRun}
 use Rattle.papers.specs.Opening.{opened, Open}

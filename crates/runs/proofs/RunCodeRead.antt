@@ -33,7 +33,7 @@ use Rattle.models.proofs.GoodIndexLaws.{few-components}
 use Rattle.model_sheets.proofs.JointLoops.{four-known}
 use Rattle.second_sheets.proofs.StepLaws.{eight-item}
 use Rattle.rules.specs.Runs.{after}
-use Rattle.runs.specs.Held.{perVariable, SmallValues, KnownStep}
+use Rattle.steps.specs.Held.{perVariable, SmallValues, KnownStep}
 
 -- Values that were read are small
 abbrev Small : ℤ → Type 0

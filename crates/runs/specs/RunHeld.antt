@@ -9,7 +9,7 @@ use Rattle.formats.specs.RunSheet.{readOpening}
 use Rattle.runs.specs.declared.RunMarked.{RunMarked}
 use Rattle.rules.specs.Runs.{State}
 use Rattle.papers.specs.Standing.{Stands}
-use Rattle.runs.specs.Held.{stateOf, SmallValues}
+use Rattle.steps.specs.Held.{stateOf, SmallValues}
 use Rattle.rules.specs.Marking.{Marked, passed, stopped, markSteps, markOpening}
 use Rattle.models.specs.Index.{modelFrom}
 use Rattle.rules.specs.declared.Answer.{Answer}

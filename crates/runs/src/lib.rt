@@ -1,8 +1,5 @@
-// Run sheets marked: rows on states, joint switches by their bytes, the steps one after the other, and the whole sheet.
-pub mod jumps;
-pub mod rows;
+// Run sheets marked: the steps one after the other, and the whole sheet.
 pub mod run;
-pub mod values;
 
 // How far the marking of a run has come: the number of its refusal, or 0, its place, how many steps passed, and the state reached,
 // with the modes of its location.

@@ -1,10 +1,5 @@
 // Marking a run sheet: its opening, its steps one after the other, and its end.
 use crate::RunMarked;
-use crate::jumps::location_after;
-use crate::jumps::modes_after;
-use crate::jumps::step_allowed;
-use crate::values::is_unsafe;
-use crate::values::start_allowed;
 use fields::Next;
 use fields::header::finished;
 use model_sheets::joints::location_count;
@@ -18,6 +13,11 @@ use second_sheets::OpeningRead;
 use second_sheets::StepRead;
 use second_sheets::run::opening;
 use second_sheets::run::step;
+use steps::jumps::location_after;
+use steps::jumps::modes_after;
+use steps::jumps::step_allowed;
+use steps::values::is_unsafe;
+use steps::values::start_allowed;
 ghost use mathlib.Core.Path.{_≡_};
 ghost use Prim.Native.Nat.{_+_, _^_, _≤_, _<_};
 ghost use lib.ListN.{length};

@@ -29,13 +29,13 @@ enum-told : tie.Need-enum-told
 enum-told c = search needs
 
 try-regions-requires : tie.Need-try-regions-requires
-try-regions-requires c κs = good (c .before .before .before .before .before .read-model .ensures) (c .before .before .enum-told .given .1)
+try-regions-requires c κs = good (c .before .before .before .before .before .read-model .ensures .0) (c .before .before .enum-told .given .1)
 
 try-opening-requires : tie.Need-try-opening-requires
-try-opening-requires c κs = good (c .before .before .before .before .before .before .read-model .ensures) (c .before .before .before .enum-told .given .1)
+try-opening-requires c κs = good (c .before .before .before .before .before .before .read-model .ensures .0) (c .before .before .before .enum-told .given .1)
 
 try-step-requires : tie.Need-try-step-requires
-try-step-requires c κs = good (c .before .before .before .before .before .before .read-model .ensures) (c .before .before .before .enum-told .given .1)
+try-step-requires c κs = good (c .before .before .before .before .before .before .read-model .ensures .0) (c .before .before .before .enum-told .given .1)
 
 returns : tie.Need-returns
 returns c = search needs

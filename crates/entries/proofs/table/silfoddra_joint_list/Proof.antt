@@ -52,9 +52,9 @@ use denote.Triple.Table.{entered, cited}
 use denote.Triple.Walked.{says, Stays, stay-slice, stay-none-slice, walkOf, Walks, ends-at, walked, goes-slice, goes-none-slice, walk-meets}
 use Rattle.formats.specs.Locations.{locationCount}
 use Rattle.models.specs.Index.{componentsFrom, GoodIndex}
-use Rattle.formats.specs.ModelSheet.{examLimits, readModel}
+use Rattle.formats.specs.ModelSheet.{examLimits}
 use Rattle.rules.specs.Beside.{listAnswer, tableAfter}
-use Rattle.queries.specs.Records.{recordsFrom, modelBy}
+use Rattle.queries.specs.Records.{recordsFrom, IndexOf}
 use Rattle.rules.specs.declared.Answer.{Answer}
 use Rattle.rules.specs.declared.Joint.{Joint}
 use Rattle.queries.specs.declared.ListedJoint.{ListedJoint}
@@ -175,8 +175,8 @@ module _ {M : Type 1} (𝓤 : URA M) (H : Heap 𝓤) (A : Atoms 𝓤) (mem : Mem
   said-count : (a : Answer) (r : ℕ) → ent 𝓤 (ensured 𝓤 H A record-count.ended (record-count.clauses 𝓤 H A mem run) tt (a, tt) tt r) (fact 𝓤 (r ≡ a .done))
   said-count a r = exE 𝓤 _ (λ ws. snd∗ 𝓤 (sem 𝓤 H A (lasts record-count.ended tt (a, tt) ws)) (fact 𝓤 (r ≡ a .done)))
 
-  said-index : (κ : Lft) (m : RefT (List ℕ)) (r : List ℕ) → ent 𝓤 (ensured 𝓤 H A list-index.ended (list-index.clauses 𝓤 H A mem run) (κ, tt) (m, tt) tt r) (fact 𝓤 (modelBy (now m) r ≡ readModel examLimits (now m)))
-  said-index κ m r = exE 𝓤 _ (λ ws. snd∗ 𝓤 (sem 𝓤 H A (lasts list-index.ended (κ, tt) (m, tt) ws)) (fact 𝓤 (modelBy (now m) r ≡ readModel examLimits (now m))))
+  said-index : (κ : Lft) (m : RefT (List ℕ)) (r : List ℕ) → ent 𝓤 (ensured 𝓤 H A list-index.ended (list-index.clauses 𝓤 H A mem run) (κ, tt) (m, tt) tt r) (fact 𝓤 (IndexOf (now m) r))
+  said-index κ m r = exE 𝓤 _ (λ ws. snd∗ 𝓤 (sem 𝓤 H A (lasts list-index.ended (κ, tt) (m, tt) ws)) (fact 𝓤 (IndexOf (now m) r)))
 
   said-start : (r : ListedJoint) → ent 𝓤 (ensured 𝓤 H A list-start.ended (list-start.clauses 𝓤 H A mem run) tt tt tt r) (fact 𝓤 ((r .slot ≡ 0) × (r .x ≡ 0)))
   said-start r = exE 𝓤 _ (λ ws. snd∗ 𝓤 (sem 𝓤 H A (lasts list-start.ended tt tt ws)) (fact 𝓤 ((r .slot ≡ 0) × (r .x ≡ 0))))
@@ -388,7 +388,7 @@ module _ {M : Type 1} (𝓤 : URA M) (H : Heap 𝓤) (A : Atoms 𝓤) (W : Given
           use2 W (raw (ListIndex 𝓤 H A mem run .pre to-index)) goes-index $
           calls-at ! (fmOf 𝓤 H (W .laws) 𝓣) (ListIndex 𝓤 H A mem run) known-index to-index (and-then ! (load ! (from ! (stop !)) (look ! 22 refl)) (no-more !)) (λ wi.
           use1 W (later (some (λ (r : List ℕ). ((‵ (flft κ q) ⊛ ‵ ftrue) ⊛ ‵ (XR .own r (wi ∷ []))) ⊛ raw (ensured 𝓤 H A list-index.ended (list-index.clauses 𝓤 H A mem run) (κ, tt) (m, tt) tt r)))) (id⊢ 𝓤 _) $ await ! tt $ pick ! (λ index.
-          split ! $ move ! (1 ∷ []) $ use1 W (raw (fact 𝓤 (modelBy (now m) index ≡ readModel examLimits (now m)))) (said-index 𝓤 H A mem run κ m index) $ heard ! (modelBy (now m) index ≡ readModel examLimits (now m)) (λ ei. split ! $ split ! $ move ! (2 ∷ []) $
+          split ! $ move ! (1 ∷ []) $ use1 W (raw (fact 𝓤 (IndexOf (now m) index))) (said-index 𝓤 H A mem run κ m index) $ heard ! (IndexOf (now m) index) (λ ei. split ! $ split ! $ move ! (2 ∷ []) $
           peeks ! XR (Is XR) (shows 𝓤 H A XR) index (wi ∷ []) (λ is-i.
           land ! (from ! (stop !)) (init ! 16 refl (array-lawful 𝓤 H A W u16 (uint-lawful 𝓤 H A W w16) 988 .typed index _ is-i .0)) $ drop ! $ move ! (1 ∷ []) $ drop ! $
           start-on a wa is-a ea count gc index wi is-i (plan (now m) index ys ei a count ea ec)))))

@@ -24,7 +24,7 @@ on-model-requires c κs =
     let s = now (c .before .before .before .before .before .before .args .model) in
     let read = c .before .before .before .before .read-model in
     let told = c .before .next .given in
-    let e : readModel examLimits s ≡ refused (told .0 .0) (told .0 .1 .0) = told-refused (modelFrom s (read .result .index)) (readModel examLimits s) (read .ensures) (told .1) in
+    let e : readModel examLimits s ≡ refused (told .0 .0) (told .0 .1 .0) = told-refused (modelFrom s (read .result .index)) (readModel examLimits s) (read .ensures .0) (told .1) in
     omega (arith, model-placed examLimits s (told .0 .0) (told .0 .1 .0) e)
 
 enum-told : tie.Need-enum-told
@@ -37,7 +37,7 @@ count-answer-requires c κs =
     let read = c .before .before .before .before .read-model in
     let told = c .before .enum-told .given in
     let m = modelFrom s (read .result .index) in
-    let e : readModel examLimits s ≡ got m (told .0 .0) = told-at m (readModel examLimits s) (read .ensures) (told .1) in
+    let e : readModel examLimits s ≡ got m (told .0 .0) = told-at m (readModel examLimits s) (read .ensures .0) (told .1) in
     (index-good examLimits s (read .result .index) (told .0 .0) e, (model-short examLimits s m (told .0 .0) e, few-joints examLimits s m (told .0 .0) e))
 
 returns : tie.Need-returns
@@ -46,7 +46,7 @@ returns c =
     let s = now (a .model) in
     let read = c .before .before .before .before .before .read-model in
     let told = c .before .before .next .given in
-    let e : readModel examLimits s ≡ refused (told .0 .0) (told .0 .1 .0) = told-refused (modelFrom s (read .result .index)) (readModel examLimits s) (read .ensures) (told .1) in
+    let e : readModel examLimits s ≡ refused (told .0 .0) (told .0 .1 .0) = told-refused (modelFrom s (read .result .index)) (readModel examLimits s) (read .ensures .0) (told .1) in
     c .on-model .ensures ∙ list-refused examLimits s (a .lent) (told .0 .0) (told .0 .1 .0) e
 
 returns-2 : tie.Need-returns-2
@@ -57,7 +57,7 @@ returns-2 c =
     let read = c .before .before .before .before .before .read-model in
     let told = c .before .before .enum-told .given in
     let m = modelFrom s (read .result .index) in
-    let e : readModel examLimits s ≡ got m (told .0 .0) = told-at m (readModel examLimits s) (read .ensures) (told .1) in
+    let e : readModel examLimits s ≡ got m (told .0 .0) = told-at m (readModel examLimits s) (read .ensures .0) (told .1) in
     c .count-answer .ensures ∙ list-read examLimits s (a .lent) m (told .0 .0) e
 
 pub list-answer-spec : {M : Type 1} → statement M

@@ -11,7 +11,7 @@ use Rattle.models.specs.Index.{entry, modelFrom}
 use Rattle.formats.specs.RunSheet.{readOpening}
 use Rattle.rules.specs.Runs.{startAllowed}
 use Rattle.papers.specs.Standing.{Stands}
-use Rattle.runs.specs.Held.{perVariable, stateOf}
+use Rattle.steps.specs.Held.{perVariable, stateOf}
 use Rattle.rules.specs.Marking.{closeRun}
 use Rattle.rules.proofs.ListFacts.{test-failed, test-passed}
 use Rattle.papers.proofs.StandingLaws.{stands-at}

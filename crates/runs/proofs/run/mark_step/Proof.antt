@@ -9,10 +9,10 @@ use Rattle.models.specs.Index.{entry, modelFrom}
 use Rattle.formats.specs.RunSheet.{Step, readStep}
 use Rattle.second_sheets.specs.RunAnswers.{stepOf}
 use Rattle.rules.specs.Runs.{stepAllowed}
-use Rattle.runs.specs.Held.{perVariable, stateOf}
+use Rattle.steps.specs.Held.{perVariable, stateOf}
 use Rattle.runs.specs.RunHeld.{stoppedAt}
 use Rattle.rules.proofs.ListFacts.{test-failed, test-passed}
-use Rattle.runs.proofs.JumpLaws.{step-after}
+use Rattle.steps.proofs.JumpLaws.{step-after}
 use Rattle.runs.proofs.RunCodeRead.{step-known, step-read, step-refused}
 use Rattle.runs.proofs.RunCode.{mark-refused, refused-placed, step-placed, mark-failed, mark-passed}
 use Rattle.runs.proofs.run.mark_step.Statement.{statement}

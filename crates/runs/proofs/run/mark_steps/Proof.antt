@@ -4,7 +4,7 @@ use Prim.Native.Nat.{_+_, _≤_}
 use native.Mathlib.Omega.{arith}
 use denote.Ref.{now}
 use Rattle.models.specs.Index.{modelFrom}
-use Rattle.runs.specs.Held.{stateOf}
+use Rattle.steps.specs.Held.{stateOf}
 use Rattle.runs.specs.RunHeld.{RunStands}
 use Rattle.rules.specs.Marking.{markSteps}
 use Rattle.runs.proofs.RunCode.{steps-go-on, steps-stop, steps-end, one-done}

@@ -1,0 +1,4 @@
+pub mod ValueLoops
+pub mod ValueLaws
+pub mod ValueStates
+pub mod JumpLaws
