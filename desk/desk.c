@@ -4,6 +4,7 @@
 #include "obligation.h"
 #include "run.h"
 #include "sheet.h"
+#include "type.h"
 #include "words.h"
 
 #include <inttypes.h>
@@ -17,21 +18,25 @@ static const char help[] =
     "usage: desk MODEL SECOND             mark a certificate or a run sheet\n"
     "       desk --row O H MODEL SECOND   show hypothesis H of obligation O (both from 0) of a certificate\n"
     "       desk --joints MODEL           list the model's joint switches\n"
+    "       desk --type N TEXT            turn a row on N variables, typed as text, into its numbers\n"
     "       desk --help                   this text\n"
     "\n"
     "MODEL and SECOND are files with one sheet each. SECOND is marked as a run if its byte 3 is 3, else as a certificate.\n"
     "Variables are the letters a to h, in the model's order; a' is the value of a after a jump.\n"
+    "TEXT has one <= between two expressions of whole numbers, letters, round brackets, +, - and *, such as 2*(a - 1) <= b.\n"
     "Status: 0 accepted, 1 refused, 2 the desk could not do what was asked.\n";
 
 /* What is asked for: how it is answered, and on what. */
 struct request {
     int (*answer)(const struct request *request);
-    const char *model_name;
+    const char *model_name;  /* null where no sheet is needed */
     const char *second_name; /* null where one sheet is enough */
     struct sheet model;
     struct sheet second;
     uint32_t obligation;
     uint32_t hypothesis;
+    const char *text;
+    uint32_t variables;
 };
 
 static int mark_run(const struct sheet *model, const struct sheet *run)
@@ -101,6 +106,11 @@ static int list_joints(const struct request *request)
     return ACCEPTED;
 }
 
+static int type_row(const struct request *request)
+{
+    return print_typed_row(request->text, request->variables) == 0 ? ACCEPTED : REFUSED;
+}
+
 /* A whole number from 0 to 2^32 - 1. Returns 0, or says what is wrong and returns -1. */
 static int read_number(const char *word, uint32_t *number)
 {
@@ -128,6 +138,10 @@ static int read_request(struct request *request, int count, char **words)
         *request = (struct request){.answer = show_row, .model_name = words[4], .second_name = words[5]};
         return read_number(words[2], &request->obligation) == 0 ? read_number(words[3], &request->hypothesis) : -1;
     }
+    if (count == 4 && strcmp(words[1], "--type") == 0) {
+        *request = (struct request){.answer = type_row, .text = words[3]};
+        return read_number(words[2], &request->variables);
+    }
     if (count == 3 && words[1][0] != '-') {
         *request = (struct request){.answer = mark, .model_name = words[1], .second_name = words[2]};
         return 0;
@@ -136,11 +150,11 @@ static int read_request(struct request *request, int count, char **words)
     return -1;
 }
 
-/* Reads the sheets and answers. */
+/* Reads the sheets, where there are any, and answers. */
 static int serve(struct request *request)
 {
     int status = UNUSABLE;
-    if (sheet_read(&request->model, request->model_name) == 0 &&
+    if ((request->model_name == NULL || sheet_read(&request->model, request->model_name) == 0) &&
         (request->second_name == NULL || sheet_read(&request->second, request->second_name) == 0))
         status = request->answer(request);
     sheet_free(&request->second);

@@ -1,5 +1,6 @@
-/* Tries every call with null pointers of length 0, for each sheet and for the table, and compares the numbers handed back with those for
-   an empty sheet or table that has an address. Words: a model, a certificate and a run sheet of it, and a model without joint switches. */
+/* Tries every call with null pointers of length 0, for each sheet, for the table and for a typed text, and compares the numbers handed back
+   with those for an empty sheet, table or text that has an address. Words: a model, a certificate and a run sheet of it, and a model
+   without joint switches. */
 #include "marker.h"
 #include "sheet.h"
 
@@ -7,7 +8,7 @@
 #include <stdio.h>
 #include <string.h>
 
-enum { SHEETS = 4, RECORDS = 2, MOST_NUMBERS = 6 };
+enum { SHEETS = 4, RECORDS = 2, COEFFICIENTS = 8, MOST_NUMBERS = 5 + COEFFICIENTS + 1 };
 
 static uint8_t no_bytes[1];
 static struct silfoddra_joint no_records[1];
@@ -91,6 +92,17 @@ static int try_records(void)
     return 1;
 }
 
+/* The typed row of an empty text, on so many variables. */
+static struct numbers typed_row(const uint8_t *text, uint32_t variables)
+{
+    struct silfoddra_typed_row row = silfoddra_read_row(text, 0, variables);
+    struct numbers numbers = from_answer(row.answer);
+    for (size_t v = 0; v < COEFFICIENTS; v++)
+        numbers.at[numbers.count++] = (uint32_t)row.coefficients[v];
+    numbers.at[numbers.count++] = (uint32_t)row.bound;
+    return numbers;
+}
+
 /* Every call. Returns how many differ. */
 static int try_all(const struct sheet *model, const struct sheet *second, const struct sheet *run_sheet, const struct sheet *lone_model)
 {
@@ -102,6 +114,8 @@ static int try_all(const struct sheet *model, const struct sheet *second, const 
     differences += try_table(lone_model, lone_model);
     differences += try_table(&null, &empty);
     differences += try_records();
+    differences += compare("silfoddra_read_row", "null", "2 variables", typed_row(NULL, 2), typed_row(no_bytes, 2));
+    differences += compare("silfoddra_read_row", "null", "9 variables", typed_row(NULL, 9), typed_row(no_bytes, 9));
     return differences;
 }
 

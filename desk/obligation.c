@@ -1,6 +1,7 @@
 #include "obligation.h"
 
 #include "model.h"
+#include "type.h"
 #include "words.h"
 
 #include <inttypes.h>
@@ -56,34 +57,6 @@ void print_obligation(const struct sheet *model, const struct sheet *second, uin
         print_after_jump(model, &obligation);
         break;
     }
-}
-
-/* A term of a sum: its sign, its coefficient unless that is 1, and its variable, with ' from the second half of the coefficients on. */
-static void print_term(int64_t coefficient, size_t at, size_t variables, int is_first)
-{
-    int is_negative = coefficient < 0;
-    int64_t size = is_negative ? -coefficient : coefficient;
-    if (is_first)
-        fputs(is_negative ? "-" : "", stdout);
-    else
-        fputs(is_negative ? " - " : " + ", stdout);
-    if (size != 1)
-        printf("%" PRId64 "*", size);
-    printf("%c%s", variable_letter(at % variables), at < variables ? "" : "'");
-}
-
-/* A row by its numbers, of which the last is its bound. */
-static void print_inequality(const int64_t *numbers, size_t count, size_t variables)
-{
-    int is_first = 1;
-    printf("  ");
-    for (size_t i = 0; i + 1 < count; i++) {
-        if (numbers[i] != 0) {
-            print_term(numbers[i], i, variables, is_first);
-            is_first = 0;
-        }
-    }
-    printf("%s <= %" PRId64 "\n", is_first ? "0" : "", numbers[count - 1]);
 }
 
 /* A row that stands at an offset of a sheet. */

@@ -8,8 +8,8 @@
 /* Which obligation has a number, with its location and its joint switch. Says nothing if there is none. */
 void print_obligation(const struct sheet *model, const struct sheet *second, uint32_t number);
 
-/* The row of a hypothesis, as silfoddra_show_row has found it: its bytes, and what they say, such as 2*a - c <= 5. In the row of a jump
-   a' is the value of a after it. A row that stands in no sheet has no bytes. */
+/* The row of a hypothesis, as silfoddra_show_row has found it: its bytes, and what they say, as it is typed (type.h). A row that stands in
+   no sheet has no bytes. */
 void print_hypothesis(const struct sheet *model, const struct sheet *second, uint32_t obligation, uint32_t hypothesis,
                       const struct silfoddra_answer *found);
 

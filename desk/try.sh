@@ -1,5 +1,5 @@
 #!/usr/bin/env bash
-# Runs the desk on the examples, and on sheets made from them, and prints each command, what it wrote and its status;
+# Runs the desk on the examples, on sheets made from them and on typed rows, and prints each command, what it wrote and its status;
 # `bash desk/try.sh | diff desk/try.txt -` compares. UNDER='valgrind -q' puts these words before each command.
 set -u
 top=$(cd "$(dirname "$0")/.." && pwd)
@@ -28,6 +28,27 @@ try_full() {
     echo "\$ $* > /dev/full"
     ${UNDER:-} "$top/desk/$1" "${@:2}" 2>&1 >/dev/full
     echo "status $?"
+}
+
+# try_type VARIABLES TEXT: the text in quotes, and bytes that do not print in octal
+try_type() {
+    local LC_ALL=C
+    echo "\$ desk --type $1 ${2@Q}"
+    ${UNDER:-} "$top/desk/desk" --type "$1" "$2" 2>&1
+    echo "status $?"
+}
+
+# type_again VARIABLES O H MODEL SECOND: a row that is shown, typed as it is shown; the line before the last has its bytes
+type_again() {
+    local shown typed
+    shown=$(${UNDER:-} "$top/desk/desk" --row "${@:2}" 2>&1)
+    typed=$(try_type "$1" "$(tail -n 1 <<<"$shown")")
+    echo "$typed"
+    if [ "$(tail -n 2 <<<"$shown" | head -n 1)" = "$(tail -n 3 <<<"$typed" | head -n 1)" ]; then
+        echo 'the bytes that were shown'
+    else
+        echo 'OTHER BYTES than were shown'
+    fi
 }
 
 # edit FROM TO OFFSET BYTE..: a copy of a sheet with other bytes, in hexadecimal, from an offset on
@@ -98,6 +119,44 @@ try desk --row 0 0 greatest.model examples/tank.certificate
 edit examples/tank.model without.model 14 00 00 00 00 00 00 00 05
 try desk --row 0 0 without.model examples/tank.certificate
 
+echo '# Rows typed: accepted'
+try_type 1 'a<=1'
+try_type 4 '  2*d - 11 <= a - 2*(7 + 4)  '
+try_type 2 '--a - -3*(b - 1) <= 0*a'
+try_type 2 '(a - a)*b <= 007'
+try_type 3 'a<=-2147483647-1'
+try_type 2 '2147483647 - b <= 2147483647*a'
+try_type 8 'a + b + c + d + e + f + g <= 1 - h'
+
+echo '# Rows typed: refused for the variables, for the text, for what it gives'
+try_type 0 'a <= 1'
+try_type 9 ''
+try_type 4294967295 'a <= 1'
+try_type 2 ''
+try_type 2 'a <= (b + 1'
+try_type 2 '2a <= 1'
+try_type 2 'a < = 1'
+try_type 2 'a <= 1 <= b'
+try_type 2 $'a\t<= 1'
+try_type 2 'a ≤ 1'
+try_type 2 "$(printf '%0256d' 1)"
+try_type 2 "$(printf '%0255d' 1)"
+try_type 2 'a <= c'
+try_type 2 'a*(b - 1) <= 2147483648'
+try_type 2 'a <= -2147483648'
+try_type 2 'a <= 1 + 2147483647 - 1'
+try_type 2 '-(-2147483647 - 1) <= a'
+try_type 2 '2147483647*a <= -a'
+
+echo '# Rows that are shown, typed again: initial, region, flow, unsafe; with the least and the greatest numbers, and without coefficients'
+type_again 4 0 3 examples/plant.model examples/plant.certificate
+type_again 4 87 3 examples/plant.model examples/plant.certificate
+type_again 4 3 14 examples/plant.model examples/plant.certificate
+type_again 4 30 9 examples/plant.model examples/plant.certificate
+type_again 1 0 0 least.model examples/tank.certificate
+type_again 1 0 0 greatest.model examples/tank.certificate
+type_again 1 0 0 without.model examples/tank.certificate
+
 echo '# Joint switches'
 try desk --joints examples/tank.model
 try desk --joints examples/plant.model
@@ -120,7 +179,7 @@ try desk examples/tank.model empty
 try desk --row 0 0 examples/tank.model empty
 try desk --joints empty
 
-echo '# Null pointers in place of each sheet and of the table'
+echo '# Null pointers in place of each sheet, of the table and of a typed text'
 try null examples/plant.model examples/plant.certificate examples/unsafe-plant.run examples/tank.model
 
 echo '# What the desk cannot do'
@@ -131,5 +190,9 @@ try desk examples/tank.model examples/no-such-file
 try desk examples examples/tank.certificate
 try desk --row 0 x examples/tank.model examples/tank.certificate
 try desk --row 0 4294967296 examples/tank.model examples/tank.certificate
+try_type x 'a <= 1'
+try_type 4294967296 'a <= 1'
+try desk --type 2
+try_full desk --type 1 'a<=1'
 try desk examples/tank.model
 try desk --help

@@ -21,12 +21,19 @@ static const char *const meanings[] = {
     "a step is not allowed",
     "the run does not end in an unsafe state",
     "the table is too short",
+    "the text is not one <= between two expressions",
+    "a product of variables, a letter beyond the variables, or a result outside -2147483648 to 2147483647",
 };
 
-void print_refusal(const struct silfoddra_answer *answer, const struct sheet *model, const struct sheet *second)
+void print_meaning(const struct silfoddra_answer *answer)
 {
     const char *meaning = answer->number < sizeof meanings / sizeof *meanings ? meanings[answer->number] : "an unknown number";
     printf("Refused (%" PRIu32 "): %s.\n", answer->number, meaning);
+}
+
+void print_refusal(const struct silfoddra_answer *answer, const struct sheet *model, const struct sheet *second)
+{
+    print_meaning(answer);
     if (answer->sheet == 2)
         printf("Place: the numbers given to the desk.\n");
     else

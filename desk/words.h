@@ -6,7 +6,10 @@
 #include "model.h"
 #include "sheet.h"
 
-/* Why a paper is refused, and the place. */
+/* Why a paper or a text is refused. */
+void print_meaning(const struct silfoddra_answer *answer);
+
+/* The same, and the place. A sheet is looked at only if the place is in it. */
 void print_refusal(const struct silfoddra_answer *answer, const struct sheet *model, const struct sheet *second);
 
 /* The rest is said of a model that the marker does not refuse. */

@@ -1,5 +1,5 @@
 /* The marker of papers about hybrid automata, for C. Link with the archive that `rt staticlib entries` writes.
-   Document 01 defines the sheets and the answer; what each call answers is proved for every two byte strings. */
+   Document 01 defines the sheets and the answer, document 02 typed rows; what each call answers is proved for all bytes. */
 #ifndef SILFODDRA_MARKER_H
 #define SILFODDRA_MARKER_H
 
@@ -20,12 +20,13 @@ struct silfoddra_answer {
         9 hypotheses not ascending                                 10 coefficients unequal
        11 bound fails                                              12 the run's start not allowed
        13 a step not allowed                                       14 the run's end not unsafe
-       15 the table too short (the joint list only) */
+       15 the table too short (the joint list only)                16 a text that is no row (typed rows only, as 17)
+       17 a product of variables, a letter beyond n, or a result outside s32 */
     uint32_t number;
     /* Where the place is: 0 in the model, 1 in the second sheet, 2 the call itself. */
     uint32_t sheet;
     /* A byte offset into that sheet, counted from 0: of the field, proof or step that is refused, or of the first byte left.
-       On acceptance the length of the second sheet. */
+       On acceptance the length of the second sheet. At sheet 2 as the call says. */
     uint32_t place;
     /* How many proofs or steps passed, in order, before marking stopped; 0 where none was reached. */
     uint32_t done;
@@ -96,6 +97,27 @@ struct silfoddra_obligation silfoddra_which_obligation(const uint8_t *model, siz
                                                        const uint8_t *second, size_t second_length,
                                                        uint32_t obligation);
 
+/* A typed row: what silfoddra_read_row hands back. */
+struct silfoddra_typed_row {
+    struct silfoddra_answer answer;
+    /* The row: its coefficients, 0 for each variable that there is not, and its bound. In a refusal all of them are 0. */
+    int32_t coefficients[8];
+    int32_t bound;
+};
+
+/* Reads a row that was typed as text, such as `2*a - b <= 3*(c + 1)`, on so many variables: the letters from a on. It has one <= between
+   two expressions of whole numbers, letters a to h, round brackets, +, - and *; spaces may stand between these and at either end. A minus
+   before a factor binds first, then *, then + and -, from the left. The answer is (0, 2, 0, 0, 0), with the row: its variables
+   collected on the left and its numbers on the right. Or it is a refusal, at sheet 2, whose place is an offset into the text:
+     5 at 0: variables are not 1 to 8; tested before the text is looked at
+    16 the text breaks the rules, at the first byte that no ending could mend; at the text's length where it only ends too early; at 255
+       for every text over 255 bytes. All of 16 is tested before 17
+    17 the first of these, left before right and operands before their operator: a product whose factors both have a coefficient other
+       than 0, at the *; a letter beyond the variables, at the letter; a result outside s32, at the number's first digit, at the
+       operator, or, where variables and numbers are collected, at the < of <=
+   The text need not end in a zero byte. A null pointer with length 0 is an empty text. The call takes up to 100 KB of stack. */
+struct silfoddra_typed_row silfoddra_read_row(const uint8_t *text, size_t length, uint32_t variables);
+
 #ifdef __cplusplus
 }
 #endif
@@ -121,6 +143,9 @@ SILFODDRA_STATIC_ASSERT(sizeof(struct silfoddra_joint) == 7 && offsetof(struct s
                             offsetof(struct silfoddra_joint, event) == 1 && offsetof(struct silfoddra_joint, switches) == 2 &&
                             offsetof(struct silfoddra_joint, target) == 6,
                         "a joint switch is seven bytes");
+SILFODDRA_STATIC_ASSERT(sizeof(struct silfoddra_typed_row) == 56 && offsetof(struct silfoddra_typed_row, answer) == 0 &&
+                            offsetof(struct silfoddra_typed_row, coefficients) == 20 && offsetof(struct silfoddra_typed_row, bound) == 52,
+                        "a typed row is an answer and nine numbers of four bytes");
 #undef SILFODDRA_STATIC_ASSERT
 #endif
 

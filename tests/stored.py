@@ -13,6 +13,7 @@ ROOT = HERE.parent
 WRITTEN = [
     (ROOT / 'crates/sheets_test', ['sheet_papers.py']),
     (ROOT / 'crates/marking_test', ['marking_papers.py']),
+    (ROOT / 'crates/calls_test', ['typed_papers.py']),
     (ROOT / 'examples', ['marking_papers.py', '--examples']),
 ]
 

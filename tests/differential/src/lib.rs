@@ -1,4 +1,4 @@
-//! An independent marker of document 01, the library that it is compared with, and papers to compare them on.
+//! An independent marker of documents 01 and 02, the library that it is compared with, and papers and typed texts to compare them on.
 
 pub mod fence;
 pub mod library;

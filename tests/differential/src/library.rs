@@ -2,6 +2,7 @@
 
 use crate::marker::Answer;
 use crate::marker::JointSwitch;
+use crate::marker::TypedRow;
 use crate::marker::Which;
 
 mod entries {
@@ -33,6 +34,10 @@ mod entries {
             obligation: u32,
         ) -> Which;
     }
+
+    unsafe extern "C" {
+        pub fn silfoddra_read_row(text: *const u8, length: usize, variables: u32) -> TypedRow;
+    }
 }
 
 // Safety, for every call below: the entries read the lent bytes and write the lent table, and nothing else.
@@ -56,4 +61,8 @@ pub fn show_row(model: &[u8], second: &[u8], obligation: u32, hypothesis: u32) -
 
 pub fn which(model: &[u8], second: &[u8], obligation: u32) -> Which {
     unsafe { entries::silfoddra_which_obligation(model.as_ptr(), model.len(), second.as_ptr(), second.len(), obligation) }
+}
+
+pub fn read_row(text: &[u8], variables: u32) -> TypedRow {
+    unsafe { entries::silfoddra_read_row(text.as_ptr(), text.len(), variables) }
 }

@@ -1,17 +1,17 @@
-//! Compares the library with the independent marker on many papers.
+//! Compares the library with the independent marker on many papers and typed texts.
 //!
 //!     differential [--seed N] [--seconds N] [--rounds N] [--round R] [--guard] [--folder DIR]
 //!
 //! Without options it runs for about 60 seconds from a fixed seed, which DIFFERENTIAL_SEED may set too. A round makes papers from the
-//! seed and its own number, so `--round R` repeats one exactly. With `--guard` the sheets and the table lie between closed pages; that
-//! is slower, and goes on for 20 seconds. At the first mismatch the two sheets are written as hex files to the folder, and the exit
-//! status is 1.
+//! seed and its own number, so `--round R` repeats one exactly. With `--guard` the sheets, the table and the texts lie between closed
+//! pages; that is slower, and goes on for 20 seconds. At the first mismatch the sheets or the text are written as hex files to the folder,
+//! and the exit status is 1.
 
 mod compare;
 
 use compare::{Compared, Comparison};
 use differential::papers::damage::{ALL, damaged, random_bytes};
-use differential::papers::{Random, Sheet, certificates, extremes, models, runs};
+use differential::papers::{Random, Sheet, certificates, extremes, models, runs, texts};
 use std::path::PathBuf;
 use std::process::ExitCode;
 use std::time::{Duration, Instant};
@@ -72,7 +72,7 @@ fn main() -> ExitCode {
     }
 }
 
-/// The fixed papers, then round after round until time is up; the number of rounds.
+/// The fixed papers and texts, all short texts, then round after round until time is up; the number of rounds.
 fn compare_all(options: &Options, comparison: &mut Comparison) -> Compared<u64> {
     let start = Instant::now();
     let seconds = options.seconds.unwrap_or(if options.guard { 20 } else { 60 });
@@ -81,6 +81,10 @@ fn compare_all(options: &Options, comparison: &mut Comparison) -> Compared<u64> 
     for paper in extremes::all() {
         comparison.origin = format!("fixed paper \"{}\"", paper.name);
         comparison.compare("fixed", &paper.model, &paper.second, &mut random)?;
+    }
+    for text in texts::fixed().into_iter().chain(texts::short()) {
+        comparison.origin = format!("fixed text of {} bytes", text.bytes.len());
+        comparison.compare_text(&text)?;
     }
     if let Some(round) = options.only {
         compare_round(options.seed, round, comparison)?;
@@ -93,13 +97,14 @@ fn compare_all(options: &Options, comparison: &mut Comparison) -> Compared<u64> 
         round += 1;
         if shown.elapsed() > Duration::from_secs(10) {
             shown = Instant::now();
-            println!("{} s of {seconds}: {round} rounds, {} papers", start.elapsed().as_secs(), comparison.papers());
+            let (papers, texts) = (comparison.papers(), comparison.texts());
+            println!("{} s of {seconds}: {round} rounds, {papers} papers, {texts} typed texts", start.elapsed().as_secs());
         }
     }
     Ok(round)
 }
 
-/// One model with a certificate, one with a run, what becomes of them by damage, and random bytes.
+/// One model with a certificate, one with a run, what becomes of them by damage, and random bytes; typed texts between them.
 fn compare_round(seed: u64, round: u64, comparison: &mut Comparison) -> Compared<()> {
     let random = &mut Random::new(seed, round);
     comparison.origin = format!("seed {seed}, round {round}");
@@ -126,8 +131,16 @@ fn compare_round(seed: u64, round: u64, comparison: &mut Comparison) -> Compared
     let kind = 2 + random.below(2) as u8;
     let second = random_bytes(random, kind);
     comparison.compare("random second sheet", &model, &second, random)?;
+    compare_texts(random, comparison)?;
     let model = random_bytes(random, 1);
     comparison.compare("random model", &model, &second, random)
+}
+
+fn compare_texts(random: &mut Random, comparison: &mut Comparison) -> Compared<()> {
+    for _ in 0..8 {
+        comparison.compare_text(&texts::random_text(random))?;
+    }
+    Ok(())
 }
 
 fn compare_model(name: &str, plan: &models::Plan, random: &mut Random, comparison: &mut Comparison) -> Compared<()> {
@@ -144,6 +157,7 @@ fn compare_with_damage(
 ) -> Compared<()> {
     comparison.compare(name, model, second, random)?;
     for damage in ALL {
+        compare_texts(random, comparison)?;
         for _ in 0..2 {
             let worse = damaged(random, model, damage);
             comparison.compare(&format!("{name}, model: {damage:?}"), &worse, second, random)?;

@@ -1,7 +1,8 @@
-//! One comparison: every call of the library against the independent marker on two sheets.
+//! One comparison: every call of the library against the independent marker, on two sheets or on a typed text.
 
 mod joint_list;
 mod rows;
+mod typed;
 
 use differential::fence::{Edge, Fence};
 use differential::papers::{Random, Sheet};
@@ -17,21 +18,21 @@ pub struct Mismatch {
     kind: String,
     library: String,
     marker: String,
-    model: Vec<u8>,
-    second: Vec<u8>,
+    /// What was handed over, by name.
+    handed: Vec<(&'static str, Vec<u8>)>,
 }
 
 pub type Compared<T> = Result<T, Box<Mismatch>>;
 
 impl Mismatch {
-    /// Prints both answers and writes the sheets as hex files.
+    /// Prints both answers and writes what was handed over as hex files.
     pub fn report(&self, folder: &Path) {
         println!("MISMATCH in {}: {} ({})", self.call, self.origin, self.kind);
         println!("  library: {}", self.library);
         println!("  marker:  {}", self.marker);
-        for (name, bytes) in [("mismatch-model.hex", &self.model), ("mismatch-second.hex", &self.second)] {
+        for (name, bytes) in &self.handed {
             let hex: String = bytes.iter().map(|byte| format!("{byte:02x}")).collect();
-            let path = folder.join(name);
+            let path = folder.join(format!("mismatch-{name}.hex"));
             match std::fs::write(&path, format!("{hex}\n")) {
                 Ok(()) => println!("  {} ({} bytes): {hex}", path.display(), bytes.len()),
                 Err(error) => println!("  {} cannot be written ({error}): {hex}", path.display()),
@@ -40,7 +41,7 @@ impl Mismatch {
     }
 }
 
-/// How many papers of a kind were compared and accepted, and how many proofs and steps the accepted ones have.
+/// How many papers or texts of a kind were compared and accepted, and how many proofs and steps the accepted ones have.
 #[derive(Default)]
 struct Count {
     compared: u64,
@@ -52,9 +53,11 @@ pub struct Comparison {
     /// What to say of the paper at hand, should it show a mismatch.
     pub origin: String,
     counts: BTreeMap<String, Count>,
+    texts: BTreeMap<&'static str, Count>,
     /// How often each number was the answer, by call.
     certificate_numbers: [u64; 16],
     run_numbers: [u64; 16],
+    typed_numbers: [u64; 18],
     other_calls: u64,
     fences: Option<Fences>,
 }
@@ -63,20 +66,20 @@ struct Fences {
     model: Fence,
     second: Fence,
     table: Fence,
+    text: Fence,
 }
 
 impl Comparison {
     pub fn new(guard: bool) -> Self {
-        let fences = || Fences {
-            model: Fence::new(40_000),
-            second: Fence::new(40_000),
-            table: Fence::new(40_000),
-        };
+        let fences =
+            || Fences { model: Fence::new(40_000), second: Fence::new(40_000), table: Fence::new(40_000), text: Fence::new(40_000) };
         Comparison {
             origin: String::new(),
             counts: BTreeMap::new(),
+            texts: BTreeMap::new(),
             certificate_numbers: [0; 16],
             run_numbers: [0; 16],
+            typed_numbers: [0; 18],
             other_calls: 0,
             fences: guard.then(fences),
         }
@@ -84,6 +87,10 @@ impl Comparison {
 
     pub fn papers(&self) -> u64 {
         self.counts.values().map(|count| count.compared).sum()
+    }
+
+    pub fn texts(&self) -> u64 {
+        self.texts.values().map(|count| count.compared).sum()
     }
 
     pub fn print_counts(&self) {
@@ -96,7 +103,14 @@ impl Comparison {
             all.passed += count.passed;
         }
         println!("{:<32} {:>9} {:>9} {:>17}", "all", all.compared, all.accepted, all.passed);
-        for (call, numbers) in [("certificate", &self.certificate_numbers), ("run", &self.run_numbers)] {
+        println!("{:<32} {:>9} {:>9}", "typed texts", "compared", "accepted");
+        for (kind, count) in &self.texts {
+            println!("{kind:<32} {:>9} {:>9}", count.compared, count.accepted);
+        }
+        let (compared, accepted) = (self.texts(), self.texts.values().map(|count| count.accepted).sum::<u64>());
+        println!("{:<32} {compared:>9} {accepted:>9}", "all");
+        let calls = [("certificate", &self.certificate_numbers[..]), ("run", &self.run_numbers), ("typed row", &self.typed_numbers)];
+        for (call, numbers) in calls {
             let seen: Vec<String> =
                 numbers.iter().enumerate().filter(|seen| *seen.1 > 0).map(|(n, times)| format!("{n}: {times}")).collect();
             println!("answers of the {call} call by number: {}", seen.join(", "));
@@ -118,8 +132,7 @@ impl Comparison {
             count.passed += u64::from(answer.done);
         }
 
-        let edges: &[Edge] = if self.fences.is_some() { &[Edge::Front, Edge::Back] } else { &[Edge::Back] };
-        for &edge in edges {
+        for &edge in self.edges() {
             let answer = self.on_sheets(edge, model, second, library::mark_certificate);
             self.same("silfoddra_mark_certificate", kind, model, second, answer, certificate)?;
             let answer = self.on_sheets(edge, model, second, library::mark_run);
@@ -128,6 +141,11 @@ impl Comparison {
             self.compare_rows(edge, kind, model, second, random)?;
         }
         Ok(())
+    }
+
+    /// Which ends of what is handed over touch a closed page, in turn.
+    fn edges(&self) -> &'static [Edge] {
+        if self.fences.is_some() { &[Edge::Front, Edge::Back] } else { &[Edge::Back] }
     }
 
     /// Makes a call, on copies between closed pages where that is asked for.
@@ -139,6 +157,10 @@ impl Comparison {
     }
 
     fn same<T: Debug + PartialEq>(&self, call: &str, kind: &str, model: &[u8], second: &[u8], library: T, marker: T) -> Compared<()> {
+        self.agree(call, kind, &[("model", model), ("second", second)], library, marker)
+    }
+
+    fn agree<T: Debug + PartialEq>(&self, call: &str, kind: &str, handed: &[(&'static str, &[u8])], library: T, marker: T) -> Compared<()> {
         if library == marker {
             return Ok(());
         }
@@ -148,8 +170,7 @@ impl Comparison {
             kind: kind.to_string(),
             library: format!("{library:?}"),
             marker: format!("{marker:?}"),
-            model: model.to_vec(),
-            second: second.to_vec(),
+            handed: handed.iter().map(|&(name, bytes)| (name, bytes.to_vec())).collect(),
         }))
     }
 }

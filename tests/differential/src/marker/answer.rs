@@ -1,6 +1,6 @@
 //! What is handed back (01, "What is handed back").
 
-/// Why a paper is refused: the numbers of the table.
+/// Why a paper is refused: the numbers of the table, and those of 02.
 #[derive(Clone, Copy, Debug, PartialEq, Eq)]
 pub enum Fault {
     Length = 1,
@@ -18,6 +18,8 @@ pub enum Fault {
     Step = 13,
     End = 14,
     Table = 15,
+    Text = 16,
+    Result = 17,
 }
 
 /// The first fault of a sheet, and its byte offset there.

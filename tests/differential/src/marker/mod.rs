@@ -1,7 +1,8 @@
-//! The marker of document 01, written from that document alone.
+//! The marker of document 01, and what document 02 adds, written from these documents alone.
 //!
-//! The modules follow its sections: `reader` (Sheet), `model`, `joint` (joint switches), `farkas` (rows and proofs), `certificate`, `run`
-//! and `beside`. Every public call takes the sheets as bytes and gives the five numbers of "What is handed back".
+//! The modules follow the sections of 01: `reader` (Sheet), `model`, `joint` (joint switches), `farkas` (rows and proofs), `certificate`,
+//! `run` and `beside`; and the orders of 02: `typed` (order 1). Every public call takes bytes and gives the five numbers of "What is handed
+//! back".
 
 pub mod answer;
 pub mod beside;
@@ -11,6 +12,7 @@ pub mod joint;
 pub mod model;
 pub mod reader;
 pub mod run;
+pub mod typed;
 
 pub use answer::{Answer, Fault, Refusal};
 pub use beside::{Which, joint_list, show_row, which};
@@ -18,3 +20,4 @@ pub use certificate::mark_certificate;
 pub use joint::JointSwitch;
 pub use model::Model;
 pub use run::mark_run;
+pub use typed::{TypedRow, read_row};

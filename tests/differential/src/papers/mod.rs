@@ -1,4 +1,4 @@
-//! Papers to compare the markers on.
+//! Papers and typed texts to compare the markers on.
 
 pub mod certificates;
 pub mod damage;
@@ -7,6 +7,7 @@ pub mod models;
 pub mod random;
 pub mod runs;
 pub mod sheet;
+pub mod texts;
 
 pub use random::Random;
 pub use sheet::Sheet;

@@ -1,0 +1,10 @@
+pub mod Signs
+pub mod Text
+pub mod Forms
+pub mod Values
+pub mod Typed
+pub mod Meaning
+pub mod Scan
+pub mod Turns
+pub mod Working
+pub mod Following
