@@ -82,7 +82,8 @@ fn compare_all(options: &Options, comparison: &mut Comparison) -> Compared<u64> 
         comparison.origin = format!("fixed paper \"{}\"", paper.name);
         comparison.compare("fixed", &paper.model, &paper.second, &mut random)?;
     }
-    for text in texts::fixed().into_iter().chain(texts::short()) {
+    let short = texts::short().filter(|_| !options.guard);
+    for text in texts::fixed().into_iter().chain(short) {
         comparison.origin = format!("fixed text of {} bytes", text.bytes.len());
         comparison.compare_text(&text)?;
     }
