@@ -16,7 +16,7 @@ use Rattle.formats.specs.Joint.{countUp, joinAll, switchesOf, modesAfter, Joint
 use Rattle.models.specs.Index.{entry, componentsFrom, modelFrom}
 use Rattle.second_sheets.specs.CertificateAnswers.{regionsFrom}
 use Rattle.formats.proofs.JointCounts.{event-length}
-use Rattle.model_sheets.proofs.JointLoops.{record-at}
+use Rattle.joint_switches.proofs.JointLoops.{record-at}
 use Rattle.certificates.specs.declared.Marking as declared
 use Rattle.rules.specs.Obligations.{Obligation, locationObligations, jumpObligations, jumpsObligations, obligationsOver, obligations, afterJump}
 use Rattle.rules.specs.Marking.{Marked, passed, stopped}

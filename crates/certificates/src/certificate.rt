@@ -3,7 +3,7 @@ use crate::Marking;
 use crate::obligations::mark_obligations;
 use fields::Next;
 use fields::header::finished;
-use model_sheets::joints::location_count;
+use joint_switches::joints::location_count;
 use models::layout::INDEX_LENGTH;
 use models::layout::Index;
 use models::layout::VARIABLES_AT;

@@ -18,9 +18,9 @@ use Rattle.rules.specs.declared.Answer.{Answer}
 use Rattle.rules.specs.declared.Joint.{Joint}
 use Rattle.rules.specs.Marking.{answer, withModel}
 use Rattle.rules.specs.Beside.{recordOf, listAnswer, filled, tableAfter}
-use Rattle.queries.specs.Records.{recordsFrom, IndexOf}
+use Rattle.joint_lists.specs.Records.{recordsFrom, IndexOf}
 use Rattle.papers.proofs.PaperLaws.{accepted}
-use Rattle.queries.proofs.RecordLaws.{whole-list, index-model}
+use Rattle.joint_lists.proofs.RecordLaws.{whole-list, index-model}
 
 -- how many records are written, which, and what the table is afterwards
 pub record Plan (model index : List ℕ) (count : ℕ) (table : List Joint) : Type 0 where

@@ -1,9 +1,9 @@
 // The joint list, written record after record into a table that the exam desk lends.
-use queries::joint_list::answer_for;
-use queries::joint_list::list_index;
-use queries::joint_list::list_start;
-use queries::joint_list::next_record;
-use queries::joint_list::record_count;
+use joint_lists::joint_list::answer_for;
+use joint_lists::joint_list::list_index;
+use joint_lists::joint_list::list_start;
+use joint_lists::joint_list::next_record;
+use joint_lists::joint_list::record_count;
 use rules::Answer;
 use rules::Joint;
 ghost use mathlib.Core.Path.{_≡_};

@@ -16,7 +16,7 @@ use Rattle.formats.specs.Joint.{stays, switchOf, countUp, joinAll, numbersFrom}
 use Rattle.models.specs.Index.{entry, ownerPlace, componentPlace, modePlace, switchPlace, unsafePlace, spanRows, modeFrom, switchFrom, componentsFrom, modelFrom, GoodIndex}
 use Rattle.models.specs.Counts.{componentAt, perComponent, KnownSwitches}
 use Rattle.models.proofs.GoodIndexLaws.{components-drop, components-end, switch-at}
-use Rattle.model_sheets.proofs.JointLoops.{componentsOn, numbersOn, per-component-drop}
+use Rattle.joint_switches.proofs.JointLoops.{componentsOn, numbersOn, per-component-drop}
 use Rattle.rules.specs.Runs.{present, movers, stayingVariables}
 use Rattle.rules.specs.Obligations.{Hypothesis, nowhere, standing, onX, onNext, onRates, timeRow, stayingRows, modeRows, startHypotheses, flowHypotheses, unsafeHypotheses, jumpHypotheses}
 use Rattle.hypotheses.specs.Tables.{TableLine, hypothesisIn, hypothesisOf, keepsUp, keepsDown}

@@ -10,7 +10,7 @@ use lib.ListN.{length, getD, drop-of-length-le}
 use Rattle.formats.specs.Joint.{stays}
 use Rattle.models.specs.Index.{entry, ownerPlace, componentPlace, modePlace, switchPlace, GoodSpan, GoodIndex}
 use Rattle.models.specs.Counts.{perComponent}
-use Rattle.model_sheets.proofs.JointLoops.{numbersOn, per-component-length, per-component-drop}
+use Rattle.joint_switches.proofs.JointLoops.{numbersOn, per-component-length, per-component-drop}
 use Rattle.hypotheses.specs.Tables.{TableLine}
 use Rattle.hypotheses.specs.Listing.{line, keptLines, modeLines, switchLine, switchLines, stayingLine, Spaced}
 use Rattle.hypotheses.proofs.TableLaws.{span-length}

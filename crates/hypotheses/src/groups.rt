@@ -5,7 +5,7 @@ use crate::tables::push_kept;
 use crate::tables::push_modes;
 use crate::tables::push_staying;
 use crate::tables::push_switches;
-use model_sheets::joints::modes_at;
+use joint_switches::joints::modes_at;
 use models::layout::FIRST_UNSAFE;
 use models::layout::FLOW_AT;
 use models::layout::INITIAL_AT;

@@ -5,11 +5,11 @@
 // so many records lent as the number says; 4 asks for the program's line for the sheet's bytes as its input; 5 asks for the part that show
 // row gives, with the number's high byte as the obligation and its low byte as the hypothesis: how many bytes, and the bytes.
 use certificates::certificate::mark_certificate;
+use joint_lists::list::list_answer;
 use libc::STDIN_FILENO;
 use libc::STDOUT_FILENO;
 use marking::text::LINE_LENGTH;
 use marking::text::mark_text;
-use queries::list::list_answer;
 use queries::show::show_row;
 use rules::Answer;
 use runs::run::mark_run;

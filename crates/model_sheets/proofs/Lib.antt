@@ -1,4 +1,1 @@
-pub mod JointLoops
-pub mod TallyLaws
-pub mod WaysLaws
 pub mod SheetLaws

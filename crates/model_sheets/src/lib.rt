@@ -1,8 +1,5 @@
-// Model sheets read whole: the body into its index, then the locations and joint switches counted, and the limits.
-pub mod joints;
+// Model sheets read whole: the body into its index, then the limits on locations and joint switches.
 pub mod sheet;
-pub mod tally;
-pub mod ways;
 
 use fields::Next;
 use models::layout::Index;

@@ -1,11 +1,11 @@
 // A model sheet, whole: its header, its body, no bytes left, then the limits on locations and joint switches.
 use crate::ReadModel;
-use crate::joints::joint_count;
-use crate::joints::location_count;
 use fields::Field;
 use fields::Next;
 use fields::header::finished;
 use fields::header::header;
+use joint_switches::joints::joint_count;
+use joint_switches::joints::location_count;
 use models::body::body_into;
 use models::layout::INDEX_LENGTH;
 use models::layout::Index;

@@ -14,7 +14,7 @@ use Rattle.formats.specs.Joint.{countUp}
 use Rattle.models.specs.Index.{entry, componentPlace, modePlace, unsafePlace, modeFrom, componentFrom, componentsFrom, GoodIndex, unsafeFrom}
 use Rattle.models.specs.Counts.{componentAt, perComponent}
 use Rattle.models.proofs.GoodIndexLaws.{counted-at, components-drop, components-end, counted-length, counted-drop, components-length, component-at, mode-length, good-components}
-use Rattle.model_sheets.proofs.JointLoops.{componentsOn, numbersOn, per-component-drop, per-component-length, per-component-modes}
+use Rattle.joint_switches.proofs.JointLoops.{componentsOn, numbersOn, per-component-drop, per-component-length, per-component-modes}
 use Rattle.rules.specs.Runs.{present, modesFit}
 use Rattle.papers.specs.Standing.{KnownModes, GoodModes, Stands}
 use Rattle.farkas.specs.Lists.{All, none, more, every}

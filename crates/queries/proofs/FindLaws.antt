@@ -17,7 +17,7 @@ use Rattle.models.specs.Index.{entry, unsafePlace, unsafeFrom, componentsFrom, 
 use Rattle.models.specs.Counts.{perComponent}
 use Rattle.models.proofs.GoodIndexLaws.{counted-at}
 use Rattle.formats.proofs.JointCounts.{event-length}
-use Rattle.model_sheets.proofs.JointLoops.{record-at}
+use Rattle.joint_switches.proofs.JointLoops.{record-at}
 use Rattle.rules.specs.Runs.{present, modesIn, modesFit}
 use Rattle.rules.specs.Obligations.{Hypothesis, Kind, atStart, afterFlow, clearOfUnsafe, afterJump, Obligation, onX, onNext, perRow, startHypotheses, flowHypotheses, unsafeHypotheses, startObligations, flowObligations, unsafeObligations, locationObligations, jumpObligations, jumpsObligations, obligationsOver}
 use Rattle.hypotheses.specs.Listing.{noUnsafe}

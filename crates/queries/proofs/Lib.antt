@@ -1,4 +1,2 @@
-pub mod ListLaws
-pub mod RecordLaws
 pub mod FindLaws
 pub mod ShowLaws

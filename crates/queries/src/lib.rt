@@ -1,19 +1,7 @@
-// What is asked for beside the marking: the joint list, show row, and which obligation has a number.
+// What is asked of a paper beside its marking: show row, and which obligation has a number.
 pub mod find;
-pub mod joint_list;
-pub mod list;
 pub mod rows;
 pub mod show;
-
-use rules::Joint;
-
-// A record of the joint list, and the place in the list after it: a slot, sixteen to a location, and how many joint switches from there on
-// are passed over.
-pub struct ListedJoint {
-    pub joint: Joint,
-    pub slot: u32,
-    pub x: u32,
-}
 
 // Which obligation has a number: 0 and its kind (0 start, 1 flow, 2 unsafe, 3 jump), its location or the number of its joint switch, and
 // the number of its region row or unsafe condition, with sheet 1 and its length; or why there is none, then with 0 0 0.

@@ -6,7 +6,7 @@ use crate::Which;
 use crate::find::find;
 use crate::rows::sought_row;
 use fields::Next;
-use model_sheets::joints::location_count;
+use joint_switches::joints::location_count;
 use models::layout::INDEX_LENGTH;
 use models::layout::Index;
 use models::layout::VARIABLES_AT;

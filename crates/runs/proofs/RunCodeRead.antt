@@ -30,7 +30,7 @@ use Rattle.formats.proofs.Gives.{Gives, gives-bind, gives-give, gives-any, give
 use Rattle.formats.proofs.Placed.{Fine, placed-opening}
 use Rattle.formats.proofs.Joint.{Known, no-numbers, number-and}
 use Rattle.models.proofs.GoodIndexLaws.{few-components}
-use Rattle.model_sheets.proofs.JointLoops.{four-known}
+use Rattle.joint_switches.proofs.JointLoops.{four-known}
 use Rattle.second_sheets.proofs.StepLaws.{eight-item}
 use Rattle.rules.specs.Runs.{after}
 use Rattle.steps.specs.Held.{perVariable, SmallValues, KnownStep}

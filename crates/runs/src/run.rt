@@ -2,8 +2,8 @@
 use crate::RunMarked;
 use fields::Next;
 use fields::header::finished;
-use model_sheets::joints::location_count;
-use model_sheets::joints::modes_at;
+use joint_switches::joints::location_count;
+use joint_switches::joints::modes_at;
 use models::layout::INDEX_LENGTH;
 use models::layout::Index;
 use papers::answers::on_second;

@@ -1,6 +1,6 @@
 -- How many obligations there are: the rows of a region at the start and after a flow, the unsafe conditions that fit, and the rows of the
 -- targets of joint switches; each sum by its turns. Assumes nothing.
-use mathlib.Core.Path.{_≡_, refl, sym, ap, ap₂, _∙_, subst}
+use mathlib.Core.Path.{_≡_, refl, sym, ap, ap₂, _∙_}
 use mathlib.Core.Bool.{Bool, true, false, cond}
 use mathlib.Core.List.{List, [], _∷_, _++_}
 use Prim.Native.Nat.{ℕ, suc, _+_, _*_, _-_, _≤_, _<_}
@@ -15,21 +15,18 @@ use Rattle.farkas.specs.declared.Row.{Row}
 use Rattle.formats.specs.Rows.{Condition}
 use Rattle.formats.specs.Model.{Component, Unsafe, Model}
 use Rattle.formats.specs.Locations.{locationCount, modesAt, locationOf}
-use Rattle.formats.specs.Joint.{bit, numbersFrom, modesAfter, switchesOf, JointSwitch, jointsOf, joints, countUp, joinAll, fourSwitches, jointFrom}
+use Rattle.formats.specs.Joint.{bit, numbersFrom, modesAfter, switchesOf, JointSwitch, jointsOf, joints, countUp, joinAll, jointFrom}
 use Rattle.models.specs.Index.{entry, unsafePlace, unsafeFrom, componentsFrom, modelFrom, GoodIndex}
-use Rattle.models.specs.Counts.{perComponent, KnownSwitches}
+use Rattle.models.specs.Counts.{perComponent}
 use Rattle.second_sheets.specs.CertificateAnswers.{regionsFrom}
-use Rattle.models.proofs.GoodIndexLaws.{counted-length, counted-drop, good-components}
-use Rattle.formats.proofs.Locations.{modes-at, location-of}
-use Rattle.formats.proofs.Joint.{Known, joint-known, modes-after}
+use Rattle.models.proofs.GoodIndexLaws.{counted-length, counted-drop}
 use Rattle.formats.proofs.JointCounts.{numbers-length, event-length, jointsIn}
-use Rattle.model_sheets.proofs.JointLoops.{switches-few, per-component-modes, record-at, found-joint, four-known, four-first}
+use Rattle.joint_switches.proofs.JointLoops.{switches-few, per-component-modes, record-at}
 use Rattle.rules.specs.Runs.{present, modesIn, modesFit}
 use Rattle.rules.specs.Obligations.{Hypothesis, Kind, Obligation, perRow, startObligations, flowObligations, unsafeObligations, locationObligations, jumpObligations, jumpsObligations, obligationsOver, obligations, regionOf}
 use Rattle.papers.specs.Paper.{GoodPaper, regionsOf}
 use Rattle.scores.specs.Counting.{targetRows}
 use Rattle.rules.proofs.ListFacts.{joined-few, joined-twice, count-length}
-use Rattle.papers.proofs.StandingLaws.{have-modes}
 use Rattle.papers.proofs.RegionLaws.{region-few}
 
 -- numbers of elements that pass a test: not more than elements
@@ -220,32 +217,3 @@ events-few {model} {index} {second} {regions} g location =
     let components = componentsFrom model index in
     let regionAt = regionsOf model index second regions in
     omega (arith, joined-few (λ e. targetRows regionAt (jointsOf components location e)) 16777216 (event-few g location) (countUp 0 16), rows-joined regionAt (jointsOf components location) (countUp 0 16))
-
--- What is found by its number: switches that are known, which lead to a location
-module _ {model index : List ℕ} (g : GoodIndex model index) (location e x : ℕ) (modes : List ℕ) (h : location < locationCount (componentsFrom model index)) (p : perComponent index modes ≡ modesAt (componentsFrom model index) location) (k : e ≤ 15) (l : x < length (switchesOf (componentsFrom model index) (modesAt (componentsFrom model index) location) e)) where
-  abbrev pub foundAt : List ℕ
-  foundAt = getD (switchesOf (componentsFrom model index) (modesAt (componentsFrom model index) location) e) x []
-
-  pub found-known : Known (componentsFrom model index) foundAt
-  found-known = joint-known (componentsFrom model index) (modesAt (componentsFrom model index) location) e foundAt (found-joint (good-components g) location e x h k l)
-
-  pub found-below : locationOf (componentsFrom model index) (modesAfter (componentsFrom model index) (modesAt (componentsFrom model index) location) foundAt) < locationCount (componentsFrom model index)
-  found-below = location-of (modes-after (entry index 0) (good-components g) (modes-at (have-modes (good-components g)) location h) found-known)
-
-  pub found-within : x < length (switchesOf (componentsFrom model index) (perComponent index modes) e)
-  found-within = subst (λ (ms : List ℕ). x < length (switchesOf (componentsFrom model index) ms e)) (sym p) l
-
-  module _ (switches : List ℕ) (q : switches ≡ fourSwitches (getD (switchesOf (componentsFrom model index) (perComponent index modes) e) x [])) where
-    found-four : switches ≡ fourSwitches foundAt
-    found-four = q ∙ ap (λ (ms : List ℕ). fourSwitches (getD (switchesOf (componentsFrom model index) ms e) x [])) p
-
-    pub found-first : perComponent index switches ≡ foundAt
-    found-first = ap (perComponent index) found-four ∙ four-first g found-known
-
-    pub found-switches : KnownSwitches index switches
-    found-switches = subst (λ (ws : List ℕ). KnownSwitches index ws) (sym found-four) (four-known g found-known)
-
-    pub found-target : (target : ℕ) → target ≡ locationOf (componentsFrom model index) (modesAfter (componentsFrom model index) (perComponent index modes) (perComponent index switches)) → target ≡ locationOf (componentsFrom model index) (modesAfter (componentsFrom model index) (modesAt (componentsFrom model index) location) foundAt)
-    found-target target t =
-        t
-        ∙ ap₂ (λ (ms ws : List ℕ). locationOf (componentsFrom model index) (modesAfter (componentsFrom model index) ms ws)) p found-first

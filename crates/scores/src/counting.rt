@@ -1,11 +1,11 @@
 // How many obligations there are: the goals of each group, counted and never listed.
-use model_sheets::joints::bit_of;
-use model_sheets::joints::modes_at;
-use model_sheets::joints::target_of;
-use model_sheets::ways::WAYS_LENGTH;
-use model_sheets::ways::list_ways;
-use model_sheets::ways::way_at;
-use model_sheets::ways::ways_count;
+use joint_switches::joints::bit_of;
+use joint_switches::joints::modes_at;
+use joint_switches::joints::target_of;
+use joint_switches::ways::WAYS_LENGTH;
+use joint_switches::ways::list_ways;
+use joint_switches::ways::way_at;
+use joint_switches::ways::ways_count;
 use models::layout::CONDITIONS_AT;
 use models::layout::Index;
 use papers::standing::all_start;
@@ -18,7 +18,7 @@ ghost use Rattle.formats.specs.Locations.{locationCount, modesAt};
 ghost use Rattle.formats.specs.Joint.{numbersFrom, switchesOf, jointsOf, joints, joinAll, countUp};
 ghost use Rattle.models.specs.Index.{entry, componentsFrom, modelFrom, GoodIndex};
 ghost use Rattle.models.specs.Counts.{perComponent};
-ghost use Rattle.model_sheets.specs.Ways.{Ways};
+ghost use Rattle.joint_switches.specs.Ways.{Ways};
 ghost use Rattle.rules.specs.Runs.{modesFit};
 ghost use Rattle.rules.specs.Marking.{refusedScore};
 ghost use Rattle.papers.specs.Paper.{GoodPaper, regionsOf, locationObligationsFor, obligationsFor};

@@ -4,9 +4,9 @@
 use fields::Field;
 use fields::Next;
 use fields::header::header;
+use joint_switches::joints::location_count;
 use libc::STDIN_FILENO;
 use libc::STDOUT_FILENO;
-use model_sheets::joints::location_count;
 use model_sheets::sheet::read_model;
 use models::layout::Index;
 use models::layout::VARIABLES_AT;

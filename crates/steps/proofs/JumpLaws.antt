@@ -21,7 +21,7 @@ use Rattle.second_sheets.specs.RunAnswers.{stepOf}
 use Rattle.formats.proofs.Locations.{modes-at, location-of}
 use Rattle.formats.proofs.Joint.{Known, no-numbers, number-and, modes-after}
 use Rattle.models.proofs.GoodIndexLaws.{components-drop, components-end, switch-length, good-components}
-use Rattle.model_sheets.proofs.JointLoops.{componentsOn, numbersOn, per-component-length, per-component-drop}
+use Rattle.joint_switches.proofs.JointLoops.{componentsOn, numbersOn, per-component-length, per-component-drop}
 use Rattle.rules.specs.Runs.{State, admissible, jumpRows, stayingKept, jumpRule, after, ruleMet, stepAllowed, movers}
 use Rattle.papers.specs.Standing.{Stands}
 use Rattle.steps.specs.Held.{perVariable, stateOf}

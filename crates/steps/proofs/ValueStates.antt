@@ -21,7 +21,7 @@ use Rattle.formats.specs.Joint.{stays, switchOf, countUp}
 use Rattle.models.specs.Index.{entry, ownerPlace, componentPlace, modePlace, switchPlace, unsafePlace, spanRows, modeFrom, switchFrom, unsafeFrom, componentsFrom, modelFrom, GoodIndex}
 use Rattle.models.specs.Counts.{componentAt, perComponent, KnownSwitches}
 use Rattle.models.proofs.GoodIndexLaws.{components-drop, components-end, switch-at}
-use Rattle.model_sheets.proofs.JointLoops.{componentsOn, numbersOn, per-component-drop}
+use Rattle.joint_switches.proofs.JointLoops.{componentsOn, numbersOn, per-component-drop}
 use Rattle.rules.specs.Runs as runs
 use Rattle.rules.specs.Runs.{conditionHolds, present, movers, difference, sameValues, modesFit}
 use Rattle.papers.specs.Standing.{Stands}

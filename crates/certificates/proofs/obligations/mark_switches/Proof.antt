@@ -14,7 +14,7 @@ use Rattle.rules.specs.Marking.{passed}
 use Rattle.papers.specs.Paper.{heldNext, regionsOf}
 use Rattle.hypotheses.specs.Listing.{Task, noTask, tasksOf, jumpTasks, jointTasks, markTask, markTasks}
 use Rattle.certificates.specs.Passed.{standsAt}
-use Rattle.scores.proofs.CountGoals.{found-within, found-switches, found-target, found-below, found-first}
+use Rattle.papers.proofs.FoundLaws.{found-within, found-switches, found-target, found-below, found-first}
 use Rattle.certificates.proofs.MarkLaws.{tasks-length, task-advances}
 use Rattle.certificates.proofs.MarkLoops.{Comes, comes-same, goals-out, goal-passed, goal-failed, comes-end}
 use Rattle.certificates.proofs.JointMarks.{jumpsLeft, foundAt, jumps-start, jumps-next, jumps-end}

@@ -54,36 +54,36 @@ use Rattle.formats.specs.Locations.{locationCount}
 use Rattle.models.specs.Index.{componentsFrom, GoodIndex}
 use Rattle.formats.specs.ModelSheet.{examLimits}
 use Rattle.rules.specs.Beside.{listAnswer, tableAfter}
-use Rattle.queries.specs.Records.{recordsFrom, IndexOf}
+use Rattle.joint_lists.specs.Records.{recordsFrom, IndexOf}
 use Rattle.rules.specs.declared.Answer.{Answer}
 use Rattle.rules.specs.declared.Joint.{Joint}
-use Rattle.queries.specs.declared.ListedJoint.{ListedJoint}
+use Rattle.joint_lists.specs.declared.ListedJoint.{ListedJoint}
 use Rattle.rules.proofs.Answer as AT
 use Rattle.rules.proofs.Answer.Laws as AL
 use Rattle.rules.proofs.Joint as JT
 use Rattle.rules.proofs.Joint.Laws as JL
-use Rattle.queries.proofs.ListedJoint as LT
-use Rattle.queries.proofs.ListedJoint.Laws as LN
-use Rattle.queries.proofs.joint_list.answer_for as answer-for
-use Rattle.queries.proofs.joint_list.answer_for.Symbol as answer-for-def
-use Rattle.queries.proofs.joint_list.answer_for.Symbol.{name as #answer-for}
-use Rattle.queries.proofs.joint_list.answer_for.Met as answer-for-thm
-use Rattle.queries.proofs.joint_list.record_count as record-count
-use Rattle.queries.proofs.joint_list.record_count.Symbol as record-count-def
-use Rattle.queries.proofs.joint_list.record_count.Symbol.{name as #record-count}
-use Rattle.queries.proofs.joint_list.record_count.Met as record-count-thm
-use Rattle.queries.proofs.joint_list.list_index as list-index
-use Rattle.queries.proofs.joint_list.list_index.Symbol as list-index-def
-use Rattle.queries.proofs.joint_list.list_index.Symbol.{name as #list-index}
-use Rattle.queries.proofs.joint_list.list_index.Met as list-index-thm
-use Rattle.queries.proofs.joint_list.list_start as list-start
-use Rattle.queries.proofs.joint_list.list_start.Symbol as list-start-def
-use Rattle.queries.proofs.joint_list.list_start.Symbol.{name as #list-start}
-use Rattle.queries.proofs.joint_list.list_start.Met as list-start-thm
-use Rattle.queries.proofs.joint_list.next_record as next-record
-use Rattle.queries.proofs.joint_list.next_record.Symbol as next-record-def
-use Rattle.queries.proofs.joint_list.next_record.Symbol.{name as #next-record}
-use Rattle.queries.proofs.joint_list.next_record.Met as next-record-thm
+use Rattle.joint_lists.proofs.ListedJoint as LT
+use Rattle.joint_lists.proofs.ListedJoint.Laws as LN
+use Rattle.joint_lists.proofs.joint_list.answer_for as answer-for
+use Rattle.joint_lists.proofs.joint_list.answer_for.Symbol as answer-for-def
+use Rattle.joint_lists.proofs.joint_list.answer_for.Symbol.{name as #answer-for}
+use Rattle.joint_lists.proofs.joint_list.answer_for.Met as answer-for-thm
+use Rattle.joint_lists.proofs.joint_list.record_count as record-count
+use Rattle.joint_lists.proofs.joint_list.record_count.Symbol as record-count-def
+use Rattle.joint_lists.proofs.joint_list.record_count.Symbol.{name as #record-count}
+use Rattle.joint_lists.proofs.joint_list.record_count.Met as record-count-thm
+use Rattle.joint_lists.proofs.joint_list.list_index as list-index
+use Rattle.joint_lists.proofs.joint_list.list_index.Symbol as list-index-def
+use Rattle.joint_lists.proofs.joint_list.list_index.Symbol.{name as #list-index}
+use Rattle.joint_lists.proofs.joint_list.list_index.Met as list-index-thm
+use Rattle.joint_lists.proofs.joint_list.list_start as list-start
+use Rattle.joint_lists.proofs.joint_list.list_start.Symbol as list-start-def
+use Rattle.joint_lists.proofs.joint_list.list_start.Symbol.{name as #list-start}
+use Rattle.joint_lists.proofs.joint_list.list_start.Met as list-start-thm
+use Rattle.joint_lists.proofs.joint_list.next_record as next-record
+use Rattle.joint_lists.proofs.joint_list.next_record.Symbol as next-record-def
+use Rattle.joint_lists.proofs.joint_list.next_record.Symbol.{name as #next-record}
+use Rattle.joint_lists.proofs.joint_list.next_record.Met as next-record-thm
 use Rattle.entries.proofs.ListPlan.{Plan, plan, Written, written-none, written-length, written-more, written-next, written-all}
 use Rattle.entries.proofs.table.silfoddra_joint_list.Key.{name as #joint-list}
 use Rattle.entries.proofs.table.silfoddra_joint_list as entry
@@ -442,8 +442,8 @@ silfoddra-joint-list-spec 𝓤 H 𝓜 𝓖 𝓡 =
     entered 𝓤 H (tripleOf 𝓤 H (𝓖 .A) entry.signature (entry.spec 𝓤 H (𝓖 .A) (𝓜 .mem) (𝓡 .run)))
     (tables 𝓤 H 𝓜 𝓡 code.env .C) (tables 𝓤 H 𝓜 𝓡 code.env .Λ) #joint-list code.function (code.unfolded 𝓤 H 𝓜 𝓡)
     (joint-list-meets 𝓤 H (𝓖 .A) (givenOf 𝓤 H 𝓜 𝓖) (𝓜 .mem) (𝓡 .run) (tablesOf 𝓤 H 𝓜 (tables 𝓤 H 𝓜 𝓡 code.env))
-    (cited 𝓤 H (AnswerFor 𝓤 H (𝓖 .A) (𝓜 .mem) (𝓡 .run)) 𝓜 𝓡 code.env #answer-for answer-for-def.routine code.calls-queries·joint-list·answer-for (answer-for-thm.met 𝓤 H 𝓜 𝓖 𝓡))
-    (cited 𝓤 H (RecordCount 𝓤 H (𝓖 .A) (𝓜 .mem) (𝓡 .run)) 𝓜 𝓡 code.env #record-count record-count-def.routine code.calls-queries·joint-list·record-count (record-count-thm.met 𝓤 H 𝓜 𝓖 𝓡))
-    (cited 𝓤 H (ListIndex 𝓤 H (𝓖 .A) (𝓜 .mem) (𝓡 .run)) 𝓜 𝓡 code.env #list-index list-index-def.routine code.calls-queries·joint-list·list-index (list-index-thm.met 𝓤 H 𝓜 𝓖 𝓡))
-    (cited 𝓤 H (ListStart 𝓤 H (𝓖 .A) (𝓜 .mem) (𝓡 .run)) 𝓜 𝓡 code.env #list-start list-start-def.routine code.calls-queries·joint-list·list-start (list-start-thm.met 𝓤 H 𝓜 𝓖 𝓡))
-    (cited 𝓤 H (NextRecord 𝓤 H (𝓖 .A) (𝓜 .mem) (𝓡 .run)) 𝓜 𝓡 code.env #next-record next-record-def.routine code.calls-queries·joint-list·next-record (next-record-thm.met 𝓤 H 𝓜 𝓖 𝓡)))
+    (cited 𝓤 H (AnswerFor 𝓤 H (𝓖 .A) (𝓜 .mem) (𝓡 .run)) 𝓜 𝓡 code.env #answer-for answer-for-def.routine code.calls-joint-lists·joint-list·answer-for (answer-for-thm.met 𝓤 H 𝓜 𝓖 𝓡))
+    (cited 𝓤 H (RecordCount 𝓤 H (𝓖 .A) (𝓜 .mem) (𝓡 .run)) 𝓜 𝓡 code.env #record-count record-count-def.routine code.calls-joint-lists·joint-list·record-count (record-count-thm.met 𝓤 H 𝓜 𝓖 𝓡))
+    (cited 𝓤 H (ListIndex 𝓤 H (𝓖 .A) (𝓜 .mem) (𝓡 .run)) 𝓜 𝓡 code.env #list-index list-index-def.routine code.calls-joint-lists·joint-list·list-index (list-index-thm.met 𝓤 H 𝓜 𝓖 𝓡))
+    (cited 𝓤 H (ListStart 𝓤 H (𝓖 .A) (𝓜 .mem) (𝓡 .run)) 𝓜 𝓡 code.env #list-start list-start-def.routine code.calls-joint-lists·joint-list·list-start (list-start-thm.met 𝓤 H 𝓜 𝓖 𝓡))
+    (cited 𝓤 H (NextRecord 𝓤 H (𝓖 .A) (𝓜 .mem) (𝓡 .run)) 𝓜 𝓡 code.env #next-record next-record-def.routine code.calls-joint-lists·joint-list·next-record (next-record-thm.met 𝓤 H 𝓜 𝓖 𝓡)))

@@ -8,7 +8,7 @@ use Rattle.formats.specs.Joint.{jointsOf, joinAll, countUp}
 use Rattle.models.specs.Index.{componentsFrom, modelFrom}
 use Rattle.papers.specs.Paper.{regionsOf}
 use Rattle.formats.proofs.JointCounts.{joined-next, joined-end, event-length}
-use Rattle.model_sheets.proofs.JointLoops.{per-component-modes}
+use Rattle.joint_switches.proofs.JointLoops.{per-component-modes}
 use Rattle.papers.proofs.JoinedLaws.{joinedOn}
 use Rattle.scores.proofs.CountGoals.{counted-switches}
 use Rattle.queries.proofs.find.switch_total.Statement.{statement}

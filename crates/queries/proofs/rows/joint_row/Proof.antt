@@ -15,7 +15,7 @@ use Rattle.papers.specs.Paper.{regionsOf}
 use Rattle.queries.specs.Finding.{rowFound, hypothesisFound, jointHypotheses, jointHere}
 use Rattle.hypotheses.proofs.TableLaws.{lines-most}
 use Rattle.hypotheses.proofs.GoodLines.{jump-fine}
-use Rattle.scores.proofs.CountGoals.{found-within, found-switches, found-target, found-below, found-first}
+use Rattle.papers.proofs.FoundLaws.{found-within, found-switches, found-target, found-below, found-first}
 use Rattle.papers.proofs.StandingLaws.{stands-at}
 use Rattle.queries.proofs.ShowLaws.{jump-held}
 use Rattle.queries.proofs.rows.joint_row.Statement.{statement}

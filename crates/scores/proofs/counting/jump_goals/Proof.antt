@@ -7,7 +7,7 @@ use lib.ListN.{length}
 use Rattle.formats.specs.Joint.{jointsOf, joinAll, countUp}
 use Rattle.models.specs.Index.{componentsFrom}
 use Rattle.formats.proofs.JointCounts.{joined-next, joined-end}
-use Rattle.model_sheets.proofs.JointLoops.{per-component-modes}
+use Rattle.joint_switches.proofs.JointLoops.{per-component-modes}
 use Rattle.scores.specs.Counting.{targetRows}
 use Rattle.papers.specs.Paper.{regionsOf}
 use Rattle.scores.proofs.CountGoals.{rows-joined, events-few}

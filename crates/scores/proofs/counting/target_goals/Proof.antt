@@ -5,7 +5,7 @@ use native.Mathlib.Omega.{arith}
 use denote.Ref.{now}
 use lib.ListN.{length}
 use Rattle.papers.specs.Paper.{regionsOf}
-use Rattle.scores.proofs.CountGoals.{found-below, found-within, found-switches, found-target}
+use Rattle.papers.proofs.FoundLaws.{found-below, found-within, found-switches, found-target}
 use Rattle.scores.proofs.counting.target_goals.Statement.{statement}
 use Rattle.scores.proofs.counting.target_goals.Tie as tie
 

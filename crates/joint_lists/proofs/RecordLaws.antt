@@ -1,0 +1,210 @@
+-- The joint list by its slots: it is the whole list from the first slot on; how it goes on from a place; a record of it from what the code
+-- finds; and the answer for a table with more room than any list needs. Assumes nothing.
+use mathlib.Core.Path.{_≡_, refl, sym, ap, ap₂, _∙_}
+use mathlib.Core.Bool.{cond}
+use mathlib.Core.List.{List, [], _∷_, _++_, map, append-assoc}
+use Prim.Native.Nat.{ℕ, zero, suc, _+_, _*_, _-_, _/_, _%_, _≤_, _<_, min}
+use native.Mathlib.Nat.{min-eq-left, min-eq-right}
+use native.Mathlib.Decide.{decLe}
+use native.Mathlib.Numerals.{add-one}
+use native.Mathlib.Omega.{arith}
+use lib.Dec.{leb}
+use lib.ListN.{length, getD, drop, length-append, length-map, List·getD-append}
+use lib.Seq.{drop-cons, drop-nil, drop-append-add}
+use borrow.Author.Tests.{le-leb}
+use Rattle.fields.specs.declared.Next.{Next}
+use Rattle.fields.specs.declared.Next.the-variants as next
+use Rattle.fields.specs.Answers.{gotAs}
+use Rattle.formats.specs.Reading.{Got, got, refused}
+use Rattle.formats.specs.Model.{Component, Model}
+use Rattle.formats.specs.Locations.{locationCount, modesAt, locationOf}
+use Rattle.formats.specs.Joint.{switchesOf, modesAfter, JointSwitch, jointsOf, joints, countUp, joinAll, fourSwitches, jointFrom}
+use Rattle.formats.specs.ModelSheet.{examLimits, readModel}
+use Rattle.models.specs.Index.{componentsFrom, modelFrom, GoodIndex}
+use Rattle.model_sheets.specs.Read.{indexWith}
+use Rattle.formats.proofs.Gives.{got-value}
+use Rattle.joint_switches.proofs.JointLoops.{switches-few, record-at}
+use Rattle.rules.specs.declared.Answer.{Answer}
+use Rattle.rules.specs.declared.Joint.{Joint}
+use Rattle.rules.specs.Marking.{answer, withModel}
+use Rattle.rules.specs.Beside.{recordOf, listAnswer}
+use Rattle.joint_lists.specs.Records.{slotJoints, jointsFrom, recordsFrom, noJoint, modelBy, indexBy, IndexOf}
+use Rattle.papers.proofs.JoinedLaws.{joinedOn, joined-first, joined-none}
+use Rattle.papers.proofs.PaperLaws.{few-joints}
+
+-- numbers in a row, and lists that are joined
+count-both : (i m n : ℕ) → countUp i (m + n) ≡ countUp i m ++ countUp (i + m) n
+unfolding countUp
+count-both i zero n = ap₂ countUp (none i) (zero-first n)
+  where
+    none : (i : ℕ) → i ≡ i + 0
+    none i = omega arith
+
+    zero-first : (n : ℕ) → 0 + n ≡ n
+    zero-first n = omega arith
+count-both i (suc m) n = ap (countUp i) (one-more m n) ∙ ap (λ (xs : List ℕ). i ∷ xs) (count-both (suc i) m n ∙ ap (λ (j : ℕ). countUp (suc i) m ++ countUp j n) (moved i m))
+  where
+    one-more : (m n : ℕ) → suc m + n ≡ suc (m + n)
+    one-more m n = omega arith
+
+    moved : (i m : ℕ) → suc i + m ≡ i + suc m
+    moved i m = omega arith
+
+joined-both : {A B : Type 0} (f : A → List B) (xs ys : List A) → joinAll f (xs ++ ys) ≡ joinAll f xs ++ joinAll f ys
+unfolding joinAll
+joined-both f [] ys = refl
+joined-both f (x ∷ xs) ys = ap (λ zs. f x ++ zs) (joined-both f xs ys) ∙ sym (append-assoc (f x) (joinAll f xs) (joinAll f ys))
+
+-- The list, slot by slot
+slot-location : (l e : ℕ) → e < 16 → (16 * l + e) / 16 ≡ l
+slot-location l e h = omega arith
+
+slot-event : (l e : ℕ) → e < 16 → (16 * l + e) % 16 ≡ e
+slot-event l e h = omega arith
+
+module _ (components : List Component) where
+  slots-of : (l e n : ℕ) → e + n ≤ 16 → joinAll (slotJoints components) (countUp (16 * l + e) n) ≡ joinAll (jointsOf components l) (countUp e n)
+  unfolding joinAll countUp slotJoints
+  slots-of l e zero h = refl
+  slots-of l e (suc n) h =
+      ap₂ (λ (xs ys : List JointSwitch). xs ++ ys)
+      (ap₂ (jointsOf components) (slot-location l e (omega arith)) (slot-event l e (omega arith)))
+      (ap (λ (j : ℕ). joinAll (slotJoints components) (countUp j n)) (moved l e) ∙ slots-of l (suc e) n (omega arith))
+    where
+      moved : (l e : ℕ) → suc (16 * l + e) ≡ 16 * l + suc e
+      moved l e = omega arith
+
+  slots-on : (l d : ℕ) → joinAll (slotJoints components) (countUp (16 * l) (16 * d)) ≡ joinAll (λ l. joinAll (jointsOf components l) (countUp 0 16)) (countUp l d)
+  unfolding joinAll countUp
+  slots-on l zero = refl
+  slots-on l (suc d) =
+      ap (λ (k : ℕ). joinAll (slotJoints components) (countUp (16 * l) k)) (one-more d)
+      ∙ ap (joinAll (slotJoints components)) (count-both (16 * l) 16 (16 * d))
+      ∙ joined-both (slotJoints components) (countUp (16 * l) 16) (countUp (16 * l + 16) (16 * d))
+      ∙ ap₂ (λ (xs ys : List JointSwitch). xs ++ ys)
+      (ap (λ (k : ℕ). joinAll (slotJoints components) (countUp k 16)) (none l) ∙ slots-of l 0 16 (omega arith))
+      (ap (λ (k : ℕ). joinAll (slotJoints components) (countUp k (16 * d))) (moved l) ∙ slots-on (suc l) d)
+    where
+      one-more : (d : ℕ) → 16 * suc d ≡ 16 + 16 * d
+      one-more d = omega arith
+
+      none : (l : ℕ) → 16 * l ≡ 16 * l + 0
+      none l = omega arith
+
+      moved : (l : ℕ) → 16 * l + 16 ≡ 16 * suc l
+      moved l = omega arith
+
+  pub whole-list : jointsFrom components 0 0 ≡ joints components
+  unfolding jointsFrom joints
+  whole-list = ap (λ (k : ℕ). joinAll (slotJoints components) (countUp 0 k)) (all (locationCount components)) ∙ slots-on 0 (locationCount components)
+    where
+      all : (n : ℕ) → 16 * n - 0 ≡ 16 * n
+      all n = omega arith
+
+  -- from a place on: past a slot, at a joint switch, and past the last slot
+  pub list-past : (slot x count : ℕ) → slot < 16 * locationCount components → count ≡ length (slotJoints components slot) → count ≤ x → jointsFrom components slot x ≡ jointsFrom components (slot + 1) (x - count)
+  unfolding jointsFrom
+  list-past slot x count h e l =
+      let f = slotJoints components in
+      let n = 16 * locationCount components in
+      ap (drop x) (joined-first f n slot h)
+      ∙ ap (λ (k : ℕ). drop k (f slot ++ joinedOn f n (slot + 1))) (cut (length (f slot)) x count e l)
+      ∙ drop-append-add (f slot) (joinedOn f n (slot + 1)) (x - count)
+    where
+      cut : (a x count : ℕ) → count ≡ a → count ≤ x → x ≡ a + (x - count)
+      cut a x count e l = omega (arith, e)
+
+  pub list-here : (slot x : ℕ) → slot < 16 * locationCount components → x < length (slotJoints components slot) → jointsFrom components slot x ≡ getD (slotJoints components slot) x noJoint ∷ jointsFrom components slot (x + 1)
+  unfolding jointsFrom
+  list-here slot x h l =
+      let f = slotJoints components in
+      let rest = joinedOn f (16 * locationCount components) (slot + 1) in
+      let first = joined-first f (16 * locationCount components) slot h in
+      ap (drop x) first
+      ∙ drop-cons (f slot ++ rest) x noJoint (omega (arith, l, length-append (f slot) rest))
+      ∙ ap₂ (λ (j : JointSwitch) (js : List JointSwitch). j ∷ js) (List·getD-append (f slot) rest noJoint x l) (ap (λ (k : ℕ). drop k (f slot ++ rest)) (sym (add-one x)) ∙ ap (drop (x + 1)) (sym first))
+
+  pub list-over : (slot x : ℕ) → 16 * locationCount components ≤ slot → jointsFrom components slot x ≡ []
+  unfolding jointsFrom
+  list-over slot x h = ap (drop x) (joined-none (slotJoints components) (16 * locationCount components) slot h) ∙ drop-nil x
+
+-- the same of records
+module _ (model index : List ℕ) where
+  pub records-past : (slot x count : ℕ) → slot < 16 * locationCount (componentsFrom model index) → count ≡ length (slotJoints (componentsFrom model index) slot) → count ≤ x → recordsFrom model index slot x ≡ recordsFrom model index (slot + 1) (x - count)
+  unfolding recordsFrom
+  records-past slot x count h e l = ap (map recordOf) (list-past (componentsFrom model index) slot x count h e l)
+
+  pub records-here : (slot x : ℕ) (j : Joint) → slot < 16 * locationCount (componentsFrom model index) → x < length (slotJoints (componentsFrom model index) slot) → j ≡ recordOf (getD (slotJoints (componentsFrom model index) slot) x noJoint) → recordsFrom model index slot x ≡ j ∷ recordsFrom model index slot (x + 1)
+  unfolding recordsFrom
+  records-here slot x j h l e = ap (map recordOf) (list-here (componentsFrom model index) slot x h l) ∙ ap (λ (i : Joint). i ∷ map recordOf (jointsFrom (componentsFrom model index) slot (x + 1))) (sym e)
+
+  pub records-over : (slot x : ℕ) → 16 * locationCount (componentsFrom model index) ≤ slot → recordsFrom model index slot x ≡ []
+  unfolding recordsFrom
+  records-over slot x h = ap (map recordOf) (list-over (componentsFrom model index) slot x h)
+
+-- how many joint switches a slot has
+pub slot-length : (components : List Component) (slot : ℕ) → length (slotJoints components slot) ≡ length (switchesOf components (modesAt components (slot / 16)) (slot % 16))
+unfolding slotJoints jointsOf
+slot-length components slot = length-map (switchesOf components (modesAt components (slot / 16)) (slot % 16)) _
+
+pub slot-few : (model index : List ℕ) (slot : ℕ) → GoodIndex model index → length (slotJoints (componentsFrom model index) slot) ≤ 1048576
+slot-few model index slot g =
+    let components = componentsFrom model index in
+    omega (arith, slot-length components slot, switches-few g (modesAt components (slot / 16)) (slot % 16))
+
+-- a record from its parts
+pub slot-record : (components : List Component) (slot x : ℕ) (switches : List ℕ) (target : ℕ) → x < length (slotJoints components slot) → switches ≡ fourSwitches (getD (switchesOf components (modesAt components (slot / 16)) (slot % 16)) x []) → target ≡ locationOf components (modesAfter components (modesAt components (slot / 16)) (getD (switchesOf components (modesAt components (slot / 16)) (slot % 16)) x [])) → _≡_ {A = Joint} (record { source = slot / 16; event = slot % 16; switches = switches; target = target }) (recordOf (getD (slotJoints components slot) x noJoint))
+unfolding recordOf fourSwitches jointFrom slotJoints
+slot-record components slot x switches target h e t =
+    ap₂ (λ (ws : List ℕ) (l : ℕ). record { source = slot / 16; event = slot % 16; switches = ws; target = l }) e t
+    ∙ ap recordOf (sym (record-at components (slot / 16) (slot % 16) x noJoint (omega (arith, h, slot-length components slot))))
+
+-- The index of a model sheet
+by-index : (m : Model) (x : Next) → elim (gotAs m x) [ got m' next ↦ got m next | refused number at ↦ refused number at ] ≡ gotAs m x
+unfolding gotAs
+by-index m (next.At p) = refl
+by-index m (next.Refused number place) = refl
+
+index-has : (model index : List ℕ) (x : Next) → gotAs (modelFrom model index) x ≡ readModel examLimits model → modelBy model index ≡ readModel examLimits model
+unfolding modelBy
+index-has model index x e =
+    ap (λ (g : Got Model). elim g [ got m next ↦ got (modelFrom model index) next | refused number at ↦ refused number at ]) (sym e)
+    ∙ by-index (modelFrom model index) x
+    ∙ e
+
+-- after a refusal there are zeros
+cleared-by : (m : Model) (index : List ℕ) (x : Next) → indexBy (gotAs m x) index ≡ indexWith index x
+unfolding gotAs indexWith indexBy
+cleared-by m index (next.At end) = refl
+cleared-by m index (next.Refused number place) = refl
+
+pub index-of : (model index : List ℕ) (x : Next) → gotAs (modelFrom model index) x ≡ readModel examLimits model → indexWith index x ≡ index → IndexOf model index
+index-of model index x e same =
+    (index-has model index x e, ap (λ (g : Got Model). indexBy g index) (sym e) ∙ cleared-by (modelFrom model index) index x ∙ same)
+
+pub index-model : (model index : List ℕ) → modelBy model index ≡ readModel examLimits model → (m : Model) (next : ℕ) → readModel examLimits model ≡ got m next → m ≡ modelFrom model index
+unfolding modelBy
+index-model model index same m next e =
+    let put : modelBy model index ≡ got (modelFrom model index) next = ap (λ (g : Got Model). elim g [ got m next ↦ got (modelFrom model index) next | refused number at ↦ refused number at ]) e in
+    got-value (sym e ∙ sym same ∙ put)
+
+-- The answer: a table with more room than any list needs has room enough
+room-same : (n k : ℕ) → n ≤ 4096 → leb n (min k 4097) ≡ leb n k
+room-same n k h = go (decLe k 4097)
+  where
+    go : Dec (k ≤ 4097) → leb n (min k 4097) ≡ leb n k
+    go (yes l) = ap (leb n) (min-eq-left l)
+    go (no f) = let l : 4097 ≤ k = omega arith in ap (leb n) (min-eq-right l) ∙ le-leb n 4097 (omega arith) ∙ sym (le-leb n k (omega arith))
+
+abbrev roomAnswer : List ℕ → ℕ → Model → Answer
+roomAnswer model lent m = cond (leb (length (joints (m .components))) lent) (answer 0 0 (length model) (length (joints (m .components))) 0) (answer 15 2 (length (joints (m .components))) 0 0)
+
+pub answer-same : (model : List ℕ) (records lent : ℕ) → lent ≡ min records 4097 → listAnswer examLimits model lent ≡ listAnswer examLimits model records
+unfolding listAnswer withModel examLimits
+answer-same model records lent e = ap (listAnswer examLimits model) e ∙ go (readModel examLimits model) refl
+  where
+    go : (g : Got Model) → readModel examLimits model ≡ g → withModel g (λ m. roomAnswer model (min records 4097) m) ≡ withModel g (λ m. roomAnswer model records m)
+    go (refused number place) e = refl
+    go (got m next) e =
+        ap (λ b. cond b (answer 0 0 (length model) (length (joints (m .components))) 0) (answer 15 2 (length (joints (m .components))) 0 0))
+        (room-same (length (joints (m .components))) records (few-joints examLimits model m next e))

@@ -1,0 +1,3 @@
+pub mod JointLoops
+pub mod TallyLaws
+pub mod WaysLaws
