@@ -11,7 +11,7 @@ use models::layout::INDEX_LENGTH;
 use models::layout::Index;
 ghost use mathlib.Core.Path.{_≡_};
 ghost use Rattle.formats.specs.ModelSheet.{examLimits, readModel};
-ghost use Rattle.models.specs.Index.{GoodIndex, componentsFrom, modelFrom, Kept, indexLength};
+ghost use Rattle.models.specs.Index.{GoodIndex, componentsFrom, modelFrom, Kept, firstTotal};
 ghost use Rattle.fields.specs.Answers.{gotAs};
 ghost use Rattle.models.specs.Counts.{limitsTest};
 ghost use Rattle.model_sheets.specs.Read.{indexWith};
@@ -39,7 +39,7 @@ fn within_limits(s: &[u8], index: &Index, next: usize) -> Next
 // A model sheet, read into a lent index. After a refusal the index is free.
 pub fn model_into(s: &[u8], index: &mut Index) -> Next
     ensures { λ r. ⌜ gotAs (modelFrom (now (s .entry)) (now (index .exit))) r ≡ readModel examLimits (now (s .entry)) ⌝ }
-    ensures { λ _. ⌜ Kept 0 indexLength (now (index .entry)) (now (index .exit)) ⌝ }
+    ensures { λ _. ⌜ Kept 0 firstTotal (now (index .entry)) (now (index .exit)) ⌝ }
 {
     match header(s, 1) {
         Field::Refused(number, place) => Next::Refused(number, place),

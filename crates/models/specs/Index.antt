@@ -18,7 +18,7 @@ entry index i = getD index i 0
 
 -- How the index is laid out; the code has the same names for these numbers (src/layout.rt)
 abbrev pub indexLength : ℕ
-indexLength = 988
+indexLength = 1004
 
 -- first how many variables, components and unsafe conditions there are
 abbrev pub variablesIn : List ℕ → ℕ
@@ -81,6 +81,10 @@ unsafeLength = 6
 
 unfoldable pub unsafePlace : ℕ → ℕ
 unsafePlace u = firstUnsafe + unsafeLength * u
+
+-- and after all that the sheet says, how many joint switches each event has
+abbrev pub firstTotal : ℕ
+firstTotal = 988
 
 -- where rows are kept: in a mode, in a switch, in an unsafe condition
 abbrev pub initialAt : ℕ

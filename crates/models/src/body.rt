@@ -12,7 +12,7 @@ ghost use mathlib.Core.Path.{_≡_};
 ghost use Prim.Native.Nat.{_≤_};
 ghost use lib.ListN.{length};
 ghost use Rattle.formats.specs.Model.{readModelBody};
-ghost use Rattle.models.specs.Index.{Sized, entry, readTotals, totalsFrom, readParts, partsFrom, modelFrom, Kept, componentsIn, firstBlock, indexLength, variablesIn, firstOwner, indexLength};
+ghost use Rattle.models.specs.Index.{Sized, entry, readTotals, totalsFrom, readParts, partsFrom, modelFrom, Kept, componentsIn, firstBlock, firstTotal, indexLength, variablesIn, firstOwner};
 ghost use Rattle.fields.specs.Answers.{gotAs};
 
 // How many variables, components and unsafe conditions there are, kept at the first three numbers of the index.
@@ -44,7 +44,7 @@ fn parts_into(s: &[u8], at: usize, n: usize, c: usize, count: usize, index: &mut
     requires { ⌜ (n ≤ 8) × ((c ≤ 4) × (count ≤ 16)) ⌝ }
     requires { ⌜ (n ≡ variablesIn (now index)) × (c ≡ componentsIn (now index)) ⌝ }
     ensures { λ r. ⌜ gotAs (partsFrom (now (s .entry)) n c count (now (index .exit))) r ≡ readParts n c count (now (s .entry)) at ⌝ }
-    ensures { λ _. ⌜ Kept firstBlock indexLength (now (index .entry)) (now (index .exit)) ⌝ }
+    ensures { λ _. ⌜ Kept firstBlock firstTotal (now (index .entry)) (now (index .exit)) ⌝ }
 {
     match components_into(s, at, n, index, c) {
         Next::Refused(number, place) => Next::Refused(number, place),
@@ -56,7 +56,7 @@ fn parts_into(s: &[u8], at: usize, n: usize, c: usize, count: usize, index: &mut
 pub fn body_into(s: &[u8], at: usize, index: &mut [u16]) -> Next
     requires { ⌜ Sized (now s) (now index) ⌝ }
     ensures { λ r. ⌜ gotAs (modelFrom (now (s .entry)) (now (index .exit))) r ≡ readModelBody 1 (now (s .entry)) at ⌝ }
-    ensures { λ _. ⌜ Kept 0 indexLength (now (index .entry)) (now (index .exit)) ⌝ }
+    ensures { λ _. ⌜ Kept 0 firstTotal (now (index .entry)) (now (index .exit)) ⌝ }
 {
     match totals_into(s, at, index) {
         Next::Refused(number, place) => Next::Refused(number, place),

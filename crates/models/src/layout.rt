@@ -1,8 +1,8 @@
-// How the index of a model sheet is laid out: 988 numbers that keep what the sheet's fields say and where its rows stand. The names are
-// those of specs/Index.antt, which says what each number means.
+// How the index of a model sheet is laid out: 1,004 numbers that keep what the sheet's fields say and where its rows stand, then how many
+// joint switches each event has. The names are those of specs/Index.antt, which says what each number means.
 
 // The index, and how many numbers it has.
-pub const INDEX_LENGTH: usize = 988;
+pub const INDEX_LENGTH: usize = 1004;
 
 pub type Index = [u16; INDEX_LENGTH];
 

@@ -17,7 +17,7 @@ ghost use Prim.Native.Nat.{ℕ, _+_, _≤_, _<_};
 ghost use Rattle.formats.specs.Reading.{u8, below, many};
 ghost use Rattle.formats.specs.Model.{readUnsafe};
 ghost use Rattle.formats.specs.Joint.{countUp};
-ghost use Rattle.models.specs.Index.{Sized, entry, ownerPlace, unsafeFrom, unsafesFrom, readUnsafeModes, unsafeModesFrom, componentsFrom, Kept, componentsIn, firstUnsafe, indexLength, modeCountIn, switchCountIn};
+ghost use Rattle.models.specs.Index.{Sized, entry, ownerPlace, unsafeFrom, unsafesFrom, readUnsafeModes, unsafeModesFrom, componentsFrom, Kept, componentsIn, firstTotal, firstUnsafe, indexLength, modeCountIn, switchCountIn};
 ghost use Rattle.fields.specs.Answers.{gotAs};
 
 // So many owners, each a byte below the count of components.
@@ -93,7 +93,7 @@ pub fn unsafes_into(
     requires { ⌜ (n ≤ 8) × ((c ≡ componentsIn (now index)) × ((c ≤ 4) × (count ≤ 16))) ⌝ }
     requires { ⌜ ((k : ℕ) → k < c → (modeCountIn (now index) k ≤ 8) × (switchCountIn (now index) k ≤ 32)) ⌝ }
     ensures { λ r. ⌜ gotAs (unsafesFrom (now (s .entry)) n c count (now (index .exit))) r ≡ many count (readUnsafe n (componentsFrom (now (s .entry)) (now (index .entry)))) (now (s .entry)) at ⌝ }
-    ensures { λ _. ⌜ Kept firstUnsafe indexLength (now (index .entry)) (now (index .exit)) ⌝ }
+    ensures { λ _. ⌜ Kept firstUnsafe firstTotal (now (index .entry)) (now (index .exit)) ⌝ }
 {
     let mut place = at;
     let mut u: usize = 0;

@@ -265,7 +265,7 @@ pub point-for : {n m : ℕ} {point : List ℤ} → n ≡ m → SmallPoint m poin
 point-for {point = point} e w = subst (λ (k : ℕ). SmallPoint k point) (sym e) w
 
 module _ {s index modes : List ℕ} {offset : ℕ} (g : (offset ≤ 5) × GoodModes s index modes offset) (few : entry index 1 ≤ 4) (n k place : ℕ) (h : k < entry index 1) (p : n ≡ entry index 0) (q : place ≡ modePlace (componentPlace k) (getD modes k 0) + offset) where
-  pub mode-place : place + 1 < 988
+  pub mode-place : place + 1 < 1004
   unfolding modePlace componentPlace
   mode-place = omega (arith, q, g .0, g .1 .small k h)
 
@@ -282,7 +282,7 @@ module _ {s index modes : List ℕ} {offset : ℕ} (g : (offset ≤ 5) × GoodMo
       ∙ ap (λ (i : ℕ). conditionHolds t (take (entry index 0) point) (spanRows s (entry index 0) index i)) q
 
 module _ {s index : List ℕ} (g : GoodIndex s index) (n k i place : ℕ) (h : k < entry index 1) (l : i < entry index (componentPlace k + 2)) (p : n ≡ entry index 0) (q : place ≡ switchPlace (componentPlace k) i + 3) where
-  pub switch-place : place + 1 < 988
+  pub switch-place : place + 1 < 1004
   unfolding switchPlace componentPlace
   switch-place = omega (arith, q, g .few, g .blocks k h .few)
 
@@ -350,7 +350,7 @@ module _ (xs ys : List ℤ) (p : length xs ≡ 8) (q : length ys ≡ 8) where
       ∙ ap (λ zs. zs ++ replicate 8 (pos 0)) (take-at (difference xs ys) (replicate 8 (pos 0)) 8 differences-length)
 
 module _ {s index : List ℕ} (g : GoodIndex s index) (n u : ℕ) (h : u < entry index 2) (p : n ≡ entry index 0) where
-  pub unsafe-place : 892 + 6 * u + 4 + 1 < 988
+  pub unsafe-place : 892 + 6 * u + 4 + 1 < 1004
   unsafe-place = omega (arith, g .conditions)
 
   pub unsafe-span : GoodSpan s n index (892 + 6 * u + 4)

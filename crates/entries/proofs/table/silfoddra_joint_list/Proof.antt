@@ -102,13 +102,13 @@ abbrev LR : RattleType
 LR = LT.the-row
 
 abbrev XR : RattleType
-XR = Array u16 988
+XR = Array u16 1004
 
 abbrev word : Ty
 word = tyInt w64
 
 abbrev arrayTy : Ty
-arrayTy = tyArray (tyInt w16) 988
+arrayTy = tyArray (tyInt w16) 1004
 
 abbrev modelTy : Ty
 modelTy = sliceTy (tyRef (named 0) imm (tyInt w8))
@@ -249,7 +249,7 @@ module _ {M : Type 1} (𝓤 : URA M) (H : Heap 𝓤) (A : Atoms 𝓤) (W : Given
   goes-next index wi d is-i is-d good few more =
       qed W (‵ (flft κ q) ∷ ‵ Shr ∷ []) ∵ suffices ! _ (three 𝓤 (onEntry 𝓤 H A next-record.signature (κ, tt) (q, tt) (m, (index, (d, tt))) (vm ∷ [], (wi ∷ [], (LN.lowered d ∷ [], tt)))) (fact 𝓤 (GoodIndex (now m) index)) (fact 𝓤 (locationCount (componentsFrom (now m) index) ≤ 64)) (fact 𝓤 (0 < length (recordsFrom (now m) index (d .slot) (d .x))))) $
       says ! more $ says ! few $ says ! good $ nothing ! $ move ! (1 ∷ 0 ∷ []) $ join ! $ frame ! $
-      nothing ! $ owned ! LR (Is LR) (LL.makes LT.the-type LN.the-plain 𝓤 H A) d _ is-d $ fjoin ! $ owned ! XR (Is XR) (array-makes 𝓤 H A W u16 (uint-makes 𝓤 H A W w16) 988) index _ is-i $ fjoin ! $ move ! (1 ∷ 0 ∷ []) $ fjoin ! $ done !
+      nothing ! $ owned ! LR (Is LR) (LL.makes LT.the-type LN.the-plain 𝓤 H A) d _ is-d $ fjoin ! $ owned ! XR (Is XR) (array-makes 𝓤 H A W u16 (uint-makes 𝓤 H A W w16) 1004) index _ is-i $ fjoin ! $ move ! (1 ∷ 0 ∷ []) $ fjoin ! $ done !
 
   exits : (a : Answer) (w : Val) (tab : List Joint) → Is AR a (w ∷ []) → length tab ≡ length ys → (a ≡ listAnswer examLimits (now m) (length ys)) × (tab ≡ tableAfter examLimits (now m) ys)
       → ent 𝓤 (⋆ 𝓤 H A (Owned [] tab)) (Post w)
@@ -390,7 +390,7 @@ module _ {M : Type 1} (𝓤 : URA M) (H : Heap 𝓤) (A : Atoms 𝓤) (W : Given
           use1 W (later (some (λ (r : List ℕ). ((‵ (flft κ q) ⊛ ‵ ftrue) ⊛ ‵ (XR .own r (wi ∷ []))) ⊛ raw (ensured 𝓤 H A list-index.ended (list-index.clauses 𝓤 H A mem run) (κ, tt) (m, tt) tt r)))) (id⊢ 𝓤 _) $ await ! tt $ pick ! (λ index.
           split ! $ move ! (1 ∷ []) $ use1 W (raw (fact 𝓤 (IndexOf (now m) index))) (said-index 𝓤 H A mem run κ m index) $ heard ! (IndexOf (now m) index) (λ ei. split ! $ split ! $ move ! (2 ∷ []) $
           peeks ! XR (Is XR) (shows 𝓤 H A XR) index (wi ∷ []) (λ is-i.
-          land ! (from ! (stop !)) (init ! 16 refl (array-lawful 𝓤 H A W u16 (uint-lawful 𝓤 H A W w16) 988 .typed index _ is-i .0)) $ drop ! $ move ! (1 ∷ []) $ drop ! $
+          land ! (from ! (stop !)) (init ! 16 refl (array-lawful 𝓤 H A W u16 (uint-lawful 𝓤 H A W w16) 1004 .typed index _ is-i .0)) $ drop ! $ move ! (1 ∷ []) $ drop ! $
           start-on a wa is-a ea count gc index wi is-i (plan (now m) index ys ei a count ea ec)))))
 
       count-on : (a : Answer) (wa : Val) → Is AR a (wa ∷ []) → a ≡ listAnswer examLimits (now m) (length ys) → Sq W (Owned (Free tyPtr l₁₁ ++ Free word l₁₀ ++ Free tyBool l₉ ++ Has word l₈ (vint w64 (length ys)) ++ Free word l₇ ++ Free LN.mir l₆ ++ Free arrayTy l₅ ++ Free word l₄ ++ Has AL.mir l₃ wa ++ Has tableTy l₂ vt ++ Has modelTy l₁ vm ++ Free AL.mir l₀) ys) (runs (𝓣 .C) (𝓣 .Λ) Ev body.t-3 (atRet Ev Post))

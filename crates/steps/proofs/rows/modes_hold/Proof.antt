@@ -34,7 +34,7 @@ loop-holds c =
 below : (c : tie.In-loop Inv-loop μ-loop) → c .before .loop .k < entry (now (c .before .before .before .before .before .args .index)) 1
 below c = omega (arith, c .loop-test .taken, c .before .before .number-at2 .ensures)
 
-room : (c : tie.After-mode-place Inv-loop μ-loop) → c .mode-place .result + 1 < 988
+room : (c : tie.After-mode-place Inv-loop μ-loop) → c .mode-place .result + 1 < 1004
 room c =
     let s = c .before .before .before .before .before .before in
     mode-place (s .pre .0 .1) (s .pre .0 .0) (c .before .before .before .before .number-at .result) (c .before .before .loop .k) (c .mode-place .result) (below (c .before)) (c .before .before .before .before .number-at .ensures) (c .mode-place .ensures)

@@ -28,7 +28,7 @@ moves c = ne-eqb _ _ (c .if1 .left)
 known : (c : tie.Else1) → c .before .before .args .i < entry (now (c .before .before .args .index)) (componentPlace (c .before .before .args .k) + 2)
 known c = c .before .before .pre .1 .0 .1 (moves c)
 
-room : (c : tie.After-switch-place) → c .switch-place .result + 1 < 988
+room : (c : tie.After-switch-place) → c .switch-place .result + 1 < 1004
 room c =
     let s = c .before .before .before in
     switch-place (s .pre .0) (entry (now (s .args .index)) 0) (s .args .k) (s .args .i) (c .switch-place .result) (s .pre .1 .0 .0) (known (c .before)) refl (c .switch-place .ensures)
