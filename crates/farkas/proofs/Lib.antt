@@ -1,5 +1,6 @@
 pub mod Integers
 pub mod Bits
+pub mod WordLaws
 pub mod Fill
 pub mod Items
 pub mod Sizes

@@ -1,4 +1,5 @@
 pub mod Lists
 pub mod Rows
+pub mod Words
 pub mod Farkas
 pub mod Sizes

@@ -1,13 +1,12 @@
 -- The run sheet's readings: signed values in their range, arrays that a loop fills, switch bytes, and how the parts of a step and of
 -- an opening make the whole. Assumes nothing.
 use mathlib.Core.Path.{_≡_, ap, _∙_}
-use mathlib.Core.Bool.{cond}
-use Prim.Native.Nat.{ℕ, suc, _+_, _-_, _^_, _%_, _≤_, _<_}
+use Prim.Native.Nat.{ℕ, _+_, _%_, _≤_, _<_}
 use native.Mathlib.Nat.{mod-eq-of-lt}
 use native.Mathlib.Decide.{decLe}
 use native.Mathlib.Omega.{arith}
 use lib.Dec.{ltb}
-use lib.IntN.{ℤ, pos, negsuc, natAbs, _-ℤ_}
+use lib.IntN.{ℤ, pos, negsuc, _-ℤ_}
 use mir.Syntax.{w32, w64}
 use mir.Val.{Fits, SFits, toZ, ofZ}
 use mir.Facts.{toZ-ofZ}
@@ -46,12 +45,3 @@ module _ (n t : ℕ) (f : Fits w32 n) (e : t ≡ (n + 2147483648) % 4294967296) 
 
   pub turned-signed : toZ w64 (ofZ w64 (toZ w64 t -ℤ pos 2147483648)) ≡ signed n
   turned-signed = toZ-ofZ turned-fits ∙ less
-
--- its size
-pub signed-small : (n : ℕ) → n < 2 ^ 32 → natAbs (signed n) ≤ 2 ^ 31
-unfolding signed
-signed-small n h = go (decLe 2147483648 n)
-  where
-    go : Dec (2147483648 ≤ n) → natAbs (cond (ltb n (2 ^ 31)) (pos n) (negsuc (2 ^ 32 - suc n))) ≤ 2 ^ 31
-    go (yes k) = rw (le-ltb n 2147483648 k) (omega arith)
-    go (no f) = let k : n < 2147483648 = omega arith in rw (lt-ltb n 2147483648 k) (omega arith)

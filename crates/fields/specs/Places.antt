@@ -1,18 +1,9 @@
 -- What the places of an index say of the sheet: numbers, rows and conditions found where they stand. Assumes nothing.
 use mathlib.Core.List.{List, [], _∷_}
 use Prim.Native.Nat.{ℕ, zero, suc, _+_, _*_}
-use lib.IntN.{ℤ}
-use lib.ListN.{take, drop}
-use Rattle.formats.specs.Reading.{bigEndian, signed}
 use Rattle.formats.specs.Rows.{SheetRow, Condition}
-
 -- the s32 at a place, and so many of them, one after the other
-unfoldable pub signedAt : List ℕ → ℕ → ℤ
-signedAt s p = signed (bigEndian (take 4 (drop p s)))
-
-unfoldable pub numbersAt : List ℕ → ℕ → ℕ → List ℤ
-numbersAt s p zero = []
-numbersAt s p (suc k) = signedAt s p ∷ numbersAt s (p + 4) k
+unfoldable pub use Rattle.farkas.specs.Words.{signedAt, numbersAt}
 
 -- the row at a place, with n coefficients
 unfoldable pub rowAt : List ℕ → ℕ → ℕ → SheetRow

@@ -1,14 +1,15 @@
 // Fields: big-endian numbers of one, two and four bytes, and their ranges. A cut field is refused as 4 at its first byte, a value
 // outside its range as 5 there.
 use crate::Field;
+use farkas::words::number;
 ghost use mathlib.Core.Path.{_≡_};
 ghost use mathlib.Core.Bool.{_&&_, _||_};
 ghost use Prim.Native.Nat.{_+_, _^_, _≤_};
 ghost use lib.Dec.{leb, ltb, eqb};
 ghost use lib.IntN.{natAbs};
-ghost use lib.ListN.{length, take, drop};
+ghost use lib.ListN.{length};
 ghost use Rattle.formats.specs.Reading as reading;
-ghost use Rattle.formats.specs.Reading.{bigEndian, u8, u16, u32, passing, must, within, below};
+ghost use Rattle.formats.specs.Reading.{u8, u16, u32, passing, must, within, below};
 ghost use Rattle.fields.specs.Places.{signedAt};
 ghost use Rattle.fields.specs.Answers.{gotField};
 
@@ -56,18 +57,6 @@ pub fn word(s: &[u8], at: usize) -> Field
         }
     }
     Field::Refused(4, at)
-}
-
-// The four bytes at a place that has them, as a number.
-pub fn number(s: &[u8], at: usize) -> u32
-    requires { ⌜ at + 4 ≤ length (now s) ⌝ }
-    ensures { λ r. ⌜ r ≡ bigEndian (take 4 (drop at (now (s .entry)))) ⌝ }
-{
-    let a = s[at] as u32;
-    let b = s[at + 1] as u32;
-    let c = s[at + 2] as u32;
-    let d = s[at + 3] as u32;
-    ((a * 256 + b) * 256 + c) * 256 + d
 }
 
 // A number of 32 bits as a signed one. It is written without a test: compiled, it is one instruction.

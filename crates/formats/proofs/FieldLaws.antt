@@ -1,15 +1,14 @@
 -- Fields read from bytes: where a field is whole, its number by its bytes; where it is cut, the refusal. Assumes nothing.
 use mathlib.Core.Path.{_≡_, refl, sym}
 use mathlib.Core.Bool.{Bool, true, false, cond, _&&_, _||_}
-use mathlib.Core.List.{List, _∷_}
+use mathlib.Core.List.{List}
 use Prim.Native.Nat.{ℕ, _+_, _*_, _^_, _≤_, _<_}
 use native.Mathlib.Omega.{arith}
-use native.Mathlib.Numerals.{add-one}
 use lib.Dec.{leb, ltb, eqb, leb→le, ltb→lt}
 use lib.ListN.{length, getD, take, drop}
-use lib.Seq.{drop-cons}
 use borrow.Author.Tests.{le-leb, lt-leb, lt-ltb, le-ltb, eq-eqb, ne-eqb, leb-true}
 use Rattle.formats.specs.Reading.{got, refused, Reader, bigEndian, field, u8, passing, must, within, below}
+use Rattle.farkas.proofs.WordLaws.{first-byte}
 use Rattle.formats.proofs.Gives.{got-value, got-next, tested, and-left, and-right}
 
 pub field-got : (size : ℕ) (s : List ℕ) (p : ℕ) → p + size ≤ length s → field size s p ≡ got (bigEndian (take size (drop p s))) (p + size)
@@ -19,10 +18,6 @@ field-got size s p h = rw (le-leb (p + size) (length s) h) refl
 pub field-cut : (size : ℕ) (s : List ℕ) (p : ℕ) → length s < p + size → field size s p ≡ refused 4 p
 unfolding field
 field-cut size s p h = rw (lt-leb (p + size) (length s) h) refl
-
--- the first byte of what is left
-first-byte : (s : List ℕ) (p : ℕ) → p < length s → drop p s ≡ getD s p 0 ∷ drop (p + 1) s
-first-byte s p h = rw (add-one p) (drop-cons s p 0 h)
 
 pub byte-at : (s : List ℕ) (p : ℕ) → p < length s → bigEndian (take 1 (drop p s)) ≡ getD s p 0
 unfolding bigEndian
@@ -37,18 +32,6 @@ two-at s p h = rw (first-byte s p (omega arith), first-byte s (p + 1) (omega ari
   where
     go : (a b : ℕ) → a * 256 ^ 1 + (b * 256 ^ 0 + 0) ≡ a * 256 + b
     go a b = omega arith
-
-pub four-at : (s : List ℕ) (p : ℕ) → p + 4 ≤ length s → bigEndian (take 4 (drop p s)) ≡ ((getD s p 0 * 256 + getD s (p + 1) 0) * 256 + getD s (p + 2) 0) * 256 + getD s (p + 3) 0
-unfolding bigEndian
-four-at s p h =
-    rw (first-byte s p (omega arith), first-byte s (p + 1) (omega arith), plus-one p 1, first-byte s (p + 2) (omega arith), plus-one p 2, first-byte s (p + 3) (omega arith))
-    (go (getD s p 0) (getD s (p + 1) 0) (getD s (p + 2) 0) (getD s (p + 3) 0))
-  where
-    plus-one : (p k : ℕ) → p + k + 1 ≡ p + (k + 1)
-    plus-one p k = omega arith
-
-    go : (a b c d : ℕ) → a * 256 ^ 3 + (b * 256 ^ 2 + (c * 256 ^ 1 + (d * 256 ^ 0 + 0))) ≡ ((a * 256 + b) * 256 + c) * 256 + d
-    go a b c d = omega arith
 
 -- a range
 pub range-low : (least most v p next : ℕ) → v < least → passing (λ v. leb least v && leb v most) 5 p (got v next) ≡ refused 5 p

@@ -2,11 +2,13 @@
 -- a number and a place. A sheet is its list of bytes. Assumes nothing.
 use mathlib.Core.Bool.{Bool, cond, _&&_}
 use mathlib.Core.List.{List, [], _∷_}
-use Prim.Native.Nat.{ℕ, zero, suc, _+_, _*_, _-_, _^_}
+use Prim.Native.Nat.{ℕ, zero, suc, _+_}
 use lib.Dec.{leb, ltb, eqb}
-use lib.IntN.{ℤ, pos, negsuc}
+use lib.IntN.{ℤ}
 use lib.ListN.{length, take, drop}
 use lib.Signed.{leZ}
+-- "all big-endian": the number that bytes give; "s32 is two's complement": a number as a signed one
+unfoldable pub use Rattle.farkas.specs.Words.{bigEndian, signed}
 
 -- what reading gives: a value and the place after it, or the number and the place of a refusal
 pub data Got (A : Type 0) : Type 0 where
@@ -40,11 +42,6 @@ here s p = got p p
 unfoldable pub expect : Bool → ℕ → ℕ → Reader (Unit {0})
 expect ok number place s p = cond ok (got tt p) (refused number place)
 
--- "all big-endian"
-unfoldable pub bigEndian : List ℕ → ℕ
-bigEndian [] = 0
-bigEndian (b ∷ bytes) = b * 256 ^ length bytes + bigEndian bytes
-
 -- a field of some bytes; 4, "body cut in a field": "A cut field's place is its first byte"
 unfoldable pub field : ℕ → Reader ℕ
 field size s p = cond (leb (p + size) (length s)) (got (bigEndian (take size (drop p s))) (p + size)) (refused 4 p)
@@ -58,10 +55,6 @@ u16 = field 2
 
 unfoldable pub u32 : Reader ℕ
 u32 = field 4
-
--- "s32 is two's complement"
-unfoldable pub signed : ℕ → ℤ
-signed n = cond (ltb n (2 ^ 31)) (pos n) (negsuc (2 ^ 32 - suc n))
 
 unfoldable pub s32 : Reader ℤ
 s32 = u32 >>= λ n. give (signed n)

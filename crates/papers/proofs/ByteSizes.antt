@@ -12,7 +12,7 @@ use Rattle.farkas.specs.Rows.{item}
 use Rattle.farkas.proofs.Promise.{zeros-within}
 use Rattle.formats.specs.Reading.{bigEndian}
 use Rattle.fields.specs.Places.{signedAt}
-use Rattle.fields.proofs.SignedLaws.{signed-small}
+use Rattle.farkas.proofs.WordLaws.{signed-small}
 
 -- every element is a byte
 abbrev pub Bytes : List ℕ → Type 0

@@ -1,17 +1,16 @@
 -- Rows at a point, as the code meets them: the sum so far and its size, the rows that are left, the places where an index keeps rows,
 -- differences of values, and tests of which the first is settled. Assumes nothing.
-use mathlib.Core.Path.{_≡_, refl, sym, ap, ap₂, _∙_, subst}
-use mathlib.Core.Bool.{Bool, true, false, not, cond, _&&_, _||_}
+use mathlib.Core.Path.{_≡_, refl, sym, ap, _∙_, subst}
+use mathlib.Core.Bool.{Bool, true, false, not, _&&_, _||_}
 use mathlib.Core.List.{List, [], _∷_, _++_}
 use Prim.Native.Nat.{ℕ, zero, suc, _+_, _*_, _-_, _^_, _≤_, _<_}
 use native.Mathlib.Nat.{mul-add, mul-one, mul-le-mul, le-of-mul-le-mul-right, sub-zero}
-use native.Mathlib.Decide.{ℕ-discrete, decLe}
+use native.Mathlib.Decide.{ℕ-discrete}
 use native.Mathlib.Numerals.{add-one}
 use native.Mathlib.Omega.{arith}
-use borrow.Author.Tests.{eq-eqb, ne-eqb, lt-ltb, le-ltb}
-use lib.Bits.{bitXor, xor-block, xor-zero-r, xor-lt}
-use lib.Dec.{T, eqb, ltb, lit<}
-use lib.IntN.{ℤ, pos, negsuc, negℤ, natAbs, _+ℤ_, _-ℤ_, _*ℤ_, +ℤ-assoc, +ℤ-comm, *ℤ-zero}
+use borrow.Author.Tests.{eq-eqb, ne-eqb}
+use lib.Dec.{T, eqb}
+use lib.IntN.{ℤ, pos, negℤ, natAbs, _+ℤ_, _-ℤ_, _*ℤ_, +ℤ-assoc, +ℤ-comm, *ℤ-zero}
 use lib.ListN.{length, getD, take, drop, replicate, length-append, List·getD-append}
 use lib.Seq.{take-at}
 use lib.Signed.{leZ, _≤ℤ_}
@@ -24,7 +23,6 @@ use Rattle.farkas.specs.Farkas.{sameZ}
 use Rattle.farkas.proofs.Integers.{split, by-parts}
 use Rattle.farkas.proofs.Bits.{size-+, size-*, size-+*, fits, read-back, same-bits}
 use Rattle.farkas.proofs.Promise.{same-means}
-use Rattle.formats.specs.Reading.{signed}
 use Rattle.fields.specs.Places.{signedAt, numbersAt, rowAt, rowsFrom}
 use Rattle.formats.specs.Joint.{stays}
 use Rattle.models.specs.Index.{entry, componentPlace, modePlace, switchPlace, unsafePlace, spanRows, GoodSpan, GoodIndex}
@@ -67,61 +65,6 @@ unfolding dot numbersAt
 dot-take s at zero ps = refl
 dot-take s at (suc n) [] = refl
 dot-take s at (suc n) (p ∷ ps) = ap (λ d. signedAt s at *ℤ p +ℤ d) (dot-take s (at + 4) n ps)
-
--- A number of 32 bits with its highest bit flipped: the signed number, raised by 2 ^ 31
-flip-low : (k n : ℕ) → n < 2 ^ k → bitXor n (2 ^ k) ≡ n + 2 ^ k
-flip-low k n h =
-    ap₂ bitXor (none n (2 ^ k)) (once (2 ^ k))
-    ∙ xor-block k 0 1 n 0 h (omega arith)
-    ∙ ap (λ (m : ℕ). 1 * 2 ^ k + m) (xor-zero-r n)
-    ∙ both n (2 ^ k)
-  where
-    none : (n m : ℕ) → n ≡ 0 * m + n
-    none n m = omega arith
-
-    once : (m : ℕ) → m ≡ 1 * m + 0
-    once m = omega arith
-
-    both : (n m : ℕ) → 1 * m + n ≡ n + m
-    both n m = omega arith
-
-flip-high : (k n : ℕ) → 2 ^ k ≤ n → n < 2 * 2 ^ k → bitXor n (2 ^ k) ≡ n - 2 ^ k
-flip-high k n h l =
-    ap₂ bitXor (rest n (2 ^ k) h) (once (2 ^ k))
-    ∙ xor-block k 1 1 (n - 2 ^ k) 0 (omega arith) (omega arith)
-    ∙ ap (λ (m : ℕ). 0 * 2 ^ k + m) (xor-zero-r (n - 2 ^ k))
-    ∙ nothing (n - 2 ^ k) (2 ^ k)
-  where
-    rest : (n m : ℕ) → m ≤ n → n ≡ 1 * m + (n - m)
-    rest n m h = omega arith
-
-    once : (m : ℕ) → m ≡ 1 * m + 0
-    once m = omega arith
-
-    nothing : (n m : ℕ) → 0 * m + n ≡ n
-    nothing n m = omega arith
-
-above : (n : ℕ) → 2147483648 ≤ n → n < 4294967296 → pos (n - 2147483648) ≡ negsuc (4294967296 - suc n) +ℤ pos 2147483648
-above n h l =
-    sym
-    (ap (λ b. cond b (negsuc (suc (4294967296 - suc n) - suc 2147483648)) (pos (2147483648 - suc (4294967296 - suc n)))) (le-ltb 2147483648 (suc (4294967296 - suc n)) (omega arith))
-    ∙ ap pos (same n h l))
-  where
-    same : (n : ℕ) → 2147483648 ≤ n → n < 4294967296 → 2147483648 - suc (4294967296 - suc n) ≡ n - 2147483648
-    same n h l = omega arith
-
-pub raised-told : (n : ℕ) → n < 2 ^ 32 → pos (bitXor n (2 ^ 31)) ≡ signed n +ℤ pos (2 ^ 31)
-unfolding signed
-raised-told n h = go (decLe 2147483648 n)
-  where
-    go : Dec (2147483648 ≤ n) → pos (bitXor n (2 ^ 31)) ≡ cond (ltb n (2 ^ 31)) (pos n) (negsuc (2 ^ 32 - suc n)) +ℤ pos (2 ^ 31)
-    go (yes k) = ap pos (flip-high 31 n k (omega arith)) ∙ above n k h ∙ ap (λ b. cond b (pos n) (negsuc (2 ^ 32 - suc n)) +ℤ pos (2 ^ 31)) (sym (le-ltb n 2147483648 k))
-    go (no f) =
-        let k : n < 2147483648 = omega arith in
-        ap pos (flip-low 31 n k) ∙ ap (λ b. cond b (pos n) (negsuc (2 ^ 32 - suc n)) +ℤ pos (2 ^ 31)) (sym (lt-ltb n 2147483648 k))
-
-pub raised-small : (n : ℕ) → n < 2 ^ 32 → bitXor n (2 ^ 31) < 2 ^ 32
-raised-small n h = xor-lt 32 n (2 ^ 31) h (lit< tt)
 
 -- the sum with coefficients raised: it is the sum, and 2 ^ 31 times the values' own
 raised-goes-on : (k : ℕ) (d t a p : ℤ) → (d +ℤ pos k *ℤ t) +ℤ (a +ℤ pos k) *ℤ p ≡ (d +ℤ a *ℤ p) +ℤ pos k *ℤ (t +ℤ pos 1 *ℤ p)

@@ -1,6 +1,6 @@
 // Rows on the values of a state: whether one holds, all of a condition, and those of every present mode.
 use farkas::multiply_add;
-use fields::fields::number;
+use farkas::words::number;
 use fields::fields::signed_at;
 use models::layout::COMPONENTS_AT;
 use models::layout::COUNT_AT;

@@ -9,7 +9,7 @@ use mir.Val.{toZ, ofZ}
 use mir.Facts.{toZ-ofZ}
 use Rattle.formats.specs.Reading.{signed}
 use Rattle.fields.specs.Places.{signedAt}
-use Rattle.fields.proofs.SignedLaws.{signed-small}
+use Rattle.farkas.proofs.WordLaws.{signed-small}
 use Rattle.fields.proofs.fields.signed_at.Statement.{statement}
 use Rattle.fields.proofs.fields.signed_at.Tie as tie
 

@@ -5,7 +5,7 @@ use native.Mathlib.Omega.{arith}
 use lib.Bits.{bitXor}
 use mir.Syntax.{w64}
 use mir.ValLaws.{toZ-pos}
-use Rattle.steps.proofs.ValueLaws.{raised-told, raised-small}
+use Rattle.farkas.proofs.WordLaws.{raised-told, raised-small}
 use Rattle.steps.proofs.rows.raised.Statement.{statement}
 use Rattle.steps.proofs.rows.raised.Tie as tie
 

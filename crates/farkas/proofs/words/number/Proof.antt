@@ -4,9 +4,9 @@ use Prim.Native.Nat.{_+_}
 use native.Mathlib.Omega.{arith}
 use borrow.Author.Needs.{needs}
 use denote.Ref.{now}
-use Rattle.formats.proofs.FieldLaws.{four-at}
-use Rattle.fields.proofs.fields.number.Statement.{statement}
-use Rattle.fields.proofs.fields.number.Tie as tie
+use Rattle.farkas.proofs.WordLaws.{four-at}
+use Rattle.farkas.proofs.words.number.Statement.{statement}
+use Rattle.farkas.proofs.words.number.Tie as tie
 
 shared-slice-read-a : tie.Need-shared-slice-read-a
 shared-slice-read-a c = search needs

@@ -1,0 +1,24 @@
+-- Numbers as rows have them in bytes (01, Sheet): four bytes to a number. Assumes nothing.
+use mathlib.Core.Bool.{cond}
+use mathlib.Core.List.{List, [], _∷_}
+use Prim.Native.Nat.{ℕ, zero, suc, _+_, _*_, _-_, _^_}
+use lib.Dec.{ltb}
+use lib.IntN.{ℤ, pos, negsuc}
+use lib.ListN.{length, take, drop}
+
+-- "all big-endian"
+unfoldable pub bigEndian : List ℕ → ℕ
+bigEndian [] = 0
+bigEndian (b ∷ bytes) = b * 256 ^ length bytes + bigEndian bytes
+
+-- "s32 is two's complement"
+unfoldable pub signed : ℕ → ℤ
+signed n = cond (ltb n (2 ^ 31)) (pos n) (negsuc (2 ^ 32 - suc n))
+
+-- the s32 at a place, and so many of them, one after the other
+unfoldable pub signedAt : List ℕ → ℕ → ℤ
+signedAt s p = signed (bigEndian (take 4 (drop p s)))
+
+unfoldable pub numbersAt : List ℕ → ℕ → ℕ → List ℤ
+numbersAt s p zero = []
+numbersAt s p (suc k) = signedAt s p ∷ numbersAt s (p + 4) k
