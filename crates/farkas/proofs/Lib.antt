@@ -8,5 +8,7 @@ pub mod Order
 pub mod All
 pub mod Test
 pub mod Alike
+pub mod SumLaws
+pub mod SumTest
 pub mod Soundness
 pub mod Promise

@@ -3,3 +3,4 @@ pub mod Rows
 pub mod Words
 pub mod Farkas
 pub mod Sizes
+pub mod Sums

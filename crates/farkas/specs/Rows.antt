@@ -2,11 +2,11 @@
 -- A row is the declared struct `Row`: coefficients a and a bound b, whole numbers of either sign; it means a·x ≤ b. The unknowns
 -- are counted from 0, and a coefficient or a value that a list does not reach counts as 0. Assumes nothing.
 use mathlib.Core.Bool.{Bool}
-use mathlib.Core.List.{List, [], _∷_}
+use mathlib.Core.List.{List, [], _∷_, _++_, map}
 use mathlib.Core.Path.{_≡_}
 use Prim.Native.Nat.{ℕ}
 use lib.Dec.{T}
-use lib.IntN.{ℤ, pos, _+ℤ_, _*ℤ_}
+use lib.IntN.{ℤ, pos, negℤ, _+ℤ_, _*ℤ_}
 use lib.ListN.{getD, replicate}
 use lib.Signed.{leZ}
 use Rattle.farkas.specs.declared.Row.{Row}
@@ -28,6 +28,22 @@ rowHolds q p r = leZ (dot (r .coefficients) p) (r .bound *ℤ pos q)
 -- the same as a proposition
 abbrev pub Holds : ℕ → List ℤ → Row → Type 0
 Holds q p r = T (rowHolds q p r)
+
+-- coefficients and a bound, as a row
+abbrev pub rowOf : List ℤ → ℤ → Row
+rowOf coefficients bound = record { coefficients = coefficients; bound = bound }
+
+-- a row with its coefficients on the unknowns from one on
+unfoldable pub onward : ℕ → Row → Row
+onward shift r = record { coefficients = replicate shift (pos 0) ++ r .coefficients; bound = r .bound }
+
+-- a row a·r ≤ b on the rates at which x becomes x' in the time d: −a on x, a on x', −b on d, bound 0
+unfoldable pub onChange : Row → Row
+onChange r =
+    record {
+      coefficients = map negℤ (r .coefficients) ++ (r .coefficients ++ (negℤ (r .bound) ∷ []));
+      bound = pos 0;
+    }
 
 -- the row 0 ≤ 0, which holds everywhere
 unfoldable pub zeroRow : Row

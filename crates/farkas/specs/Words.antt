@@ -5,6 +5,7 @@ use Prim.Native.Nat.{ℕ, zero, suc, _+_, _*_, _-_, _^_}
 use lib.Dec.{ltb}
 use lib.IntN.{ℤ, pos, negsuc}
 use lib.ListN.{length, take, drop}
+use Rattle.farkas.specs.declared.Row.{Row}
 
 -- "all big-endian"
 unfoldable pub bigEndian : List ℕ → ℕ
@@ -22,3 +23,7 @@ signedAt s p = signed (bigEndian (take 4 (drop p s)))
 unfoldable pub numbersAt : List ℕ → ℕ → ℕ → List ℤ
 numbersAt s p zero = []
 numbersAt s p (suc k) = signedAt s p ∷ numbersAt s (p + 4) k
+
+-- the row of so many coefficients at a place
+unfoldable pub rowIn : List ℕ → ℕ → ℕ → Row
+rowIn s p count = record { coefficients = numbersAt s p count; bound = signedAt s (p + 4 * count) }

@@ -1,6 +1,7 @@
 // Rows and proofs: linear rows a·x ≤ b over up to 17 unknowns, and Farkas' test of a proof from them.
 // A caller starts from `no_sums`, adds each entry's row with `add_row`, and asks `judge` whether the sums meet Farkas' condition.
 // Nothing here knows of sheets or models. Sizes are the caller's to bound: see specs/Sizes.antt.
+pub mod sums;
 pub mod words;
 
 ghost use mathlib.Core.Path.{_≡_};
