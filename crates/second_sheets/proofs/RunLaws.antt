@@ -149,9 +149,9 @@ module _ (s : List ℕ) (n at : ℕ) where
       ap (λ xs. got xs place) (sym (up-to-take (pos 0) values n few))
       ∙ reading-ends readValue n s (readValues n s at) (λ j. getD values j (pos 0)) i place before h
 
--- what is stored before a place leaves what stands from there on, as do two such changes one after the other
-pub kept-first : (n : ℕ) (values : List ℤ) → KeptValues 0 n values values
-kept-first n values = record { front = refl; rest = refl }
+-- where nothing is stored nothing changes, and a store below n leaves what stands from n on
+pub kept-same : (from until : ℕ) (values : List ℤ) → KeptValues from until values values
+kept-same from until values = record { front = refl; rest = refl }
 
 pub kept-put : (n : ℕ) {before : List ℤ} (values : List ℤ) (i : ℕ) (v : ℤ) → i < n → KeptValues 0 n before values → KeptValues 0 n before (set values i v)
 kept-put n values i v h w = record { front = refl; rest = drop-set-lt n values i v h ∙ w .rest }

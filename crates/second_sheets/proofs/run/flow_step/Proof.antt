@@ -10,7 +10,7 @@ use Rattle.models.specs.Index.{entry, modelFrom}
 use Rattle.formats.specs.RunSheet.{readFlow}
 use Rattle.second_sheets.specs.RunAnswers.{stepAs, heldStep}
 use Rattle.fields.proofs.AnswerLaws.{field-value, field-refused}
-use Rattle.second_sheets.proofs.RunLaws.{kept-first}
+use Rattle.second_sheets.proofs.RunLaws.{kept-same}
 use Rattle.second_sheets.proofs.StepLaws.{flow-refused, flow-told, flow-held}
 use Rattle.second_sheets.proofs.run.flow_step.Statement.{statement}
 use Rattle.second_sheets.proofs.run.flow_step.Tie as tie
@@ -45,7 +45,7 @@ returns : tie.Need-returns
 unfolding stepAs heldStep
 returns c =
     let a = c .before .before .before .before .before .before .args in
-    (λ model. sym (cut c model), (λ model. ap heldStep (sym (cut c model)), kept-first (entry (now (a .index)) 0) (now (a .values))))
+    (λ model. sym (cut c model), (λ model. ap heldStep (sym (cut c model)), kept-same 0 (entry (now (a .index)) 0) (now (a .values))))
 
 same-length : tie.Need-same-length
 same-length c = search needs

@@ -10,7 +10,7 @@ use Rattle.models.specs.Index.{entry, modelFrom}
 use Rattle.formats.specs.RunSheet.{readJump}
 use Rattle.second_sheets.specs.RunAnswers.{switchBytes, stepAs, heldStep}
 use Rattle.fields.proofs.AnswerLaws.{field-value, field-refused}
-use Rattle.second_sheets.proofs.RunLaws.{kept-first}
+use Rattle.second_sheets.proofs.RunLaws.{kept-same}
 use Rattle.second_sheets.proofs.StepLaws.{switches-told, switches-refused, jump-refused, jump-cut, jump-told, jump-held}
 use Rattle.second_sheets.proofs.run.jump_step.Statement.{statement}
 use Rattle.second_sheets.proofs.run.jump_step.Tie as tie
@@ -67,13 +67,13 @@ returns : tie.Need-returns
 unfolding stepAs heldStep
 returns c =
     let a = c .before .before .before .before .before .before .args in
-    (λ model. sym (no-event c model), (λ model. ap heldStep (sym (no-event c model)), kept-first (entry (now (a .index)) 0) (now (a .values))))
+    (λ model. sym (no-event c model), (λ model. ap heldStep (sym (no-event c model)), kept-same 0 (entry (now (a .index)) 0) (now (a .values))))
 
 returns-2 : tie.Need-returns-2
 unfolding stepAs heldStep
 returns-2 c =
     let a = c .before .before .before .before .before .before .before .before .before .before .args in
-    (λ model. sym (no-switch c model), (λ model. ap heldStep (sym (no-switch c model)), kept-first (entry (now (a .index)) 0) (now (a .values))))
+    (λ model. sym (no-switch c model), (λ model. ap heldStep (sym (no-switch c model)), kept-same 0 (entry (now (a .index)) 0) (now (a .values))))
 
 same-length : tie.Need-same-length
 same-length c = search needs

@@ -11,7 +11,7 @@ use Rattle.models.specs.Index.{entry}
 use Rattle.formats.specs.RunSheet.{readValues}
 use Rattle.second_sheets.specs.RunAnswers.{openingAs, readOpeningFields}
 use Rattle.fields.proofs.AnswerLaws.{next-at, next-refused}
-use Rattle.second_sheets.proofs.RunLaws.{kept-first}
+use Rattle.second_sheets.proofs.RunLaws.{kept-same}
 use Rattle.second_sheets.proofs.StepLaws.{fields-value, fields-refused, opening-refused, opening-cut, opening-read}
 use Rattle.second_sheets.proofs.run.opening.Statement.{statement}
 use Rattle.second_sheets.proofs.run.opening.Tie as tie
@@ -53,7 +53,7 @@ returns c =
     let s = now (a .s) in
     let index = now (a .index) in
     let told = c .before .number .given in
-    (λ model all. sym (opening-refused model index s (a .at) (a .locations) all (told .0 .0) (told .0 .1 .0) (sym (c .before .before .before .opening-fields .ensures) ∙ fields-refused [] (a .at) (told .1))), kept-first (entry index 0) (now (a .values)))
+    (λ model all. sym (opening-refused model index s (a .at) (a .locations) all (told .0 .0) (told .0 .1 .0) (sym (c .before .before .before .opening-fields .ensures) ∙ fields-refused [] (a .at) (told .1))), kept-same 0 (entry index 0) (now (a .values)))
 
 same-length : tie.Need-same-length
 same-length c = search needs

@@ -12,7 +12,7 @@ use mir.Facts.{toZ-ofZ}
 use Rattle.formats.specs.Reading.{got}
 use Rattle.fields.specs.Answers.{gotAs}
 use Rattle.second_sheets.specs.RunAnswers.{readValue, KeptValues}
-use Rattle.second_sheets.proofs.RunLaws.{signed-value, signed-refused, ValuesRead, values-start, values-stop, values-go-on, values-end, kept-first, kept-put}
+use Rattle.second_sheets.proofs.RunLaws.{signed-value, signed-refused, ValuesRead, values-start, values-stop, values-go-on, values-end, kept-same, kept-put}
 use Rattle.second_sheets.proofs.run.values_into.Statement.{statement}
 use Rattle.second_sheets.proofs.run.values_into.Tie as tie
 
@@ -26,7 +26,7 @@ abbrev μ-loop : tie.MeasureT-loop
 loop-holds : tie.Need-loop-holds Inv-loop μ-loop
 loop-holds c =
     let a = c .before .args in
-    (omega arith, (refl, (kept-first (a .n) (now (a .values)), values-start (now (a .s)) (a .n) (a .at) (now (a .values)))))
+    (omega arith, (refl, (kept-same 0 (a .n) (now (a .values)), values-start (now (a .s)) (a .n) (a .at) (now (a .values)))))
 
 value-requires : tie.Need-value-requires Inv-loop μ-loop
 value-requires c κs = search needs
