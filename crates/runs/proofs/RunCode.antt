@@ -69,12 +69,12 @@ module _ (m : Model) (q : ℕ) (s : State) (sheet : List ℕ) (place : ℕ) wher
 
 -- how far the marking has come, by its number
 module _ (model index : List ℕ) (r : RunMarked) (state : List ℤ) where
-  pub marked-stopped : (r .number ≡ 0 → ⊥) → markedAs model index r state ≡ stopped (r .number) (r .place) (r .done)
+  marked-stopped : (r .number ≡ 0 → ⊥) → markedAs model index r state ≡ stopped (r .number) (r .place) (r .done)
   unfolding markedAs
   marked-stopped f =
       ap (λ b. cond b (passed (stateIn model index (r .modes) state) (r .place) (r .done)) (stopped (r .number) (r .place) (r .done))) (ne-eqb (r .number) 0 f)
 
-  pub marked-passed : r .number ≡ 0 → markedAs model index r state ≡ passed (stateIn model index (r .modes) state) (r .place) (r .done)
+  marked-passed : r .number ≡ 0 → markedAs model index r state ≡ passed (stateIn model index (r .modes) state) (r .place) (r .done)
   unfolding markedAs
   marked-passed e =
       ap (λ b. cond b (passed (stateIn model index (r .modes) state) (r .place) (r .done)) (stopped (r .number) (r .place) (r .done))) (eq-eqb (r .number) 0 e)

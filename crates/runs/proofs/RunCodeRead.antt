@@ -47,7 +47,7 @@ value-small (pos n) t = leb→le n 134217728 t
 value-small (negsuc n) t =
     let h = leb→le n 134217727 (and-left (leb n 134217727) true t) in omega (arith, h)
 
-pub values-small : (n : ℕ) → Gives (All Small) (readValues n)
+values-small : (n : ℕ) → Gives (All Small) (readValues n)
 unfolding readValues withinSigned
 values-small n = gives-weaken (λ xs w. w .1) (gives-many n (gives-weaken (λ v w. value-small v (w .0)) (gives-must _ 5 gives-any)))
 

@@ -2,7 +2,7 @@
 -- before. Assumes nothing.
 use mathlib.Core.Path.{_≡_, sym, ap, _∙_}
 use mathlib.Core.List.{List, [], _++_, append-nil}
-use Prim.Native.Nat.{ℕ, _+_, _*_, _-_, _≤_, _<_}
+use Prim.Native.Nat.{ℕ, _+_, _*_, _-_, _^_, _≤_, _<_}
 use native.Mathlib.Decide.{decLe}
 use native.Mathlib.Omega.{arith}
 use lib.IntN.{ℤ, pos, natAbs}
@@ -36,7 +36,7 @@ lent-back n k xs ys e h l =
 
 -- values before and after are small
 module _ {n : ℕ} {before after new : List ℤ} (l : Lent n before after new) (old : SmallValues n before) (young : SmallValues n new) where
-  both-at : (i : ℕ) → i < 2 * n → Dec (n ≤ i) → natAbs (item after i) ≤ 134217728
+  both-at : (i : ℕ) → i < 2 * n → Dec (n ≤ i) → natAbs (item after i) ≤ 2 ^ 27
   unfolding item
   both-at i h (no f) =
       let k : i < n = omega arith in

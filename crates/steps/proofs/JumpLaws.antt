@@ -10,7 +10,7 @@ use lib.Count.{ones}
 use lib.Dec.{eqb, T}
 use lib.IntN.{ℤ}
 use lib.ListN.{length, getD, take, drop, set}
-use lib.Seq.{paste, paste-zero, paste-suc, length-paste, length-take-le, take-length, getD-take}
+use lib.Seq.{paste, paste-zero, paste-suc, length-take-le, take-length, getD-take}
 use borrow.Author.Tests.{lt-ltb, le-ltb, eq-eqb, ne-eqb}
 use Rattle.second_sheets.specs.declared.Switches.{Switches}
 use Rattle.second_sheets.specs.declared.Step as coded
@@ -232,9 +232,6 @@ module _ (model index modes switches : List ℕ) (long : entry index 1 ≤ lengt
 
   pub landed-none : modes ≡ Landed model index modes switches 0
   landed-none = paste-zero modes 0 (landed model index modes switches)
-
-  pub landed-whole : (k : ℕ) → k ≤ entry index 1 → length (Landed model index modes switches k) ≡ length modes
-  landed-whole k h = length-paste modes 0 (landed model index modes switches) k (omega arith) (omega (arith, landed-length))
 
   pub landed-more : (k v : ℕ) → k < entry index 1 → v ≡ cond (eqb (getD switches k 0) stays) (getD modes k 0) (switchOf (componentAt model index k) (getD switches k 0) .target) → set (Landed model index modes switches k) k v ≡ Landed model index modes switches (k + 1)
   landed-more k v h e =

@@ -24,22 +24,22 @@ part-rest k xs = take-all (length xs - k) (drop k xs) (omega (arith, length-drop
 
 -- A part that is pasted: what stands before it and behind it is as it was
 module _ (d : List ℤ) (at : ℕ) (s : List ℤ) (n : ℕ) (room : at + n ≤ length d) (few : n ≤ length s) where
-  pub pasted-front : take at (paste d at s n) ≡ take at d
+  pasted-front : take at (paste d at s n) ≡ take at d
   pasted-front =
       ap (take at) (append-assoc (take at d) (take n s) (drop (at + n) d))
       ∙ take-at (take at d) (take n s ++ drop (at + n) d) at (length-take-le at d (omega arith))
 
-  pub pasted-part : take n (drop at (paste d at s n)) ≡ take n s
+  pasted-part : take n (drop at (paste d at s n)) ≡ take n s
   pasted-part =
       ap (λ xs. take n (drop at xs)) (append-assoc (take at d) (take n s) (drop (at + n) d))
       ∙ ap (take n) (drop-at (take at d) (take n s ++ drop (at + n) d) at (length-take-le at d (omega arith)))
       ∙ take-at (take n s) (drop (at + n) d) n (length-take-le n s few)
 
-  pub pasted-before : (i : ℕ) → i < at → getD (paste d at s n) i (pos 0) ≡ getD d i (pos 0)
+  pasted-before : (i : ℕ) → i < at → getD (paste d at s n) i (pos 0) ≡ getD d i (pos 0)
   pasted-before i h =
       sym (getD-take at (paste d at s n) i (pos 0) h) ∙ ap (λ xs. getD xs i (pos 0)) pasted-front ∙ getD-take at d i (pos 0) h
 
-  pub pasted-behind : (i : ℕ) → getD (paste d at s n) (at + n + i) (pos 0) ≡ getD d (at + n + i) (pos 0)
+  pasted-behind : (i : ℕ) → getD (paste d at s n) (at + n + i) (pos 0) ≡ getD d (at + n + i) (pos 0)
   pasted-behind i =
       sym (getD-drop (at + n) (paste d at s n) i (pos 0))
       ∙ ap (λ xs. getD xs i (pos 0)) (drop-paste d at s n (omega arith) few)
@@ -96,7 +96,7 @@ module _ (n : ℕ) (state : List ℤ) (room : 3 * n ≤ length state) where
   change-length : length (change n state) ≡ n
   change-length = difference-length (take n (drop n state)) (take n state) (after-length ∙ sym before-length) ∙ after-length
 
-  pub change-at : (i : ℕ) → i < n → getD (change n state) i (pos 0) ≡ getD state (n + i) (pos 0) -ℤ getD state i (pos 0)
+  change-at : (i : ℕ) → i < n → getD (change n state) i (pos 0) ≡ getD state (n + i) (pos 0) -ℤ getD state i (pos 0)
   change-at i h =
       difference-item (take n (drop n state)) (take n state) i (omega (arith, after-length)) (omega (arith, before-length))
       ∙ ap₂ (λ x y. x -ℤ y) (getD-take n (drop n state) i (pos 0) h ∙ getD-drop n state i (pos 0)) (getD-take n state i (pos 0) h)
@@ -135,7 +135,7 @@ module _ (n : ℕ) (state : List ℤ) (room : 3 * n ≤ length state) where
       pasted-part state (2 * n) (change n state) n (omega arith) (omega (arith, change-length))
       ∙ ap (λ (k : ℕ). take k (change n state)) (sym change-length) ∙ take-length (change n state)
 
-  pub changes-long : n ≤ length (drop (2 * n) (withChanges n state))
+  changes-long : n ≤ length (drop (2 * n) (withChanges n state))
   changes-long = omega (arith, length-drop (2 * n) (withChanges n state), changes-length n (omega arith))
 
   change-small : SmallValues (2 * n) state → (i : ℕ) → i < n → natAbs (getD (change n state) i (pos 0)) ≤ 2 ^ 28
@@ -186,12 +186,9 @@ module _ (n : ℕ) (state : List ℤ) (room : 2 * n ≤ length state) where
   pub moved-taken : take n (movedOn n state) ≡ take n (drop n state)
   moved-taken = pasted-part state 0 (drop n state) n (omega arith) (omega (arith, length-drop n state))
 
--- How large values are: where they stand in a row's point, the first of them and those behind
+-- How large values are: as a row's point, and those behind the first
 pub small-point : {count : ℕ} {values : List ℤ} → SmallValues count values → count ≤ 16 → SmallPoint count values
 small-point v few = record { few = few; long = v .long; small = λ i h. omega (arith, mul-le-mul (v .small i h) few) }
-
-pub small-first : {n : ℕ} {values : List ℤ} → SmallValues (2 * n) values → SmallValues n values
-small-first v = record { long = omega (arith, v .long); small = λ i h. v .small i (omega arith) }
 
 pub small-after : {n : ℕ} {values : List ℤ} → SmallValues (2 * n) values → SmallValues n (drop n values)
 unfolding item
@@ -199,13 +196,4 @@ small-after {n} {values} v =
     record {
       long = omega (arith, v .long, length-drop n values);
       small = λ i h. rw (getD-drop n values i (pos 0)) (v .small (n + i) (omega arith));
-    }
-
--- and the same of values that have been kept
-pub small-kept : {n : ℕ} {before after : List ℤ} → take n after ≡ take n before → length after ≡ length before → SmallValues n before → SmallValues n after
-unfolding item
-small-kept {n} {before} {after} e l v =
-    record {
-      long = omega (arith, v .long);
-      small = λ i h. rw (sym (getD-take n after i (pos 0) h) ∙ ap (λ xs. getD xs i (pos 0)) e ∙ getD-take n before i (pos 0) h) (v .small i h);
     }
