@@ -24,7 +24,7 @@ use Rattle.formats.specs.Locations.{locationCount}
 use Rattle.formats.specs.Joint.{stays, countUp}
 use Rattle.models.specs.Index.{entry, componentPlace, switchFrom, switchPlace, componentFrom, componentsFrom, modelFrom}
 use Rattle.formats.specs.RunSheet.{Step, flow, jump, readValues, Opening, readOpening, readFlow, readJump, readStepOf, readStep}
-use Rattle.second_sheets.specs.RunAnswers.{switchesIn, heldSwitches, switchByte, switchBytes, heldBytes, stepOf, readWith, stepAs, heldWith, heldStep, openingAs, readOpeningFields}
+use Rattle.second_sheets.specs.RunAnswers.{switchesIn, heldSwitches, switchByte, switchBytes, heldBytes, stepOf, readWith, stepAs, heldWith, heldStep, openingAs, readOpeningFields, readOpeningOf}
 use Rattle.formats.proofs.Gives.{Gives, gives-bind, gives-give, gives-any, bind-got}
 use Rattle.fields.proofs.Skipping.{bind-refused}
 use Rattle.formats.proofs.FieldLaws.{field-read, range-read}
@@ -205,8 +205,8 @@ module _ (m : Model) (s : List ℕ) (at : ℕ) where
         some kind f = omega arith
 
 -- How a run begins: its fields, then its values
-pub opening-split : (m : Model) → _≡_ {A = Reader Opening} (readOpening m) (readOpeningFields (locationCount (m .components)) >>= λ o. readValues (m .variables) >>= λ xs. give (record { q = o .q; steps = o .steps; place = o .place; location = o .location; values = xs }))
-unfolding readOpening readOpeningFields _>>=_ give andThen
+opening-split : (m : Model) → _≡_ {A = Reader Opening} (readOpening m) (readOpeningOf (locationCount (m .components)) (m .variables))
+unfolding readOpening readOpeningOf readOpeningFields _>>=_ give andThen
 opening-split m =
     let rest : Opening → Reader Opening = λ o. readValues (m .variables) >>= λ xs. give (record { q = o .q; steps = o .steps; place = o .place; location = o .location; values = xs }) in
     let count = locationCount (m .components) in
@@ -218,6 +218,12 @@ opening-split m =
     ∙ λ j. within 0 4095 u16 >>= λ steps.
     (regroup here (λ place. below count u8 >>= made q steps place) rest
     ∙ λ k. here >>= λ place. regroup (below count u8) (made q steps place) rest k) j) i)
+
+-- so begins a run of a model that has an index and so many locations
+pub opening-of : (model index s : List ℕ) (at locations : ℕ) → locations ≡ locationCount (componentsFrom model index) → readOpeningOf locations (entry index 0) s at ≡ readOpening (modelFrom model index) s at
+unfolding modelFrom
+opening-of model index s at locations all =
+    ap (λ (n : ℕ). readOpeningOf n (entry index 0) s at) all ∙ sym (ap (λ r. r s at) (opening-split (modelFrom model index)))
 
 module _ (s : List ℕ) (at locations : ℕ) where
   pub fields-first : (number place : ℕ) → within 1 (2 ^ 24 - 1) u32 s at ≡ refused number place → readOpeningFields locations s at ≡ refused number place
@@ -260,20 +266,16 @@ pub fields-refused : (xs : List ℤ) (at : ℕ) {r : OpeningRead} {number place 
 unfolding openingAs
 fields-refused xs at e = ap (openingAs xs at) e
 
-module _ (model index s : List ℕ) (at locations : ℕ) (all : locations ≡ locationCount (componentsFrom model index)) where
-  split-at : readOpening (modelFrom model index) s at ≡ (readOpeningFields locations >>= λ o. readValues (entry index 0) >>= λ xs. give (record { q = o .q; steps = o .steps; place = o .place; location = o .location; values = xs })) s at
-  unfolding modelFrom
-  split-at =
-      ap (λ r. r s at) (opening-split (modelFrom model index))
-      ∙ ap (λ (n : ℕ). (readOpeningFields n >>= λ o. readValues (entry index 0) >>= λ xs. give (record { q = o .q; steps = o .steps; place = o .place; location = o .location; values = xs })) s at) (sym all)
-
-  pub opening-refused : (number place : ℕ) → readOpeningFields locations s at ≡ refused number place → readOpening (modelFrom model index) s at ≡ refused number place
-  opening-refused number place e = split-at ∙ bind-refused (readOpeningFields locations) _ s at e
+module _ (s : List ℕ) (at locations n : ℕ) where
+  pub opening-refused : (number place : ℕ) → readOpeningFields locations s at ≡ refused number place → readOpeningOf locations n s at ≡ refused number place
+  unfolding readOpeningOf
+  opening-refused number place e = bind-refused (readOpeningFields locations) _ s at e
 
   module _ (q steps location first : ℕ) (fields : readOpeningFields locations s at ≡ got (record { q = q; steps = steps; place = at + 6; location = location; values = [] }) first) where
-    pub opening-cut : (number place : ℕ) → readValues (entry index 0) s first ≡ refused number place → readOpening (modelFrom model index) s at ≡ refused number place
-    opening-cut number place e = split-at ∙ bind-got (readOpeningFields locations) _ s at fields (bind-refused (readValues (entry index 0)) _ s first e)
+    pub opening-cut : (number place : ℕ) → readValues n s first ≡ refused number place → readOpeningOf locations n s at ≡ refused number place
+    unfolding readOpeningOf
+    opening-cut number place e = bind-got (readOpeningFields locations) _ s at fields (bind-refused (readValues n) _ s first e)
 
-    pub opening-read : (xs : List ℤ) (after : ℕ) → readValues (entry index 0) s first ≡ got xs after → readOpening (modelFrom model index) s at ≡ got (record { q = q; steps = steps; place = at + 6; location = location; values = xs }) after
-    unfolding give
-    opening-read xs after e = split-at ∙ bind-got (readOpeningFields locations) _ s at fields (bind-got (readValues (entry index 0)) _ s first e refl)
+    pub opening-read : (xs : List ℤ) (after : ℕ) → readValues n s first ≡ got xs after → readOpeningOf locations n s at ≡ got (record { q = q; steps = steps; place = at + 6; location = location; values = xs }) after
+    unfolding readOpeningOf give
+    opening-read xs after e = bind-got (readOpeningFields locations) _ s at fields (bind-got (readValues n) _ s first e refl)

@@ -99,3 +99,10 @@ readOpeningFields locations = do
   place ← here
   location ← below locations u8
   give (record { q = q; steps = steps; place = place; location = location; values = [] })
+
+-- and the whole, for a model with so many locations and n variables
+unfoldable pub readOpeningOf : ℕ → ℕ → Reader Opening
+readOpeningOf locations n = do
+  o ← readOpeningFields locations
+  xs ← readValues n
+  give (record { q = o .q; steps = o .steps; place = o .place; location = o .location; values = xs })

@@ -28,11 +28,10 @@ ghost use mathlib.Core.List.{List, []};
 ghost use mathlib.Core.Path.{_≡_};
 ghost use Prim.Native.Nat.{ℕ, _≤_};
 ghost use lib.ListN.{length, take};
-ghost use Rattle.formats.specs.Locations.{locationCount};
-ghost use Rattle.models.specs.Index.{componentsFrom, modelFrom, componentsIn, indexLength, variablesIn};
-ghost use Rattle.formats.specs.RunSheet.{readValues, readFlow, readJump, readStep, readOpening};
+ghost use Rattle.models.specs.Index.{modelFrom, componentsIn, indexLength, variablesIn};
+ghost use Rattle.formats.specs.RunSheet.{readValues, readFlow, readJump, readStep};
 ghost use Rattle.fields.specs.Answers.{gotAs};
-ghost use Rattle.second_sheets.specs.RunAnswers.{readValue, gotSigned, KeptValues, switchBytes, heldBytes, readWith, stepAs, stepIn, heldWith, heldStep, openingAs, openingIn, readOpeningFields};
+ghost use Rattle.second_sheets.specs.RunAnswers.{readValue, gotSigned, KeptValues, switchBytes, heldBytes, readWith, stepAs, stepIn, heldWith, heldStep, openingAs, openingIn, readOpeningFields, readOpeningOf};
 
 // A value of a state: four bytes, from −2^27 to 2^27.
 pub fn value(s: &[u8], at: usize) -> Signed
@@ -210,7 +209,7 @@ pub fn opening(
     values: &mut [i64],
 ) -> OpeningRead
     requires { ⌜ (variablesIn (now index) ≤ 8) × ((length (now s) ≤ 32768) × (variablesIn (now index) ≤ length (now values))) ⌝ }
-    ensures { λ r. ⌜ ((model : List ℕ) → locations ≡ locationCount (componentsFrom model (now (index .entry))) → openingIn (now (index .entry)) (now (values .exit)) at r ≡ readOpening (modelFrom model (now (index .entry))) (now (s .entry)) at) ⌝ }
+    ensures { λ r. ⌜ openingIn (now (index .entry)) (now (values .exit)) at r ≡ readOpeningOf locations (variablesIn (now (index .entry))) (now (s .entry)) at ⌝ }
     ensures { λ _. ⌜ KeptValues 0 (variablesIn (now (index .entry))) (now (values .entry)) (now (values .exit)) ⌝ }
 {
     match opening_fields(s, at, locations) {

@@ -13,6 +13,7 @@ use Rattle.steps.specs.Held.{stateIn}
 use Rattle.rules.specs.Marking.{closeRun}
 use Rattle.rules.proofs.ListFacts.{test-failed, test-passed}
 use Rattle.papers.proofs.StandingLaws.{stands-at}
+use Rattle.second_sheets.proofs.StepLaws.{opening-of}
 use Rattle.runs.proofs.RunCodeRead.{OpeningHeld, opening-known, opening-placed, opening-read, opening-refused, first-state}
 use Rattle.runs.proofs.RunCode.{opening-stops, opening-fails, opening-runs}
 use Rattle.runs.proofs.run.mark_body.Statement.{statement}
@@ -35,7 +36,7 @@ cut c =
     let index = now (a .index) in
     let read = begun .opening in
     let told = c .before .number .given in
-    opening-refused index 4 (readOpening (modelFrom (now (a .model)) index) (now (a .s)) 4) (read .last .1 .1 .1 .1 .0) (read .result) (read .ensures .0 (now (a .model)) (begun .before .before .location-count .ensures)) (told .0 .0) (told .0 .1 .0) (told .1)
+    opening-refused index 4 (readOpening (modelFrom (now (a .model)) index) (now (a .s)) 4) (read .last .1 .1 .1 .1 .0) (read .result) (read .ensures .0 ∙ opening-of (now (a .model)) index (now (a .s)) 4 (begun .before .before .location-count .result) (begun .before .before .location-count .ensures)) (told .0 .0) (told .0 .1 .0) (told .1)
 
 on-second-requires : tie.Need-on-second-requires
 on-second-requires c κs =
@@ -54,7 +55,7 @@ reads c =
     let index = now (a .index) in
     let read = begun .opening in
     let told = c .before .q .given in
-    opening-read index 4 (readOpening (modelFrom (now (a .model)) index) (now (a .s)) 4) (read .last .1 .1 .1 .1 .0) (read .result) (read .ensures .0 (now (a .model)) (begun .before .before .location-count .ensures)) (told .0 .0) (told .0 .1 .0) (told .0 .1 .1 .0) (told .0 .1 .1 .1 .0) (told .1)
+    opening-read index 4 (readOpening (modelFrom (now (a .model)) index) (now (a .s)) 4) (read .last .1 .1 .1 .1 .0) (read .result) (read .ensures .0 ∙ opening-of (now (a .model)) index (now (a .s)) 4 (begun .before .before .location-count .result) (begun .before .before .location-count .ensures)) (told .0 .0) (told .0 .1 .0) (told .0 .1 .1 .0) (told .0 .1 .1 .1 .0) (told .1)
 
 room : (c : tie.After-opening) → 3 * entry (now (c .before .before .before .before .before .args .index)) 0 ≤ length (c .opening .last .1 .1 .1 .1 .0)
 room c =

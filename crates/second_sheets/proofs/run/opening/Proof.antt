@@ -53,7 +53,7 @@ returns c =
     let s = now (a .s) in
     let index = now (a .index) in
     let told = c .before .number .given in
-    (λ model all. sym (opening-refused model index s (a .at) (a .locations) all (told .0 .0) (told .0 .1 .0) (sym (c .before .before .before .opening-fields .ensures) ∙ fields-refused [] (a .at) (told .1))), kept-same 0 (entry index 0) (now (a .values)))
+    (sym (opening-refused s (a .at) (a .locations) (entry index 0) (told .0 .0) (told .0 .1 .0) (sym (c .before .before .before .opening-fields .ensures) ∙ fields-refused [] (a .at) (told .1))), kept-same 0 (entry index 0) (now (a .values)))
 
 same-length : tie.Need-same-length
 same-length c = search needs
@@ -69,7 +69,7 @@ returns-2 c =
     let read = c .before .before .before .before .values-into in
     let told = c .before .number2 .given in
     let cut : readValues (entry index 0) s (f .1 .1 .1 .0) ≡ refused (told .0 .0) (told .0 .1 .0) = sym (read .ensures .0) ∙ next-refused (take (entry index 0) (read .last .1 .1 .1 .0)) (told .1) in
-    (λ model all. sym (opening-cut model index s (a .at) (a .locations) all (f .0) (f .1 .0) (f .1 .1 .0) (f .1 .1 .1 .0) (fields-read fields) (told .0 .0) (told .0 .1 .0) cut), read .ensures .1)
+    (sym (opening-cut s (a .at) (a .locations) (entry index 0) (f .0) (f .1 .0) (f .1 .1 .0) (f .1 .1 .1 .0) (fields-read fields) (told .0 .0) (told .0 .1 .0) cut), read .ensures .1)
 
 same-length-2 : tie.Need-same-length-2
 same-length-2 c = search needs
@@ -86,7 +86,7 @@ returns-3 c =
     let told = c .before .after .given in
     let xs = take (entry index 0) (read .last .1 .1 .1 .0) in
     let whole : readValues (entry index 0) s (f .1 .1 .1 .0) ≡ got xs (told .0 .0) = sym (read .ensures .0) ∙ next-at xs (told .1) in
-    (λ model all. sym (opening-read model index s (a .at) (a .locations) all (f .0) (f .1 .0) (f .1 .1 .0) (f .1 .1 .1 .0) (fields-read fields) xs (told .0 .0) whole), read .ensures .1)
+    (sym (opening-read s (a .at) (a .locations) (entry index 0) (f .0) (f .1 .0) (f .1 .1 .0) (f .1 .1 .1 .0) (fields-read fields) xs (told .0 .0) whole), read .ensures .1)
 
 pub opening-spec : {M : Type 1} → statement M
 opening-spec =
