@@ -1,4 +1,4 @@
-// Steps of a run: joint switches, the rule of a jump, whether a step is allowed, and the location that it leads to.
+// Steps of a run: joint switches, the rule of a jump, whether a step is allowed, and the modes that it leads to.
 use crate::rows::modes_hold;
 use crate::rows::number_at;
 use crate::values::flow_rule;
