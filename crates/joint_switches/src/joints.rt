@@ -222,7 +222,7 @@ pub fn joint_at(s: &[u8], index: &Index, modes: [u8; 4], e: u32, x: u32) -> [u8;
 }
 
 // A component's mode after a joint switch.
-fn mode_after(s: &[u8], index: &Index, k: usize, mode: u8, i: u8) -> u8
+pub fn mode_after(s: &[u8], index: &Index, k: usize, mode: u8, i: u8) -> u8
     requires { ⌜ GoodIndex (now s) (now index) ⌝ }
     requires { ⌜ k < componentsIn (now index) ⌝ }
     requires { ⌜ (eqb i stays ≡ false → i < length (componentAt (now s) (now index) k .switches)) ⌝ }

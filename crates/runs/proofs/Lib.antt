@@ -1,2 +1,3 @@
 pub mod RunCode
 pub mod RunCodeRead
+pub mod RunSlice

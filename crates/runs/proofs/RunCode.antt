@@ -19,8 +19,8 @@ use Rattle.formats.proofs.Placed.{Fine, placed-finished, placed-step}
 use Rattle.rules.specs.declared.Answer.{Answer}
 use Rattle.runs.specs.declared.RunMarked.{RunMarked}
 use Rattle.rules.specs.Runs.{State, startAllowed, after, stepAllowed, isUnsafe}
-use Rattle.steps.specs.Held.{perVariable, stateOf}
-use Rattle.runs.specs.RunHeld.{markedAs}
+use Rattle.steps.specs.Held.{stateIn}
+use Rattle.runs.specs.RunHeld.{markedAs, stoppedAt, stepsFrom}
 use Rattle.rules.specs.Marking.{answer, Marked, passed, stopped, withModel, testStep, markStep, markSteps, closeRun, firstState, markOpening, markRun}
 use Rattle.papers.specs.Opening.{opened, Open}
 use Rattle.models.specs.Index.{modelFrom}
@@ -68,47 +68,54 @@ module _ (m : Model) (q : ℕ) (s : State) (sheet : List ℕ) (place : ℕ) wher
   tested-passed t next e p = ap (testStep m q s place) e ∙ ap (λ b. cond b (got t next) (refused 13 place)) (sym p)
 
 -- how far the marking has come, by its number
-pub marked-stopped : (index : List ℕ) (r : RunMarked) → (r .number ≡ 0 → ⊥) → markedAs index r ≡ stopped (r .number) (r .place) (r .done)
-unfolding markedAs
-marked-stopped index r f =
-    ap (λ b. cond b (passed (stateOf index (r .location) (r .values)) (r .place) (r .done)) (stopped (r .number) (r .place) (r .done))) (ne-eqb (r .number) 0 f)
+module _ (model index : List ℕ) (r : RunMarked) (state : List ℤ) where
+  marked-stopped : (r .number ≡ 0 → ⊥) → markedAs model index r state ≡ stopped (r .number) (r .place) (r .done)
+  unfolding markedAs
+  marked-stopped f =
+      ap (λ b. cond b (passed (stateIn model index (r .modes) state) (r .place) (r .done)) (stopped (r .number) (r .place) (r .done))) (ne-eqb (r .number) 0 f)
 
-pub marked-passed : (index : List ℕ) (r : RunMarked) → r .number ≡ 0 → markedAs index r ≡ passed (stateOf index (r .location) (r .values)) (r .place) (r .done)
-unfolding markedAs
-marked-passed index r e =
-    ap (λ b. cond b (passed (stateOf index (r .location) (r .values)) (r .place) (r .done)) (stopped (r .number) (r .place) (r .done))) (eq-eqb (r .number) 0 e)
+  marked-passed : r .number ≡ 0 → markedAs model index r state ≡ passed (stateIn model index (r .modes) state) (r .place) (r .done)
+  unfolding markedAs
+  marked-passed e =
+      ap (λ b. cond b (passed (stateIn model index (r .modes) state) (r .place) (r .done)) (stopped (r .number) (r .place) (r .done))) (eq-eqb (r .number) 0 e)
 
-module _ (m : Model) (index : List ℕ) (q location : ℕ) (modes : List ℕ) (values : List ℤ) (sheet : List ℕ) (place done : ℕ) where
+-- one step from where a run stands
+module _ (model index : List ℕ) (q : ℕ) (sheet : List ℕ) (r : RunMarked) (state : List ℤ) where
+  abbrev m : Model
+  m = modelFrom model index
+
   abbrev Here : State
-  Here = stateOf index location values
+  Here = stateIn model index (r .modes) state
 
-  pub mark-refused : (number at : ℕ) → place ≤ length sheet → readStep m sheet place ≡ refused number at → markedAs index (record { number = number; place = at; done = done; location = location; modes = modes; values = values }) ≡ markSteps m q (stateOf index location values) 1 sheet place done
-  unfolding afterStep
-  mark-refused number at h e =
-      let w = step-fine m q Here sheet place h e in
-      marked-stopped index (record { number = number; place = at; done = done; location = location; modes = modes; values = values }) (λ z. absurd (omega arith))
-      ∙ sym (one-step m q Here sheet place done ∙ ap (afterStep m Here done) (tested-refused m q Here sheet place number at e))
+  -- stopped there, whatever the slice has then
+  stops : (number at : ℕ) → (number ≡ 0 → ⊥) → markStep m q Here sheet (r .place) ≡ refused number at → (left : List ℤ) → markedAs model index (stoppedAt r number at) left ≡ stepsFrom model index q r state 1 sheet
+  unfolding afterStep stoppedAt
+  stops number at f e left =
+      marked-stopped model index (stoppedAt r number at) left f
+      ∙ sym (one-step m q Here sheet (r .place) (r .done) ∙ ap (afterStep m Here (r .done)) e)
 
-  pub refused-placed : (number at : ℕ) → place ≤ length sheet → readStep m sheet place ≡ refused number at → at ≤ length sheet
-  refused-placed number at h e = step-fine m q Here sheet place h e .2
+  pub mark-refused : (number at : ℕ) → r .place ≤ length sheet → readStep m sheet (r .place) ≡ refused number at → (left : List ℤ) → markedAs model index (stoppedAt r number at) left ≡ stepsFrom model index q r state 1 sheet
+  mark-refused number at h e left =
+      let w = step-fine m q Here sheet (r .place) h e in
+      stops number at (λ z. absurd (omega arith)) (tested-refused m q Here sheet (r .place) number at e) left
 
-  pub step-placed : (t : Step) (next : ℕ) → place ≤ length sheet → readStep m sheet place ≡ got t next → next ≤ length sheet
-  step-placed t next h e = step-fine m q Here sheet place h e .1
+  pub refused-placed : (number at : ℕ) → r .place ≤ length sheet → readStep m sheet (r .place) ≡ refused number at → at ≤ length sheet
+  refused-placed number at h e = step-fine m q Here sheet (r .place) h e .2
 
-  module _ (t : Step) (next : ℕ) (reads : readStep m sheet place ≡ got t next) where
-    pub mark-failed : false ≡ stepAllowed m q (stateOf index location values) t → markedAs index (record { number = 13; place = place; done = done; location = location; modes = modes; values = values }) ≡ markSteps m q (stateOf index location values) 1 sheet place done
+  pub step-placed : (t : Step) (next : ℕ) → r .place ≤ length sheet → readStep m sheet (r .place) ≡ got t next → next ≤ length sheet
+  step-placed t next h e = step-fine m q Here sheet (r .place) h e .1
+
+  module _ (t : Step) (next : ℕ) (reads : readStep m sheet (r .place) ≡ got t next) where
+    pub mark-failed : false ≡ stepAllowed m q (stateIn model index (r .modes) state) t → (left : List ℤ) → markedAs model index (stoppedAt r 13 (r .place)) left ≡ stepsFrom model index q r state 1 sheet
+    mark-failed p left = stops 13 (r .place) (λ z. absurd (omega arith)) (tested-failed m q Here sheet (r .place) t next reads p) left
+
+    pub mark-passed : (modes : List ℕ) (left : List ℤ) → true ≡ stepAllowed m q (stateIn model index (r .modes) state) t → stateIn model index modes left ≡ after m (stateIn model index (r .modes) state) t → markedAs model index (record { number = 0; place = next; done = r .done + 1; modes = modes }) left ≡ stepsFrom model index q r state 1 sheet
     unfolding afterStep
-    mark-failed p =
-        marked-stopped index (record { number = 13; place = place; done = done; location = location; modes = modes; values = values }) (λ z. absurd (omega arith))
-        ∙ sym (one-step m q Here sheet place done ∙ ap (afterStep m Here done) (tested-failed m q Here sheet place t next reads p))
-
-    pub mark-passed : (l : ℕ) (ms : List ℕ) (xs : List ℤ) → true ≡ stepAllowed m q (stateOf index location values) t → stateOf index l xs ≡ after m (stateOf index location values) t → markedAs index (record { number = 0; place = next; done = done + 1; location = l; modes = ms; values = xs }) ≡ markSteps m q (stateOf index location values) 1 sheet place done
-    unfolding afterStep
-    mark-passed l ms xs p e =
-        marked-passed index (record { number = 0; place = next; done = done + 1; location = l; modes = ms; values = xs }) refl
-        ∙ ap (λ v. passed v next (done + 1)) e
-        ∙ ap (λ (d : ℕ). passed (after m Here t) next d) (add-one done)
-        ∙ sym (one-step m q Here sheet place done ∙ ap (afterStep m Here done) (tested-passed m q Here sheet place t next reads p))
+    mark-passed modes left p e =
+        marked-passed model index (record { number = 0; place = next; done = r .done + 1; modes = modes }) left refl
+        ∙ ap (λ v. passed v next (r .done + 1)) e
+        ∙ ap (λ (d : ℕ). passed (after m Here t) next d) (add-one (r .done))
+        ∙ sym (one-step m q Here sheet (r .place) (r .done) ∙ ap (afterStep m Here (r .done)) (tested-passed m q Here sheet (r .place) t next reads p))
 
 -- One step after the other
 then-on : (m : Model) (q : ℕ) (s : State) (n : ℕ) (sheet : List ℕ) (done : ℕ) (g : Got Step) {t : State} {p d : ℕ} → afterStep m s done g ≡ passed t p d → stepThen m q s n sheet done g ≡ markSteps m q t n sheet p d
@@ -128,36 +135,44 @@ then-stop m q s n sheet done (refused number at) w = w
 one-less : (n : ℕ) → 0 < n → n ≡ suc (n - 1)
 one-less n h = omega arith
 
--- what is still to come from a state is what the whole comes to
-module _ (m : Model) (index : List ℕ) (q : ℕ) (sheet : List ℕ) (whole : Marked State) (location : ℕ) (values : List ℤ) (place done left : ℕ) (some : 0 < left) (before : markSteps m q (stateOf index location values) left sheet place done ≡ whole) (r : RunMarked) (one : markedAs index r ≡ markSteps m q (stateOf index location values) 1 sheet place done) where
-  split : markSteps m q (stateOf index location values) left sheet place done ≡ stepThen m q (stateOf index location values) (left - 1) sheet done (markStep m q (stateOf index location values) sheet place)
-  split = ap (λ (n : ℕ). markSteps m q (stateOf index location values) n sheet place done) (one-less left some) ∙ more-steps m q (stateOf index location values) (left - 1) sheet place done
-
-  pub steps-go-on : r .number ≡ 0 → markSteps m q (stateOf index (r .location) (r .values)) (left - 1) sheet (r .place) (r .done) ≡ whole
-  steps-go-on e =
-      let s = stateOf index location values in
-      sym (then-on m q s (left - 1) sheet done (markStep m q s sheet place) (sym (one-step m q s sheet place done) ∙ sym one ∙ marked-passed index r e)) ∙ sym split ∙ before
-
-  pub steps-stop : (r .number ≡ 0 → ⊥) → markedAs index r ≡ whole
-  steps-stop f =
-      let s = stateOf index location values in
-      marked-stopped index r f
-      ∙ sym (then-stop m q s (left - 1) sheet done (markStep m q s sheet place) (sym (one-step m q s sheet place done) ∙ sym one ∙ marked-stopped index r f)) ∙ sym split ∙ before
-
-pub steps-end : (m : Model) (index : List ℕ) (q : ℕ) (sheet : List ℕ) (whole : Marked State) (r : RunMarked) (left : ℕ) → r .number ≡ 0 → left ≤ 0 → markSteps m q (stateOf index (r .location) (r .values)) left sheet (r .place) (r .done) ≡ whole → markedAs index r ≡ whole
-unfolding markSteps
-steps-end m index q sheet whole r left e h before =
-    marked-passed index r e ∙ sym (ap (λ (n : ℕ). markSteps m q (stateOf index (r .location) (r .values)) n sheet (r .place) (r .done)) (le-zero h)) ∙ before
-
 -- a step that passed is one more
 after-one : (m : Model) (s : State) (done : ℕ) (g : Got Step) {t : State} {p d : ℕ} → afterStep m s done g ≡ passed t p d → d ≡ done + 1
 unfolding afterStep
 after-one m s done (got x next) {d = d} w = let c : suc done ≡ d = cc in omega arith
 after-one m s done (refused number at) w = let z : _≡_ {A = ℕ} 0 1 = cc in absurd (omega arith)
 
-pub one-done : (m : Model) (index : List ℕ) (q : ℕ) (s : State) (sheet : List ℕ) (place done : ℕ) (r : RunMarked) → markedAs index r ≡ markSteps m q s 1 sheet place done → r .number ≡ 0 → r .done ≡ done + 1
-one-done m index q s sheet place done r one e =
-    after-one m s done (markStep m q s sheet place) (sym (one-step m q s sheet place done) ∙ sym one ∙ marked-passed index r e)
+-- what is still to come from where a run stands is what the whole comes to
+module _ (model index : List ℕ) (q : ℕ) (sheet : List ℕ) (whole : Marked State) (before : RunMarked) (state : List ℤ) (left : ℕ) (some : 0 < left) (from : stepsFrom model index q before state left sheet ≡ whole) (r : RunMarked) (reached : List ℤ) (one : markedAs model index r reached ≡ stepsFrom model index q before state 1 sheet) where
+  abbrev stood : State
+  stood = stateIn model index (before .modes) state
+
+  abbrev stepped : Got Step
+  stepped = markStep (modelFrom model index) q stood sheet (before .place)
+
+  split : stepsFrom model index q before state left sheet ≡ stepThen (modelFrom model index) q stood (left - 1) sheet (before .done) stepped
+  split =
+      ap (λ (n : ℕ). stepsFrom model index q before state n sheet) (one-less left some)
+      ∙ more-steps (modelFrom model index) q stood (left - 1) sheet (before .place) (before .done)
+
+  taken : afterStep (modelFrom model index) stood (before .done) stepped ≡ markedAs model index r reached
+  taken = sym (one-step (modelFrom model index) q stood sheet (before .place) (before .done)) ∙ sym one
+
+  pub steps-go-on : r .number ≡ 0 → stepsFrom model index q r reached (left - 1) sheet ≡ whole
+  steps-go-on e =
+      sym (then-on (modelFrom model index) q stood (left - 1) sheet (before .done) stepped (taken ∙ marked-passed model index r reached e)) ∙ sym split ∙ from
+
+  pub steps-stop : (r .number ≡ 0 → ⊥) → markedAs model index r reached ≡ whole
+  steps-stop f =
+      marked-stopped model index r reached f
+      ∙ sym (then-stop (modelFrom model index) q stood (left - 1) sheet (before .done) stepped (taken ∙ marked-stopped model index r reached f)) ∙ sym split ∙ from
+
+  pub one-done : r .number ≡ 0 → r .done ≡ before .done + 1
+  one-done e = after-one (modelFrom model index) stood (before .done) stepped (taken ∙ marked-passed model index r reached e)
+
+pub steps-end : (model index : List ℕ) (q : ℕ) (sheet : List ℕ) (whole : Marked State) (r : RunMarked) (state : List ℤ) (left : ℕ) → r .number ≡ 0 → left ≤ 0 → stepsFrom model index q r state left sheet ≡ whole → markedAs model index r state ≡ whole
+unfolding markSteps
+steps-end model index q sheet whole r state left e h from =
+    marked-passed model index r state e ∙ sym (ap (λ (n : ℕ). stepsFrom model index q r state n sheet) (le-zero h)) ∙ from
 
 -- The end of a run
 unfoldable ended : Model → ℕ → State → List ℕ → ℕ → Got (Unit {0}) → Answer
@@ -172,19 +187,19 @@ close-passed m q sheet s place done = go (finished sheet place)
     go (got v next) = refl
     go (refused number at) = refl
 
-module _ (m : Model) (index : List ℕ) (q : ℕ) (sheet : List ℕ) (r : RunMarked) where
-  pub close-stopped : (r .number ≡ 0 → ⊥) → answer (r .number) 1 (r .place) (r .done) 0 ≡ closeRun m q sheet (markedAs index r)
+module _ (model index : List ℕ) (q : ℕ) (sheet : List ℕ) (r : RunMarked) (state : List ℤ) where
+  pub close-stopped : (r .number ≡ 0 → ⊥) → answer (r .number) 1 (r .place) (r .done) 0 ≡ closeRun (modelFrom model index) q sheet (markedAs model index r state)
   unfolding closeRun
-  close-stopped f = sym (ap (closeRun m q sheet) (marked-stopped index r f))
+  close-stopped f = sym (ap (closeRun (modelFrom model index) q sheet) (marked-stopped model index r state f))
 
   module _ (none : r .number ≡ 0) where
-    close-by : (g : Got (Unit {0})) → finished sheet (r .place) ≡ g → closeRun m q sheet (markedAs index r) ≡ ended m q (stateOf index (r .location) (r .values)) sheet (r .done) g
+    close-by : (g : Got (Unit {0})) → finished sheet (r .place) ≡ g → closeRun (modelFrom model index) q sheet (markedAs model index r state) ≡ ended (modelFrom model index) q (stateIn model index (r .modes) state) sheet (r .done) g
     close-by g e =
-        ap (closeRun m q sheet) (marked-passed index r none)
-        ∙ close-passed m q sheet (stateOf index (r .location) (r .values)) (r .place) (r .done)
-        ∙ ap (ended m q (stateOf index (r .location) (r .values)) sheet (r .done)) e
+        ap (closeRun (modelFrom model index) q sheet) (marked-passed model index r state none)
+        ∙ close-passed (modelFrom model index) q sheet (stateIn model index (r .modes) state) (r .place) (r .done)
+        ∙ ap (ended (modelFrom model index) q (stateIn model index (r .modes) state) sheet (r .done)) e
 
-    pub close-left : (number at : ℕ) → finished sheet (r .place) ≡ refused number at → answer number 1 at (r .done) 0 ≡ closeRun m q sheet (markedAs index r)
+    pub close-left : (number at : ℕ) → finished sheet (r .place) ≡ refused number at → answer number 1 at (r .done) 0 ≡ closeRun (modelFrom model index) q sheet (markedAs model index r state)
     unfolding ended
     close-left number at e = sym (close-by (refused number at) e)
 
@@ -192,12 +207,12 @@ module _ (m : Model) (index : List ℕ) (q : ℕ) (sheet : List ℕ) (r : RunMar
     left-placed number at h e = subst (λ x. Fine sheet (r .place) x) e (placed-finished {least = 0} .fine sheet (r .place) (omega arith) h) .2
 
     module _ (next : ℕ) (end : finished sheet (r .place) ≡ got tt next) where
-      pub close-unsafe : true ≡ isUnsafe m q (stateOf index (r .location) (r .values)) → answer 0 1 (length sheet) (r .done) 100 ≡ closeRun m q sheet (markedAs index r)
+      pub close-unsafe : true ≡ isUnsafe (modelFrom model index) q (stateIn model index (r .modes) state) → answer 0 1 (length sheet) (r .done) 100 ≡ closeRun (modelFrom model index) q sheet (markedAs model index r state)
       unfolding ended
       close-unsafe p =
           ap (λ b. cond b (answer 0 1 (length sheet) (r .done) 100) (answer 14 1 (length sheet) (r .done) 0)) p ∙ sym (close-by (got tt next) end)
 
-      pub close-safe : false ≡ isUnsafe m q (stateOf index (r .location) (r .values)) → answer 14 1 (length sheet) (r .done) 0 ≡ closeRun m q sheet (markedAs index r)
+      pub close-safe : false ≡ isUnsafe (modelFrom model index) q (stateIn model index (r .modes) state) → answer 14 1 (length sheet) (r .done) 0 ≡ closeRun (modelFrom model index) q sheet (markedAs model index r state)
       unfolding ended
       close-safe p =
           ap (λ b. cond b (answer 0 1 (length sheet) (r .done) 100) (answer 14 1 (length sheet) (r .done) 0)) p ∙ sym (close-by (got tt next) end)
@@ -220,17 +235,20 @@ module _ (m : Model) (sheet : List ℕ) (g : Got Opening) where
   unfolding markOpening
   opening-stops number at e = sym (ap (markOpening m sheet) e)
 
-  module _ (index : List ℕ) (values : List ℤ) (q steps place location next : ℕ) (reads : g ≡ got (record { q = q; steps = steps; place = place; location = location; values = perVariable index values }) next) where
-    beginning : Opening
-    beginning = record { q = q; steps = steps; place = place; location = location; values = perVariable index values }
+  module _ (q steps place location next : ℕ) (values : List ℤ) (reads : g ≡ got (record { q = q; steps = steps; place = place; location = location; values = values }) next) (s : State) (first : s ≡ record { location = location; values = values }) where
+    abbrev beginning : Opening
+    beginning = record { q = q; steps = steps; place = place; location = location; values = values }
 
-    pub opening-fails : false ≡ startAllowed m q (stateOf index location values) → answer 12 1 place 0 0 ≡ markOpening m sheet g
-    unfolding begun firstState stateOf beginning
-    opening-fails p = ap (begun m sheet beginning next) p ∙ sym (ap (markOpening m sheet) reads ∙ begins m sheet beginning next)
+    pub opening-fails : false ≡ startAllowed m q s → answer 12 1 place 0 0 ≡ markOpening m sheet g
+    unfolding begun firstState
+    opening-fails p =
+        ap (begun m sheet beginning next) (p ∙ ap (startAllowed m q) first) ∙ sym (ap (markOpening m sheet) reads ∙ begins m sheet beginning next)
 
-    pub opening-runs : true ≡ startAllowed m q (stateOf index location values) → closeRun m q sheet (markSteps m q (stateOf index location values) steps sheet next 0) ≡ markOpening m sheet g
-    unfolding begun firstState stateOf beginning
-    opening-runs p = ap (begun m sheet beginning next) p ∙ sym (ap (markOpening m sheet) reads ∙ begins m sheet beginning next)
+    pub opening-runs : true ≡ startAllowed m q s → closeRun m q sheet (markSteps m q s steps sheet next 0) ≡ markOpening m sheet g
+    unfolding begun firstState
+    opening-runs p =
+        ap (λ x. closeRun m q sheet (markSteps m q x steps sheet next 0)) first
+        ∙ ap (begun m sheet beginning next) (p ∙ ap (startAllowed m q) first) ∙ sym (ap (markOpening m sheet) reads ∙ begins m sheet beginning next)
 
 -- The whole
 pub run-model : (limits : Limits) (model second : List ℕ) (number place : ℕ) → readModel limits model ≡ refused number place → answer number 0 place 0 0 ≡ markRun limits model second

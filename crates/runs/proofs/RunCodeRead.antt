@@ -1,5 +1,5 @@
--- What was read of a run sheet, as the code holds it: values, steps and openings are in their ranges, and a place of a refusal on a
--- sheet of any length is at most 32,768. Assumes nothing.
+-- What was read of a run sheet, as the code holds it: values, steps and openings are in their ranges, and the place of a refusal is in the
+-- sheet. Assumes nothing.
 use mathlib.Core.Path.{_≡_, refl, sym, ap, _∙_, subst}
 use mathlib.Core.Bool.{Bool, true, false, _&&_, _||_}
 use mathlib.Core.List.{List, [], _∷_}
@@ -7,7 +7,8 @@ use Prim.Native.Nat.{ℕ, zero, suc, _+_, _-_, _^_, _≤_, _<_}
 use native.Mathlib.Omega.{arith}
 use lib.Dec.{T, leb, ltb, eqb, leb→le, ltb→lt}
 use lib.IntN.{ℤ, pos, negsuc, natAbs}
-use lib.ListN.{length, take}
+use lib.ListN.{length, getD, take}
+use lib.Seq.{getD-take}
 use lib.Signed.{leZ}
 use Rattle.farkas.specs.Rows.{item}
 use Rattle.farkas.specs.Lists.{All, none, more}
@@ -15,25 +16,27 @@ use Rattle.second_sheets.specs.declared.Switches.{Switches}
 use Rattle.second_sheets.specs.declared.Step as coded
 use Rattle.second_sheets.specs.declared.Step.the-variants as step
 use Rattle.second_sheets.specs.declared.StepRead.the-variants as read
-use Rattle.second_sheets.specs.declared.ReadStep.{ReadStep}
+use Rattle.second_sheets.specs.declared.StepRead.{StepRead}
 use Rattle.second_sheets.specs.declared.OpeningRead.the-variants as opening
-use Rattle.second_sheets.specs.declared.ReadOpening.{ReadOpening}
+use Rattle.second_sheets.specs.declared.OpeningRead.{OpeningRead}
 use Rattle.formats.specs.Reading.{Got, got, refused, u8, u16, u32, must, withinSigned, each}
 use Rattle.formats.specs.Model.{Component, Model}
-use Rattle.formats.specs.Locations.{locationCount}
+use Rattle.formats.specs.Locations.{locationCount, locationOf}
+use Rattle.formats.proofs.Locations.{number-of}
 use Rattle.formats.specs.Joint.{stays, fourSwitches}
 use Rattle.models.specs.Index.{entry, componentsFrom, modelFrom, GoodIndex}
 use Rattle.models.specs.Counts.{KnownSwitches}
 use Rattle.formats.specs.RunSheet.{Step, flow, jump, readValues, Opening, readOpening, readFlow, readJump, readStepOf, readStep}
-use Rattle.second_sheets.specs.RunAnswers.{eight, switchesIn, heldSwitches, stepOf, stepAs, gotStep, heldWith, heldStep, openingAs, gotOpening, heldOpening}
+use Rattle.second_sheets.specs.RunAnswers.{switchesIn, heldSwitches, stepOf, stepAs, stepIn, heldStep, openingAs, openingIn}
 use Rattle.formats.proofs.Gives.{Gives, gives-bind, gives-give, gives-any, gives-must, gives-within, gives-below, gives-many, gives-weaken, and-left}
 use Rattle.formats.proofs.Placed.{Fine, placed-opening}
 use Rattle.formats.proofs.Joint.{Known, no-numbers, number-and}
-use Rattle.models.proofs.GoodIndexLaws.{few-components}
+use Rattle.models.proofs.GoodIndexLaws.{few-components, good-components}
 use Rattle.joint_switches.proofs.JointLoops.{four-known}
-use Rattle.second_sheets.proofs.StepLaws.{eight-item}
 use Rattle.rules.specs.Runs.{after}
-use Rattle.steps.specs.Held.{perVariable, SmallValues, KnownStep}
+use Rattle.papers.specs.Standing.{Stands}
+use Rattle.papers.proofs.StandingLaws.{have-modes}
+use Rattle.steps.specs.Held.{perVariable, stateOf, stateIn, SmallValues, KnownStep}
 
 -- Values that were read are small
 abbrev Small : ℤ → Type 0
@@ -44,7 +47,7 @@ value-small (pos n) t = leb→le n 134217728 t
 value-small (negsuc n) t =
     let h = leb→le n 134217727 (and-left (leb n 134217727) true t) in omega (arith, h)
 
-pub values-small : (n : ℕ) → Gives (All Small) (readValues n)
+values-small : (n : ℕ) → Gives (All Small) (readValues n)
 unfolding readValues withinSigned
 values-small n = gives-weaken (λ xs w. w .1) (gives-many n (gives-weaken (λ v w. value-small v (w .0)) (gives-must _ 5 gives-any)))
 
@@ -54,8 +57,11 @@ item-small none i = omega arith
 item-small (more x rest) zero = x
 item-small (more x rest) (suc i) = item-small rest i
 
-pub eight-small : (xs : List ℤ) → All Small xs → SmallValues (eight xs)
-eight-small xs h = record { small = λ i. rw (eight-item xs i) (item-small h i) }
+-- the first numbers of a slice, where they were read
+small-read : {n : ℕ} {values : List ℤ} → n ≤ length values → All Small (take n values) → SmallValues n values
+unfolding item
+small-read {n} {values} long h =
+    record { long = long; small = λ i l. rw (sym (getD-take n values i (pos 0) l)) (item-small h i) }
 
 -- A step that was read: its time or its event, its switches and its values are in their ranges
 data StepKnown (m : Model) : Step → Type 0 where
@@ -128,41 +134,45 @@ held-jump {index} e w h k = record {
 }
 
 module _ {model index : List ℕ} (g : GoodIndex model index) where
-  held-known : (st : Step) (p : ℕ) (r : ReadStep) (by : coded.Step) (after : ℕ) → r ≡ heldStep (got st p) → r .read ≡ read.Good by after → StepKnown (modelFrom model index) st → KnownStep index by × SmallValues (r .values)
-  unfolding heldStep heldWith modelFrom
-  held-known (flow δ xs) p r by after e h (flow-known l a) =
-      let n : read.Good (step.Flow δ) p ≡ read.Good by after = sym (ap (λ w. w .read) e) ∙ h in
-      let q : step.Flow δ ≡ by = cc in
-      (subst (KnownStep index) q (held-flow δ l), subst SmallValues (sym (ap (λ w. w .values) e)) (eight-small xs a))
-  held-known (jump event ws xs) p r by after e h (jump-known l k a) =
-      let n : read.Good (step.Jump event (heldSwitches ws)) p ≡ read.Good by after = sym (ap (λ w. w .read) e) ∙ h in
+  held-known : (st : Step) (p : ℕ) (by : coded.Step) (after : ℕ) → heldStep (got st p) ≡ read.Good by after → StepKnown (modelFrom model index) st → KnownStep index by
+  unfolding heldStep modelFrom
+  held-known (flow δ xs) p by after e (flow-known l a) = let q : step.Flow δ ≡ by = cc in subst (KnownStep index) q (held-flow δ l)
+  held-known (jump event ws xs) p by after e (jump-known l k a) =
       let q : step.Jump event (heldSwitches ws) ≡ by = cc in
       let few : length ws ≤ 4 = omega (arith, known-length k, few-components g 0) in
-      (subst (KnownStep index) q (held-jump event (heldSwitches ws) l (subst (KnownSwitches index) (four-same ws few) (four-known g k))), subst SmallValues (sym (ap (λ w. w .values) e)) (eight-small xs a))
+      subst (KnownStep index) q (held-jump event (heldSwitches ws) l (subst (KnownSwitches index) (four-same ws few) (four-known g k)))
 
-  pub step-known : (s : List ℕ) (at : ℕ) (r : ReadStep) (by : coded.Step) (after : ℕ) → r ≡ heldStep (readStep (modelFrom model index) s at) → r .read ≡ read.Good by after → KnownStep index by × SmallValues (r .values)
+  pub step-known : (s : List ℕ) (at : ℕ) (r : StepRead) (by : coded.Step) (after : ℕ) → r ≡ heldStep (readStep (modelFrom model index) s at) → r ≡ read.Good by after → KnownStep index by
   unfolding heldStep
-  step-known s at r by after e h = go (readStep m s at) refl e
+  step-known s at r by after e h = go (readStep m s at) refl (sym e ∙ h)
     where
       m : Model
       m = modelFrom model index
 
-      go : (x : Got Step) → readStep m s at ≡ x → r ≡ heldStep x → KnownStep index by × SmallValues (r .values)
-      go (got st p) q w = held-known st p r by after w h (step-gives m .holds s at st p q)
-      go (refused number place) q w =
-          let n : read.Refused number place ≡ read.Good by after = sym (ap (λ v. v .read) w) ∙ h in
-          let z : _≡_ {A = ℕ} 0 1 = cc in
-          absurd (omega arith)
+      go : (x : Got Step) → readStep m s at ≡ x → heldStep x ≡ read.Good by after → KnownStep index by
+      go (got st p) q w = held-known st p by after w (step-gives m .holds s at st p q)
+      go (refused number place) q w = let z : _≡_ {A = ℕ} 0 1 = cc in absurd (omega arith)
 
 -- what the answer means once its case is known
-module _ (index : List ℕ) (g : Got Step) (r : ReadStep) (told : gotStep (entry index 0) (entry index 1) r ≡ g) where
-  pub step-read : (by : coded.Step) (after : ℕ) → r .read ≡ read.Good by after → g ≡ got (stepOf (entry index 1) by (perVariable index (r .values))) after
-  unfolding gotStep stepAs perVariable
-  step-read by after h = sym told ∙ ap (stepAs (entry index 1) (take (entry index 0) (r .values))) h
+module _ (index : List ℕ) (g : Got Step) (values : List ℤ) (r : StepRead) (told : stepIn index values r ≡ g) where
+  pub step-read : (by : coded.Step) (after : ℕ) → r ≡ read.Good by after → g ≡ got (stepOf (entry index 1) by (perVariable index values)) after
+  unfolding stepAs perVariable
+  step-read by after h = sym told ∙ ap (stepIn index values) h
 
-  pub step-refused : (number place : ℕ) → r .read ≡ read.Refused number place → g ≡ refused number place
-  unfolding gotStep stepAs
-  step-refused number place h = sym told ∙ ap (stepAs (entry index 1) (take (entry index 0) (r .values))) h
+  pub step-refused : (number place : ℕ) → r ≡ read.Refused number place → g ≡ refused number place
+  unfolding stepAs
+  step-refused number place h = sym told ∙ ap (stepIn index values) h
+
+-- and its new values are small
+known-values : (m : Model) (c : ℕ) (by : coded.Step) (xs : List ℤ) → StepKnown m (stepOf c by xs) → All Small xs
+unfolding stepOf
+known-values m c (step.Flow δ) xs (flow-known l a) = a
+known-values m c (step.Jump e w) xs (jump-known l k a) = a
+
+pub step-small : (model index s : List ℕ) (at : ℕ) (by : coded.Step) (values : List ℤ) (after : ℕ) → readStep (modelFrom model index) s at ≡ got (stepOf (entry index 1) by (perVariable index values)) after → entry index 0 ≤ length values → SmallValues (entry index 0) values
+unfolding perVariable
+step-small model index s at by values after e long =
+    small-read long (known-values (modelFrom model index) (entry index 1) by (take (entry index 0) values) (step-gives (modelFrom model index) .holds s at _ after e))
 
 -- How a run begins: what was read is in its ranges
 record OpeningKnown (m : Model) (o : Opening) : Type 0 where
@@ -189,45 +199,39 @@ pub record OpeningHeld (model index s : List ℕ) (values : List ℤ) (q steps l
   pub below : q < 2 ^ 24
   pub few : steps ≤ 4095
   pub located : location < locationCount (componentsFrom model index)
-  pub small : SmallValues values
+  pub small : SmallValues (entry index 0) values
   pub placed : next ≤ length s
 
-pub opening-known : (model index s : List ℕ) (at : ℕ) (r : ReadOpening) (q steps location next : ℕ) → at ≤ length s → r ≡ heldOpening (readOpening (modelFrom model index) s at) → r .read ≡ opening.Opening q steps location next → OpeningHeld model index s (r .values) q steps location next
-unfolding heldOpening modelFrom
-opening-known model index s at r q steps location next l e h = go (readOpening m s at) refl e
-  where
-    m : Model
-    m = modelFrom model index
-
-    go : (x : Got Opening) → readOpening m s at ≡ x → r ≡ heldOpening x → OpeningHeld model index s (r .values) q steps location next
-    go (got o p) w v =
-        let n : opening.Opening (o .q) (o .steps) (o .location) p ≡ opening.Opening q steps location next = sym (ap (λ x. x .read) v) ∙ h in
-        let a : o .q ≡ q = cc in
-        let b : o .steps ≡ steps = cc in
-        let c : o .location ≡ location = cc in
-        let d : p ≡ next = cc in
-        let k = opening-gives m .holds s at o p w in
-        record {
-          below = subst (λ (x : ℕ). x < 2 ^ 24) a (k .q);
-          few = subst (λ (x : ℕ). x ≤ 4095) b (k .steps);
-          located = subst (λ (x : ℕ). x < locationCount (componentsFrom model index)) c (k .location);
-          small = subst SmallValues (sym (ap (λ x. x .values) v)) (eight-small (o .values) (k .values));
-          placed = subst (λ (x : ℕ). x ≤ length s) d (subst (λ x. Fine s at x) w (placed-opening {least = 0} m .fine s at (omega arith) l) .1);
-        }
-    go (refused number place) w v =
-        let n : opening.Refused number place ≡ opening.Opening q steps location next = sym (ap (λ x. x .read) v) ∙ h in
-        let z : _≡_ {A = ℕ} 0 1 = cc in
-        absurd (omega arith)
+pub opening-known : (model index s : List ℕ) (at : ℕ) (values : List ℤ) (q steps place location next : ℕ) → at ≤ length s → entry index 0 ≤ length values → readOpening (modelFrom model index) s at ≡ got (record { q = q; steps = steps; place = place; location = location; values = take (entry index 0) values }) next → OpeningHeld model index s values q steps location next
+unfolding modelFrom
+opening-known model index s at values q steps place location next l long e =
+    let m = modelFrom model index in
+    let k = opening-gives m .holds s at _ next e in
+    record {
+      below = k .q;
+      few = k .steps;
+      located = k .location;
+      small = small-read long (k .values);
+      placed = subst (λ x. Fine s at x) e (placed-opening {least = 0} m .fine s at (omega arith) l) .1;
+    }
 
 pub opening-placed : (m : Model) (s : List ℕ) (at number place : ℕ) → at ≤ length s → readOpening m s at ≡ refused number place → place ≤ length s
 opening-placed m s at number place l e = subst (λ x. Fine s at x) e (placed-opening {least = 0} m .fine s at (omega arith) l) .2
 
 -- what the answer means once its case is known
-module _ (index : List ℕ) (at : ℕ) (g : Got Opening) (r : ReadOpening) (told : gotOpening (entry index 0) at r ≡ g) where
-  pub opening-read : (q steps location next : ℕ) → r .read ≡ opening.Opening q steps location next → g ≡ got (record { q = q; steps = steps; place = at + 6; location = location; values = perVariable index (r .values) }) next
-  unfolding gotOpening openingAs perVariable
-  opening-read q steps location next h = sym told ∙ ap (openingAs (take (entry index 0) (r .values)) at) h
+module _ (index : List ℕ) (at : ℕ) (g : Got Opening) (values : List ℤ) (r : OpeningRead) (told : openingIn index values at r ≡ g) where
+  pub opening-read : (q steps location next : ℕ) → r ≡ opening.Opening q steps location next → g ≡ got (record { q = q; steps = steps; place = at + 6; location = location; values = take (entry index 0) values }) next
+  unfolding openingAs
+  opening-read q steps location next h = sym told ∙ ap (openingIn index values at) h
 
-  pub opening-refused : (number place : ℕ) → r .read ≡ opening.Refused number place → g ≡ refused number place
-  unfolding gotOpening openingAs
-  opening-refused number place h = sym told ∙ ap (openingAs (take (entry index 0) (r .values)) at) h
+  pub opening-refused : (number place : ℕ) → r ≡ opening.Refused number place → g ≡ refused number place
+  unfolding openingAs
+  opening-refused number place h = sym told ∙ ap (openingIn index values at) h
+
+-- the first state, by the modes of its location
+pub first-state : {model index : List ℕ} (location : ℕ) (modes : List ℕ) (values : List ℤ) → GoodIndex model index → Stands model index location modes → stateIn model index modes values ≡ record { location = location; values = take (entry index 0) values }
+unfolding stateOf perVariable
+first-state {model} {index} location modes values g stands =
+    let components = componentsFrom model index in
+    ap (λ (l : ℕ). record { location = l; values = take (entry index 0) values })
+    (ap (locationOf components) (stands .here) ∙ number-of (have-modes (good-components g)) location (stands .below))

@@ -1,4 +1,5 @@
-// Marking a run sheet: its opening, its steps one after the other, and its end.
+// Marking a run sheet: its opening, its steps one after the other, and its end. The values of its states stand in one lent slice: those
+// before a step in its first numbers, one to a variable, those after in as many numbers from there on, and their change behind them.
 use crate::RunMarked;
 use fields::Next;
 use fields::header::finished;
@@ -6,6 +7,7 @@ use joint_switches::joints::location_count;
 use joint_switches::joints::modes_at;
 use models::layout::INDEX_LENGTH;
 use models::layout::Index;
+use models::layout::VARIABLES_AT;
 use papers::answers::on_second;
 use papers::opening::open_paper;
 use rules::Answer;
@@ -13,74 +15,67 @@ use second_sheets::OpeningRead;
 use second_sheets::StepRead;
 use second_sheets::run::opening;
 use second_sheets::run::step;
-use steps::jumps::location_after;
 use steps::jumps::modes_after;
 use steps::jumps::step_allowed;
+use steps::rows::number_at;
 use steps::values::is_unsafe;
+use steps::values::keep_values;
 use steps::values::start_allowed;
 ghost use mathlib.Core.Path.{_≡_};
 ghost use Prim.Native.Nat.{_+_, _^_, _≤_, _<_};
 ghost use lib.ListN.{length};
-ghost use Rattle.models.specs.Index.{modelFrom, GoodIndex};
+ghost use Rattle.models.specs.Index.{modelFrom};
 ghost use Rattle.formats.specs.ModelSheet.{examLimits};
+ghost use Rattle.papers.specs.Paper.{Accepted};
 ghost use Rattle.runs.specs.RunHeld.{stoppedAt, markedAs, RunStands, markedBody, stepsFrom};
 ghost use Rattle.rules.specs.Marking.{closeRun, markRun};
 
-// A run whose marking has stopped: the number and place of the refusal, and the state as it was.
+// So many numbers hold the values before and after a step and their change: up to 8 of each.
+const STATE_LENGTH: usize = 24;
+
+// A run whose marking has stopped: the number and place of the refusal, and the modes as they were.
 fn stopped_at(run: RunMarked, number: u32, place: usize) -> RunMarked
     ensures { λ r. ⌜ r ≡ stoppedAt run number place ⌝ }
 {
     let modes = run.modes;
-    let values = run.values;
     RunMarked {
         number,
         place,
         done: run.done,
-        location: run.location,
         modes,
-        values,
     }
 }
 
-// One step: it is read, then tested; 13 at its first byte.
-fn mark_step(model: &[u8], index: &Index, s: &[u8], q: u32, run: RunMarked) -> RunMarked
-    requires { ⌜ GoodIndex (now model) (now index) ⌝ }
-    requires { ⌜ RunStands (now model) (now index) (now s) run ⌝ }
+// One step: it is read, then tested; 13 at its first byte. After a refusal the numbers behind the values reached are free.
+fn mark_step(
+    model: &[u8],
+    index: &Index,
+    s: &[u8],
+    q: u32,
+    run: RunMarked,
+    state: &mut [i64],
+) -> RunMarked
+    requires { ⌜ Accepted (now model) (now index) × (length (now s) ≤ 32768) ⌝ }
+    requires { ⌜ RunStands (now index) (now s) run (now state) ⌝ }
     requires { ⌜ (q < 2 ^ 24) × (run .done < 4095) ⌝ }
-    ensures { λ r. ⌜ markedAs (now (index .entry)) r ≡ stepsFrom (now (model .entry)) (now (index .entry)) q run 1 (now (s .entry)) ⌝ }
-    ensures { λ r. ⌜ RunStands (now (model .entry)) (now (index .entry)) (now (s .entry)) r ⌝ }
+    ensures { λ r. ⌜ markedAs (now (model .entry)) (now (index .entry)) r (now (state .exit)) ≡ stepsFrom (now (model .entry)) (now (index .entry)) q run (now (state .entry)) 1 (now (s .entry)) ⌝ }
+    ensures { λ r. ⌜ RunStands (now (index .entry)) (now (s .entry)) r (now (state .exit)) ⌝ }
 {
-    let read = step(model, index, s, run.place);
-    let values = read.values;
-    let told = read.read;
-    let before = run.values;
+    let n = number_at(index, VARIABLES_AT);
     let modes = run.modes;
-    match told {
+    match step(index, s, run.place, &mut state[n..]) {
         StepRead::Refused(number, place) => stopped_at(run, number, place),
         StepRead::Good(by, place) => {
-            let location = location_after(model, index, run.location, modes, by);
-            let after = modes_after(model, index, run.location, modes, by, location);
-            if !step_allowed(
-                model,
-                index,
-                run.location,
-                modes,
-                q,
-                before,
-                by,
-                location,
-                after,
-                values,
-            ) {
+            let targets = modes_after(model, index, modes, by);
+            if !step_allowed(model, index, modes, q, by, targets, state) {
                 return stopped_at(run, 13, run.place);
             }
+            keep_values(index, state);
             RunMarked {
                 number: 0,
                 place,
                 done: run.done + 1,
-                location,
-                modes: after,
-                values,
+                modes: targets,
             }
         }
     }
@@ -94,17 +89,18 @@ fn mark_steps(
     q: u32,
     steps: u32,
     first: RunMarked,
+    state: &mut [i64],
 ) -> RunMarked
-    requires { ⌜ GoodIndex (now model) (now index) ⌝ }
-    requires { ⌜ RunStands (now model) (now index) (now s) first ⌝ }
+    requires { ⌜ Accepted (now model) (now index) × (length (now s) ≤ 32768) ⌝ }
+    requires { ⌜ RunStands (now index) (now s) first (now state) ⌝ }
     requires { ⌜ (q < 2 ^ 24) × ((first .number ≡ 0) × (first .done + steps ≤ 4095)) ⌝ }
-    ensures { λ r. ⌜ markedAs (now (index .entry)) r ≡ stepsFrom (now (model .entry)) (now (index .entry)) q first steps (now (s .entry)) ⌝ }
-    ensures { λ r. ⌜ RunStands (now (model .entry)) (now (index .entry)) (now (s .entry)) r ⌝ }
+    ensures { λ r. ⌜ markedAs (now (model .entry)) (now (index .entry)) r (now (state .exit)) ≡ stepsFrom (now (model .entry)) (now (index .entry)) q first (now (state .entry)) steps (now (s .entry)) ⌝ }
+    ensures { λ r. ⌜ RunStands (now (index .entry)) (now (s .entry)) r (now (state .exit)) ⌝ }
 {
     let mut run = first;
     let mut left = steps;
     while 0 < left {
-        run = mark_step(model, index, s, q, run);
+        run = mark_step(model, index, s, q, run, state);
         if run.number != 0 {
             return run;
         }
@@ -114,11 +110,10 @@ fn mark_steps(
 }
 
 // The end of a run: its steps passed, no bytes are left, and the state reached is unsafe; 14 at the sheet's length.
-fn close_run(model: &[u8], index: &Index, s: &[u8], q: u32, run: RunMarked) -> Answer
-    requires { ⌜ GoodIndex (now model) (now index) ⌝ }
-    requires { ⌜ RunStands (now model) (now index) (now s) run ⌝ }
-    requires { ⌜ (q < 2 ^ 24) × (length (now s) ≤ 32768) ⌝ }
-    ensures { λ r. ⌜ r ≡ closeRun (modelFrom (now (model .entry)) (now (index .entry))) q (now (s .entry)) (markedAs (now (index .entry)) run) ⌝ }
+fn close_run(model: &[u8], index: &Index, s: &[u8], q: u32, run: RunMarked, state: &[i64]) -> Answer
+    requires { ⌜ Accepted (now model) (now index) × (length (now s) ≤ 32768) ⌝ }
+    requires { ⌜ RunStands (now index) (now s) run (now state) × (q < 2 ^ 24) ⌝ }
+    ensures { λ r. ⌜ r ≡ closeRun (modelFrom (now (model .entry)) (now (index .entry))) q (now (s .entry)) (markedAs (now (model .entry)) (now (index .entry)) run (now (state .entry))) ⌝ }
 {
     if run.number != 0 {
         return on_second(run.number, run.place, run.done, 0);
@@ -126,9 +121,8 @@ fn close_run(model: &[u8], index: &Index, s: &[u8], q: u32, run: RunMarked) -> A
     match finished(s, run.place) {
         Next::Refused(number, place) => on_second(number, place, run.done, 0),
         Next::At(_) => {
-            let values = run.values;
             let modes = run.modes;
-            if is_unsafe(model, index, run.location, modes, q, values) {
+            if is_unsafe(model, index, modes, q, state) {
                 on_second(0, s.len(), run.done, 100)
             } else {
                 on_second(14, s.len(), run.done, 0)
@@ -137,37 +131,27 @@ fn close_run(model: &[u8], index: &Index, s: &[u8], q: u32, run: RunMarked) -> A
     }
 }
 
-// A run sheet after its header: its opening, 12 at the location byte, then its steps and its end.
-fn mark_body(model: &[u8], index: &Index, s: &[u8]) -> Answer
-    requires { ⌜ GoodIndex (now model) (now index) ⌝ }
+// A run sheet after its header: its opening, 12 at the location byte, then its steps and its end. The slice is free then.
+fn mark_body(model: &[u8], index: &Index, s: &[u8], state: &mut [i64]) -> Answer
+    requires { ⌜ Accepted (now model) (now index) × (24 ≤ length (now state)) ⌝ }
     requires { ⌜ (4 ≤ length (now s)) × (length (now s) ≤ 32768) ⌝ }
     ensures { λ r. ⌜ r ≡ markedBody (now (model .entry)) (now (index .entry)) (now (s .entry)) 4 ⌝ }
 {
-    let read = opening(model, index, location_count(model, index), s, 4);
-    let values = read.values;
-    let told = read.read;
-    match told {
+    match opening(index, location_count(model, index), s, 4, state) {
         OpeningRead::Refused(number, place) => on_second(number, place, 0, 0),
         OpeningRead::Opening(q, steps, location, next) => {
             let modes = modes_at(model, index, location);
-            if !start_allowed(model, index, location, modes, q, values) {
+            if !start_allowed(model, index, modes, q, state) {
                 return on_second(12, 10, 0, 0);
             }
             let first = RunMarked {
                 number: 0,
                 place: next,
                 done: 0,
-                location,
                 modes,
-                values,
             };
-            close_run(
-                model,
-                index,
-                s,
-                q,
-                mark_steps(model, index, s, q, steps, first),
-            )
+            let run = mark_steps(model, index, s, q, steps, first, state);
+            close_run(model, index, s, q, run, state)
         }
     }
 }
@@ -181,5 +165,6 @@ pub fn mark_run(model: &[u8], second: &[u8]) -> Answer
     if opened.number != 0 {
         return opened;
     }
-    mark_body(model, &index, second)
+    let mut state = [0i64; STATE_LENGTH];
+    mark_body(model, &index, second, &mut state)
 }

@@ -1,5 +1,4 @@
--- The run sheet's readings: signed values in their range, arrays that a loop fills, switch bytes, and how the parts of a step and of
--- an opening make the whole. Assumes nothing.
+-- The run sheet's readings: signed values in their range, slices and arrays that a loop fills, and switch bytes. Assumes nothing.
 use mathlib.Core.Path.{_≡_, refl, sym, ap, _∙_}
 use mathlib.Core.Bool.{Bool, true, false, not, _&&_}
 use mathlib.Core.List.{List, [], _∷_, _++_}
@@ -16,13 +15,14 @@ use borrow.Author.Tests.{le-leb, lt-leb, lt-ltb, le-ltb}
 use Rattle.second_sheets.specs.declared.Signed.{Signed}
 use Rattle.second_sheets.specs.declared.Signed.the-variants as variants
 use Rattle.formats.specs.Reading.{got, refused, give, u8, u32, s32, signed, passing, must, withinSigned, many}
+use Rattle.fields.specs.Places.{signedAt}
 use Rattle.formats.specs.Joint.{stays, countUp}
 use Rattle.models.specs.Index.{entry, componentPlace}
 use Rattle.formats.specs.RunSheet.{readValues}
-use Rattle.second_sheets.specs.RunAnswers.{readValue, gotSigned, eight, heldSwitches, switchByte, switchBytes}
+use Rattle.second_sheets.specs.RunAnswers.{readValue, gotSigned, KeptValues, heldSwitches, switchByte, switchBytes}
 use Rattle.formats.proofs.Gives.{bind-got, tested}
 use Rattle.fields.proofs.Skipping.{bind-refused}
-use Rattle.formats.proofs.FieldLaws.{byte-at, byte-read, numbered}
+use Rattle.formats.proofs.FieldLaws.{byte-at, byte-read, field-got, field-cut, numbered}
 use Rattle.fields.proofs.ReadLoop.{upTo, up-to-snoc, Reading, reading-starts, reading-goes-on, reading-stops, reading-ends}
 use Rattle.fields.proofs.EachLoop.{ReadingEach, each-starts, each-goes-on, each-stops, each-ends}
 
@@ -56,13 +56,14 @@ module _ (v : ℤ) (p after : ℕ) where
   unfolding passing
   value-in h k = rw (le-not v (negsuc 134217727), h, le-not (pos 134217728) v, k) refl
 
-pub number-got : (s : List ℕ) (p n after : ℕ) → u32 s p ≡ got n after → readValue s p ≡ passing inRange 5 p (got (signed n) after)
-unfolding readValue withinSigned must s32 give
-number-got s p n after e = ap (passing inRange 5 p) (bind-got u32 (λ n. give (signed n)) s p e refl)
+-- four bytes that are there, and a value that is cut
+pub value-whole : (s : List ℕ) (p : ℕ) → p + 4 ≤ length s → readValue s p ≡ passing inRange 5 p (got (signedAt s p) (p + 4))
+unfolding readValue withinSigned must s32 give u32 signedAt
+value-whole s p h = ap (passing inRange 5 p) (bind-got u32 (λ n. give (signed n)) s p (field-got 4 s p h) refl)
 
-pub number-refused : (s : List ℕ) (p number place : ℕ) → u32 s p ≡ refused number place → readValue s p ≡ refused number place
-unfolding readValue withinSigned must s32 passing
-number-refused s p number place e = ap (passing inRange 5 p) (bind-refused u32 (λ n. give (signed n)) s p e)
+pub value-cut : (s : List ℕ) (p : ℕ) → length s < p + 4 → readValue s p ≡ refused 4 p
+unfolding readValue withinSigned must s32 passing u32
+value-cut s p h = ap (passing inRange 5 p) (bind-refused u32 (λ n. give (signed n)) s p (field-cut 4 s p h))
 
 pub signed-value : {f : Signed} {v : ℤ} {p : ℕ} → f ≡ variants.Value v p → gotSigned f ≡ got v p
 unfolding gotSigned
@@ -148,10 +149,12 @@ module _ (s : List ℕ) (n at : ℕ) where
       ap (λ xs. got xs place) (sym (up-to-take (pos 0) values n few))
       ∙ reading-ends readValue n s (readValues n s at) (λ j. getD values j (pos 0)) i place before h
 
--- the array holds what was read, and 0 after it
-pub values-held : (values : List ℤ) (n : ℕ) → Front (pos 0) 8 values n → n ≤ 8 → values ≡ eight (take n values)
-unfolding eight
-values-held values n w h = front-end (pos 0) 8 values n w h
+-- where nothing is stored nothing changes, and a store below n leaves what stands from n on
+pub kept-same : (from until : ℕ) (values : List ℤ) → KeptValues from until values values
+kept-same from until values = record { front = refl; rest = refl }
+
+pub kept-put : (n : ℕ) {before : List ℤ} (values : List ℤ) (i : ℕ) (v : ℤ) → i < n → KeptValues 0 n before values → KeptValues 0 n before (set values i v)
+kept-put n values i v h w = record { front = refl; rest = drop-set-lt n values i v h ∙ w .rest }
 
 -- A switch byte is below a count, or 255
 switch-told : (count : ℕ) (s : List ℕ) (p : ℕ) → switchByte count s p ≡ passing (numbered count) 5 p (u8 s p)

@@ -3,8 +3,6 @@ pub mod certificate;
 pub mod ranges;
 pub mod run;
 
-use fields::Next;
-
 // How a proof of a certificate begins: its k, how many entries follow and the place after, or a refusal's number and place.
 pub enum HeadRead {
     Head(u32, u32, usize),
@@ -21,12 +19,6 @@ pub enum EntryRead {
 pub enum Signed {
     Value(i64, usize),
     Refused(u32, usize),
-}
-
-// The values of a state, 0 past the model's variables, and the place after them. A refusal leaves 0 everywhere.
-pub struct Values {
-    pub values: [i64; 8],
-    pub next: Next,
 }
 
 // A switch number for each component, 255 where it stays or is absent.
@@ -55,20 +47,8 @@ pub enum StepRead {
     Refused(u32, usize),
 }
 
-// A step that was read, with its new values.
-pub struct ReadStep {
-    pub read: StepRead,
-    pub values: [i64; 8],
-}
-
 // How a run begins: its q, how many steps follow, its location and the place after, or the number and the place of a refusal.
 pub enum OpeningRead {
     Opening(u32, u32, u32, usize),
     Refused(u32, usize),
-}
-
-// How a run begins, with its first values.
-pub struct ReadOpening {
-    pub read: OpeningRead,
-    pub values: [i64; 8],
 }

@@ -1,25 +1,22 @@
-// The run sheet's fields: how a run begins, and its steps. Values stand beside a step in an array of eight.
+// The run sheet's fields: how a run begins, and its steps. Values stand beside a step, in a slice that the caller lends: as many of its
+// first numbers as there are variables. A refusal leaves these free; the numbers after them stay as they are.
 use crate::OpeningRead;
-use crate::ReadOpening;
-use crate::ReadStep;
 use crate::Signed;
 use crate::Step;
 use crate::StepRead;
 use crate::Switches;
 use crate::SwitchesRead;
-use crate::Values;
 use crate::ranges::LEAST_VALUE;
 use crate::ranges::MOST_FACTOR;
 use crate::ranges::MOST_STEPS;
 use crate::ranges::MOST_VALUE;
+use farkas::words::signed_word;
 use fields::Field;
 use fields::Next;
 use fields::fields::byte_below;
 use fields::fields::byte_numbered;
 use fields::fields::byte_within;
 use fields::fields::half_within;
-use fields::fields::signed;
-use fields::fields::word;
 use fields::fields::word_within;
 use models::layout::BLOCK_LENGTH;
 use models::layout::COMPONENTS_AT;
@@ -31,49 +28,44 @@ ghost use mathlib.Core.List.{List, []};
 ghost use mathlib.Core.Path.{_≡_};
 ghost use Prim.Native.Nat.{ℕ, _≤_};
 ghost use lib.ListN.{length, take};
-ghost use Rattle.formats.specs.Reading as reading;
-ghost use Rattle.formats.specs.Locations.{locationCount};
-ghost use Rattle.models.specs.Index.{entry, componentsFrom, modelFrom, GoodIndex, componentsIn, indexLength, variablesIn};
-ghost use Rattle.formats.specs.RunSheet.{readValues, readFlow, readJump, readStep, readOpening};
+ghost use Rattle.models.specs.Index.{modelFrom, componentsIn, indexLength, variablesIn};
+ghost use Rattle.formats.specs.RunSheet.{readValues, readFlow, readJump, readStep};
 ghost use Rattle.fields.specs.Answers.{gotAs};
-ghost use Rattle.second_sheets.specs.RunAnswers.{readValue, gotSigned, heldValues, switchBytes, heldBytes, gotStep, heldWith, heldStep, openingAs, gotOpening, heldOpening, readOpeningFields};
+ghost use Rattle.second_sheets.specs.RunAnswers.{readValue, gotSigned, KeptValues, switchBytes, heldBytes, readWith, stepAs, stepIn, heldWith, heldStep, openingAs, openingIn, readOpeningFields, readOpeningOf};
 
 // A value of a state: four bytes, from −2^27 to 2^27.
 pub fn value(s: &[u8], at: usize) -> Signed
+    requires { ⌜ length (now s) ≤ 32768 ⌝ }
     ensures { λ r. ⌜ gotSigned r ≡ readValue (now (s .entry)) at ⌝ }
 {
-    match word(s, at) {
-        Field::Refused(number, place) => Signed::Refused(number, place),
-        Field::Value(number, next) => {
-            let value = signed(number);
-            if value < LEAST_VALUE {
-                return Signed::Refused(5, at);
-            }
-            if MOST_VALUE < value {
-                return Signed::Refused(5, at);
-            }
-            Signed::Value(value, next)
-        }
+    let length = s.len();
+    if length < 4 {
+        return Signed::Refused(4, at);
     }
+    if length - 4 < at {
+        return Signed::Refused(4, at);
+    }
+    let value = signed_word(s, at);
+    if value < LEAST_VALUE {
+        return Signed::Refused(5, at);
+    }
+    if MOST_VALUE < value {
+        return Signed::Refused(5, at);
+    }
+    Signed::Value(value, at + 4)
 }
 
 // The values of a state with n variables.
-pub fn values_at(s: &[u8], at: usize, n: usize) -> Values
-    requires { ⌜ n ≤ 8 ⌝ }
-    ensures { λ r. ⌜ gotAs (take n (r .values)) (r .next) ≡ readValues n (now (s .entry)) at ⌝ }
-    ensures { λ r. ⌜ r ≡ heldValues (readValues n (now (s .entry)) at) ⌝ }
+pub fn values_into(s: &[u8], at: usize, n: usize, values: &mut [i64]) -> Next
+    requires { ⌜ (length (now s) ≤ 32768) × (n ≤ length (now values)) ⌝ }
+    ensures { λ r. ⌜ gotAs (take n (now (values .exit))) r ≡ readValues n (now (s .entry)) at ⌝ }
+    ensures { λ _. ⌜ KeptValues 0 n (now (values .entry)) (now (values .exit)) ⌝ }
 {
-    let mut values: [i64; 8] = [0; 8];
     let mut place = at;
     let mut i: usize = 0;
     while i < n {
         match value(s, place) {
-            Signed::Refused(number, cut) => {
-                return Values {
-                    values: [0; 8],
-                    next: Next::Refused(number, cut),
-                };
-            }
+            Signed::Refused(number, cut) => return Next::Refused(number, cut),
             Signed::Value(v, next) => {
                 values[i] = v;
                 place = next;
@@ -81,10 +73,7 @@ pub fn values_at(s: &[u8], at: usize, n: usize) -> Values
         }
         i += 1;
     }
-    Values {
-        values,
-        next: Next::At(place),
-    }
+    Next::At(place)
 }
 
 // The switch bytes of a jump, one for each component of the index.
@@ -122,83 +111,74 @@ fn switches(index: &[u16], s: &[u8], at: usize) -> SwitchesRead
 }
 
 // A step with its new values, which are read here.
-fn with_values(step: Step, s: &[u8], at: usize, n: usize) -> ReadStep
-    requires { ⌜ n ≤ 8 ⌝ }
+fn with_values(step: Step, s: &[u8], at: usize, n: usize, values: &mut [i64]) -> StepRead
+    requires { ⌜ (length (now s) ≤ 32768) × (n ≤ length (now values)) ⌝ }
+    ensures { λ r. ⌜ ((c : ℕ) → stepAs c (take n (now (values .exit))) r ≡ readWith n c step (now (s .entry)) at) ⌝ }
     ensures { λ r. ⌜ r ≡ heldWith step (readValues n (now (s .entry)) at) ⌝ }
+    ensures { λ _. ⌜ KeptValues 0 n (now (values .entry)) (now (values .exit)) ⌝ }
 {
-    let read = values_at(s, at, n);
-    let values = read.values;
-    let next = read.next;
-    match next {
-        Next::Refused(number, place) => ReadStep {
-            read: StepRead::Refused(number, place),
-            values,
-        },
-        Next::At(after) => ReadStep {
-            read: StepRead::Good(step, after),
-            values,
-        },
-    }
-}
-
-// A step that is refused.
-fn refused_step(number: u32, place: usize) -> ReadStep
-    ensures { λ r. ⌜ r ≡ heldStep (reading.refused number place) ⌝ }
-{
-    ReadStep {
-        read: StepRead::Refused(number, place),
-        values: [0; 8],
+    match values_into(s, at, n, values) {
+        Next::Refused(number, place) => StepRead::Refused(number, place),
+        Next::At(after) => StepRead::Good(step, after),
     }
 }
 
 // A flow: its time, then its new values. Of a model only the index counts.
-fn flow_step(index: &[u16], s: &[u8], at: usize) -> ReadStep
-    requires { ⌜ (indexLength ≤ length (now index)) × (variablesIn (now index) ≤ 8) ⌝ }
+fn flow_step(index: &[u16], s: &[u8], at: usize, values: &mut [i64]) -> StepRead
+    requires { ⌜ (indexLength ≤ length (now index)) × ((length (now s) ≤ 32768) × (variablesIn (now index) ≤ length (now values))) ⌝ }
+    ensures { λ r. ⌜ ((model : List ℕ) → stepIn (now (index .entry)) (now (values .exit)) r ≡ readFlow (modelFrom model (now (index .entry))) (now (s .entry)) at) ⌝ }
     ensures { λ r. ⌜ ((model : List ℕ) → r ≡ heldStep (readFlow (modelFrom model (now (index .entry))) (now (s .entry)) at)) ⌝ }
+    ensures { λ _. ⌜ KeptValues 0 (variablesIn (now (index .entry))) (now (values .entry)) (now (values .exit)) ⌝ }
 {
     match word_within(s, at, 0, MOST_FACTOR) {
-        Field::Refused(number, place) => refused_step(number, place),
+        Field::Refused(number, place) => StepRead::Refused(number, place),
         Field::Value(time, next) => with_values(
             Step::Flow(time),
             s,
             next,
             index[VARIABLES_AT] as usize,
+            values,
         ),
     }
 }
 
 // A jump: its event, then its switch bytes, then its new values. Of a model only the index counts.
-fn jump_step(index: &[u16], s: &[u8], at: usize) -> ReadStep
-    requires { ⌜ (indexLength ≤ length (now index)) × ((variablesIn (now index) ≤ 8) × (componentsIn (now index) ≤ 4)) ⌝ }
+fn jump_step(index: &[u16], s: &[u8], at: usize, values: &mut [i64]) -> StepRead
+    requires { ⌜ (indexLength ≤ length (now index)) × (componentsIn (now index) ≤ 4) ⌝ }
+    requires { ⌜ (length (now s) ≤ 32768) × (variablesIn (now index) ≤ length (now values)) ⌝ }
+    ensures { λ r. ⌜ ((model : List ℕ) → stepIn (now (index .entry)) (now (values .exit)) r ≡ readJump (modelFrom model (now (index .entry))) (now (s .entry)) at) ⌝ }
     ensures { λ r. ⌜ ((model : List ℕ) → r ≡ heldStep (readJump (modelFrom model (now (index .entry))) (now (s .entry)) at)) ⌝ }
+    ensures { λ _. ⌜ KeptValues 0 (variablesIn (now (index .entry))) (now (values .entry)) (now (values .exit)) ⌝ }
 {
     match byte_within(s, at, 0, 15) {
-        Field::Refused(number, place) => refused_step(number, place),
+        Field::Refused(number, place) => StepRead::Refused(number, place),
         Field::Value(event, next) => match switches(index, s, next) {
-            SwitchesRead::Refused(number, place) => refused_step(number, place),
+            SwitchesRead::Refused(number, place) => StepRead::Refused(number, place),
             SwitchesRead::Good(by, after) => with_values(
                 Step::Jump(event, by),
                 s,
                 after,
                 index[VARIABLES_AT] as usize,
+                values,
             ),
         },
     }
 }
 
-// A step of a run of the model that has this index: its kind, then a flow or a jump.
-pub fn step(model: &[u8], index: &Index, s: &[u8], at: usize) -> ReadStep
-    requires { ⌜ GoodIndex (now model) (now index) ⌝ }
-    ensures { λ r. ⌜ gotStep (variablesIn (now (index .entry))) (componentsIn (now (index .entry))) r ≡ readStep (modelFrom (now (model .entry)) (now (index .entry))) (now (s .entry)) at ⌝ }
-    ensures { λ r. ⌜ r ≡ heldStep (readStep (modelFrom (now (model .entry)) (now (index .entry))) (now (s .entry)) at) ⌝ }
+// A step of a run of a model that has this index: its kind, then a flow or a jump. Of a model only the index counts.
+pub fn step(index: &Index, s: &[u8], at: usize, values: &mut [i64]) -> StepRead
+    requires { ⌜ (componentsIn (now index) ≤ 4) × ((length (now s) ≤ 32768) × (variablesIn (now index) ≤ length (now values))) ⌝ }
+    ensures { λ r. ⌜ ((model : List ℕ) → stepIn (now (index .entry)) (now (values .exit)) r ≡ readStep (modelFrom model (now (index .entry))) (now (s .entry)) at) ⌝ }
+    ensures { λ r. ⌜ ((model : List ℕ) → r ≡ heldStep (readStep (modelFrom model (now (index .entry))) (now (s .entry)) at)) ⌝ }
+    ensures { λ _. ⌜ KeptValues 0 (variablesIn (now (index .entry))) (now (values .entry)) (now (values .exit)) ⌝ }
 {
     match byte_within(s, at, 0, 1) {
-        Field::Refused(number, place) => refused_step(number, place),
+        Field::Refused(number, place) => StepRead::Refused(number, place),
         Field::Value(kind, next) => {
             if kind == 0 {
-                flow_step(index, s, next)
+                flow_step(index, s, next, values)
             } else {
-                jump_step(index, s, next)
+                jump_step(index, s, next, values)
             }
         }
     }
@@ -220,32 +200,28 @@ fn opening_fields(s: &[u8], at: usize, locations: u32) -> OpeningRead
     }
 }
 
-// How a run of the model that has this index begins: its fields, then its first values.
-pub fn opening(model: &[u8], index: &Index, locations: u32, s: &[u8], at: usize) -> ReadOpening
-    requires { ⌜ GoodIndex (now model) (now index) ⌝ }
-    requires { ⌜ locations ≡ locationCount (componentsFrom (now model) (now index)) ⌝ }
-    ensures { λ r. ⌜ gotOpening (variablesIn (now (index .entry))) at r ≡ readOpening (modelFrom (now (model .entry)) (now (index .entry))) (now (s .entry)) at ⌝ }
-    ensures { λ r. ⌜ r ≡ heldOpening (readOpening (modelFrom (now (model .entry)) (now (index .entry))) (now (s .entry)) at) ⌝ }
+// How a run begins of a model that has this index and so many locations: its fields, then its first values.
+pub fn opening(
+    index: &Index,
+    locations: u32,
+    s: &[u8],
+    at: usize,
+    values: &mut [i64],
+) -> OpeningRead
+    requires { ⌜ (variablesIn (now index) ≤ 8) × ((length (now s) ≤ 32768) × (variablesIn (now index) ≤ length (now values))) ⌝ }
+    ensures { λ r. ⌜ openingIn (now (index .entry)) (now (values .exit)) at r ≡ readOpeningOf locations (variablesIn (now (index .entry))) (now (s .entry)) at ⌝ }
+    ensures { λ _. ⌜ KeptValues 0 (variablesIn (now (index .entry))) (now (values .entry)) (now (values .exit)) ⌝ }
 {
     match opening_fields(s, at, locations) {
-        OpeningRead::Refused(number, place) => ReadOpening {
-            read: OpeningRead::Refused(number, place),
-            values: [0; 8],
+        OpeningRead::Refused(number, place) => OpeningRead::Refused(number, place),
+        OpeningRead::Opening(q, steps, location, first) => match values_into(
+            s,
+            first,
+            index[VARIABLES_AT] as usize,
+            values,
+        ) {
+            Next::Refused(number, place) => OpeningRead::Refused(number, place),
+            Next::At(after) => OpeningRead::Opening(q, steps, location, after),
         },
-        OpeningRead::Opening(q, steps, location, first) => {
-            let read = values_at(s, first, index[VARIABLES_AT] as usize);
-            let values = read.values;
-            let next = read.next;
-            match next {
-                Next::Refused(number, place) => ReadOpening {
-                    read: OpeningRead::Refused(number, place),
-                    values,
-                },
-                Next::At(after) => ReadOpening {
-                    read: OpeningRead::Opening(q, steps, location, after),
-                    values,
-                },
-            }
-        }
     }
 }

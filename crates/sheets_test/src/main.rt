@@ -88,10 +88,12 @@ fn try_opening(model: &[u8], index: &Index, s: &[u8])
     match header(s, 3) {
         Field::Refused(number, place) => answer(number, place),
         Field::Value(_, at) => {
+            if s.len() > 32768 {
+                return;
+            }
             let locations = location_count(model, index);
-            let read = opening(model, index, locations, s, at);
-            let seen = read.read;
-            match seen {
+            let mut values = [0i64; 8];
+            match opening(index, locations, s, at, &mut values) {
                 OpeningRead::Opening(_, _, _, next) => answer(0, next),
                 OpeningRead::Refused(number, place) => answer(number, place),
             }
@@ -103,9 +105,11 @@ fn try_opening(model: &[u8], index: &Index, s: &[u8])
 fn try_step(model: &[u8], index: &Index, s: &[u8], at: usize)
     requires { ⌜ GoodIndex (now model) (now index) ⌝ }
 {
-    let read = step(model, index, s, at);
-    let seen = read.read;
-    match seen {
+    if s.len() > 32768 {
+        return;
+    }
+    let mut values = [0i64; 8];
+    match step(index, s, at, &mut values) {
         StepRead::Good(_, next) => answer(0, next),
         StepRead::Refused(number, place) => answer(number, place),
     }

@@ -1,31 +1,36 @@
--- Joint switches by an index: a component's part, loops over the components, and where a joint switch leads. Assumes nothing.
-use mathlib.Core.Path.{_≡_, refl, sym, ap, _∙_, subst, subst₂, ap₂}
+-- Joint switches by an index: a component's part, loops over the components, and the modes that a step leads to. Assumes nothing.
+use mathlib.Core.Path.{_≡_, refl, sym, ap, ap₂, _∙_, subst}
 use mathlib.Core.Bool.{Bool, true, false, cond, not, _&&_}
-use mathlib.Core.List.{List, [], _∷_}
+use mathlib.Core.List.{List, [], _∷_, _++_}
 use Prim.Native.Nat.{ℕ, zero, suc, _+_, _≤_, _<_}
+use native.Mathlib.Nat.{zero-add}
+use native.Mathlib.Numerals.{add-one}
 use native.Mathlib.Omega.{arith}
 use lib.Count.{ones}
 use lib.Dec.{eqb, T}
 use lib.IntN.{ℤ}
-use lib.ListN.{length, getD, drop-of-length-le}
+use lib.ListN.{length, getD, take, drop, set}
+use lib.Seq.{paste, paste-zero, paste-suc, length-take-le, take-length, getD-take}
 use borrow.Author.Tests.{lt-ltb, le-ltb, eq-eqb, ne-eqb}
+use Rattle.second_sheets.specs.declared.Switches.{Switches}
 use Rattle.second_sheets.specs.declared.Step as coded
 use Rattle.second_sheets.specs.declared.Step.the-variants as step
 use Rattle.formats.specs.Model.{Component, Model, hasEvent, Switch}
-use Rattle.formats.specs.Locations.{locationCount, modesAt, locationOf}
+use Rattle.formats.specs.Locations.{modesAt, locationOf}
 use Rattle.formats.specs.Joint.{stays, switchOf, leaves, moves, scopeMask, moverCount, partIn, membersMove, allStay, oneMoves, isJoint, modesAfter, bit}
 use Rattle.models.specs.Index.{entry, componentsFrom, modelFrom, GoodIndex}
 use Rattle.models.specs.Counts.{componentAt, perComponent, KnownSwitches}
-use Rattle.formats.specs.RunSheet.{Step, jump}
-use Rattle.second_sheets.specs.RunAnswers.{stepOf}
-use Rattle.formats.proofs.Locations.{modes-at, location-of}
-use Rattle.formats.proofs.Joint.{Known, no-numbers, number-and, modes-after}
-use Rattle.models.proofs.GoodIndexLaws.{components-drop, components-end, switch-length, good-components}
+use Rattle.formats.specs.RunSheet.{Step}
+use Rattle.second_sheets.specs.RunAnswers.{switchesIn, stepOf}
+use Rattle.formats.proofs.Locations.{Modes, location-of, modes-of}
+use Rattle.formats.proofs.Joint.{modes-after}
+use Rattle.models.proofs.GoodIndexLaws.{components-length, component-at, components-drop, components-end, good-components}
 use Rattle.joint_switches.proofs.JointLoops.{componentsOn, numbersOn, per-component-length, per-component-drop}
 use Rattle.rules.specs.Runs.{State, admissible, jumpRows, stayingKept, jumpRule, after, ruleMet, stepAllowed, movers}
-use Rattle.papers.specs.Standing.{Stands}
-use Rattle.steps.specs.Held.{perVariable, stateOf}
-use Rattle.papers.proofs.StandingLaws.{have-modes}
+use Rattle.papers.specs.Standing.{KnownModes, Stands}
+use Rattle.steps.specs.Held.{stateOf, stateIn, valuesAfter, KnownStep, stepWith, modesBy, modesNext}
+use Rattle.papers.proofs.StandingLaws.{have-modes, stands-at}
+use Rattle.steps.proofs.StandLaws.{numbers-end, known-all, modes-all, stands-in}
 use Rattle.rules.proofs.ListFacts.{first-fails, first-passes}
 use Rattle.rules.proofs.Movers.{moved-together}
 use Rattle.farkas.specs.Lists.{All, none, more}
@@ -47,10 +52,6 @@ part-moves c mode e i p = ap (λ b. cond b (moves c mode e i) (eqb i stays)) (sy
 pub part-stays : (c : Component) (mode e i : ℕ) → false ≡ hasEvent (c .alphabet) e → partIn c mode e i ≡ eqb i stays
 unfolding partIn
 part-stays c mode e i p = ap (λ b. cond b (moves c mode e i) (eqb i stays)) (sym p)
-
--- numbers of an array that stand for components, past the last
-numbers-end : (index numbers : List ℕ) → entry index 1 ≤ length numbers → numbersOn index numbers (entry index 1) ≡ []
-numbers-end index numbers long = drop-of-length-le (perComponent index numbers) {i = entry index 1} (omega (arith, per-component-length index numbers long))
 
 -- what the tests make of the components from one on
 abbrev pub membersOn : List ℕ → List ℕ → List ℕ → ℕ → List ℕ → ℕ → Bool
@@ -188,65 +189,122 @@ module _ (s index switches : List ℕ) (wide : entry index 1 ≤ length switches
   unfolding movers
   movers-end k h = ap (λ (components : List Component). length (movers components (numbersOn index switches k))) (ap (λ (i : ℕ). componentsOn s index i) h ∙ components-end s index)
 
--- Known switches lead from a location to a location
-module _ (s index switches : List ℕ) (wide : entry index 1 ≤ length switches) (known : KnownSwitches index switches) where
-  known-from : (n k : ℕ) → k + n ≡ entry index 1 → Known (componentsOn s index k) (numbersOn index switches k)
-  known-from zero k h =
-      let e : entry index 1 ≡ k = omega arith in
-      subst₂ Known (sym (components-end s index) ∙ ap (λ (i : ℕ). componentsOn s index i) e) (sym (numbers-end index switches wide) ∙ ap (λ (i : ℕ). numbersOn index switches i) e) no-numbers
-  known-from (suc n) k h =
-      let l : k < entry index 1 = omega arith in
-      subst₂ Known (sym (components-drop s index k l)) (sym (per-component-drop index switches wide k l))
-      (number-and (λ q. omega (arith, known .known k l q, switch-length s index k)) (known-from n (k + 1) (omega arith)))
+-- The modes after a jump, component by component
+after-length : (components : List Component) (modes switches : List ℕ) → length modes ≡ length components → length switches ≡ length components → length (modesAfter components modes switches) ≡ length components
+unfolding modesAfter
+after-length [] modes switches h k = refl
+after-length (c ∷ components) [] switches h k = absurd (omega arith)
+after-length (c ∷ components) (mode ∷ modes) [] h k = absurd (omega arith)
+after-length (c ∷ components) (mode ∷ modes) (i ∷ switches) h k = ap suc (after-length components modes switches (omega arith) (omega arith))
 
-  pub known-all : Known (componentsFrom s index) (perComponent index switches)
-  known-all = known-from (entry index 1) 0 (omega arith)
+after-item : (components : List Component) (modes switches : List ℕ) (k : ℕ) (d : Component) → k < length components → k < length modes → k < length switches → getD (modesAfter components modes switches) k 0 ≡ cond (eqb (getD switches k 0) stays) (getD modes k 0) (switchOf (getD components k d) (getD switches k 0) .target)
+unfolding modesAfter
+after-item [] modes switches k d h l m = absurd (omega arith)
+after-item (c ∷ components) [] switches k d h l m = absurd (omega arith)
+after-item (c ∷ components) (mode ∷ modes) [] k d h l m = absurd (omega arith)
+after-item (c ∷ components) (mode ∷ modes) (i ∷ switches) zero d h l m = refl
+after-item (c ∷ components) (mode ∷ modes) (i ∷ switches) (suc k) d h l m = after-item components modes switches k d (omega arith) (omega arith) (omega arith)
 
-module _ {model index : List ℕ} (g : GoodIndex model index) (location : ℕ) (modes : List ℕ) (stands : Stands model index location modes) (switches : List ℕ) where
-  pub target-located : (r : ℕ) → entry index 1 ≤ length switches → KnownSwitches index switches → r ≡ locationOf (componentsFrom model index) (modesAfter (componentsFrom model index) (perComponent index modes) (perComponent index switches)) → r < locationCount (componentsFrom model index)
-  target-located r wide known e =
+-- they are put one after the other in the place of those before: so many of them
+abbrev landed : List ℕ → List ℕ → List ℕ → List ℕ → List ℕ
+landed model index modes switches = modesAfter (componentsFrom model index) (perComponent index modes) (perComponent index switches)
+
+abbrev pub Landed : List ℕ → List ℕ → List ℕ → List ℕ → ℕ → List ℕ
+Landed model index modes switches k = paste modes 0 (modesAfter (componentsFrom model index) (perComponent index modes) (perComponent index switches)) k
+
+module _ (model index modes switches : List ℕ) (long : entry index 1 ≤ length modes) (wide : entry index 1 ≤ length switches) where
+  landed-length : length (landed model index modes switches) ≡ entry index 1
+  landed-length =
+      let all = components-length model index in
+      after-length (componentsFrom model index) (perComponent index modes) (perComponent index switches) (per-component-length index modes long ∙ sym all) (per-component-length index switches wide ∙ sym all) ∙ all
+
+  landed-at : (k v : ℕ) → k < entry index 1 → v ≡ cond (eqb (getD switches k 0) stays) (getD modes k 0) (switchOf (componentAt model index k) (getD switches k 0) .target) → v ≡ getD (landed model index modes switches) k 0
+  unfolding perComponent
+  landed-at k v h e =
+      let c = entry index 1 in
       let components = componentsFrom model index in
-      rw (e ∙ ap (λ ms. locationOf components (modesAfter components ms (perComponent index switches))) (stands .here))
-      (location-of (modes-after (entry index 0) (good-components g) (modes-at (have-modes (good-components g)) location (stands .below)) (known-all model index switches wide known)))
+      let d = componentAt model index k in
+      let of : Component → ℕ → ℕ → ℕ = λ x mode i. cond (eqb i stays) mode (switchOf x i .target) in
+      e
+      ∙ ap (λ (x : Component). of x (getD modes k 0) (getD switches k 0)) (sym (component-at model index k d h))
+      ∙ ap₂ (λ (mode i : ℕ). of (getD components k d) mode i) (sym (getD-take c modes k 0 h)) (sym (getD-take c switches k 0 h))
+      ∙ sym (after-item components (take c modes) (take c switches) k d (omega (arith, components-length model index)) (omega (arith, length-take-le c modes long)) (omega (arith, length-take-le c switches wide)))
 
-  -- where a jump leads
-  pub jump-leads : (r e : ℕ) → r ≡ locationOf (componentsFrom model index) (modesAfter (componentsFrom model index) (perComponent index modes) (perComponent index switches)) → r ≡ after (modelFrom model index) (stateOf index location []) (jump e (perComponent index switches) []) .location
-  unfolding stateOf after modelFrom
-  jump-leads r e p =
+  pub landed-none : modes ≡ Landed model index modes switches 0
+  landed-none = paste-zero modes 0 (landed model index modes switches)
+
+  pub landed-more : (k v : ℕ) → k < entry index 1 → v ≡ cond (eqb (getD switches k 0) stays) (getD modes k 0) (switchOf (componentAt model index k) (getD switches k 0) .target) → set (Landed model index modes switches k) k v ≡ Landed model index modes switches (k + 1)
+  landed-more k v h e =
+      ap (set (Landed model index modes switches k) k) (landed-at k v h e)
+      ∙ ap (λ (i : ℕ). set (Landed model index modes switches k) i (getD (landed model index modes switches) k 0)) (sym (zero-add k))
+      ∙ paste-suc modes 0 (landed model index modes switches) k 0 (omega arith) (omega (arith, landed-length))
+      ∙ ap (Landed model index modes switches) (sym (add-one k))
+
+  pub landed-all : (k : ℕ) → k ≡ entry index 1 → Landed model index modes switches k ≡ modesBy model index modes switches
+  unfolding modesBy
+  landed-all k e =
+      ap (Landed model index modes switches) e
+      ∙ ap (λ xs. xs ++ drop (0 + entry index 1) modes) (ap (λ (i : ℕ). take i (landed model index modes switches)) (sym landed-length) ∙ take-length (landed model index modes switches))
+      ∙ ap (λ (i : ℕ). (landed model index modes switches) ++ drop i modes) (zero-add (entry index 1))
+
+-- Known modes lead to known modes, by known switches
+module _ {model index : List ℕ} (g : GoodIndex model index) (modes : List ℕ) (known : KnownModes index modes) (long : entry index 1 ≤ length modes) where
+  module _ (switches : List ℕ) (wide : entry index 1 ≤ length switches) (moved : KnownSwitches index switches) where
+    abbrev target : ℕ
+    target = locationOf (componentsFrom model index) (modesAfter (componentsFrom model index) (perComponent index modes) (perComponent index switches))
+
+    jump-modes : Modes (componentsFrom model index) (modesAfter (componentsFrom model index) (perComponent index modes) (perComponent index switches))
+    jump-modes = modes-after (entry index 0) (good-components g) (modes-all model index modes long known) (known-all model index switches wide moved)
+
+    jump-stands : Stands model index target (modesBy model index modes switches)
+    unfolding modesBy
+    jump-stands =
+        stands-at model index target (modesBy model index modes switches) (drop (entry index 1) modes) g (location-of jump-modes)
+        (ap (λ ms. ms ++ drop (entry index 1) modes) (sym (modes-of (have-modes (good-components g)) jump-modes)))
+
+    jump-lands : locationOf (componentsFrom model index) (perComponent index (modesBy model index modes switches)) ≡ target
+    jump-lands = ap (locationOf (componentsFrom model index)) (jump-stands .here ∙ modes-of (have-modes (good-components g)) jump-modes)
+
+  taken : (w : Switches) → perComponent index (switchesIn w) ≡ take (entry index 1) (switchesIn w)
+  unfolding perComponent
+  taken w = refl
+
+  four : (w : Switches) → entry index 1 ≤ length (switchesIn w)
+  unfolding switchesIn
+  four w = omega (arith, g .few)
+
+  pub next-known : (by : coded.Step) → KnownStep index by → KnownModes index (modesNext model index modes by)
+  unfolding modesNext
+  next-known (step.Flow δ) k = known
+  next-known (step.Jump e w) k = jump-stands (switchesIn w) (four w) (k .switches e w refl) .known
+
+  -- the state that a step leads to
+  pub step-leads : (by : coded.Step) → KnownStep index by → (state : List ℤ) → stateIn model index (modesNext model index modes by) (drop (entry index 0) state) ≡ after (modelFrom model index) (stateIn model index modes state) (stepWith index by state)
+  unfolding modesNext stateOf after stepOf modelFrom
+  step-leads (step.Flow δ) k state = refl
+  step-leads (step.Jump e w) k state =
       let components = componentsFrom model index in
-      p ∙ ap (λ ms. locationOf components (modesAfter components ms (perComponent index switches))) (stands .here)
+      let from : List ℕ → List ℕ → ℕ = λ ms is. locationOf components (modesAfter components ms is) in
+      ap (λ (l : ℕ). record { location = l; values = valuesAfter index state })
+      (jump-lands (switchesIn w) (four w) (k .switches e w refl) ∙ ap₂ from (stands-in modes g known long .here) (taken w))
 
-  -- the rule of a jump, by the first of its parts that fails
-  module _ (q e : ℕ) (values next : List ℤ) where
-    joint-at : isJoint (componentsFrom model index) (perComponent index modes) e (perComponent index switches) ≡ isJoint (componentsFrom model index) (modesAt (componentsFrom model index) location) e (perComponent index switches)
-    joint-at = ap (λ ms. isJoint (componentsFrom model index) ms e (perComponent index switches)) (stands .here)
+-- the rule of a jump, by the first of its parts that fails
+module _ {model index : List ℕ} (location : ℕ) (modes : List ℕ) (stands : Stands model index location modes) (switches : List ℕ) (q e : ℕ) (state : List ℤ) where
+  joint-at : isJoint (componentsFrom model index) (perComponent index modes) e (perComponent index switches) ≡ isJoint (componentsFrom model index) (modesAt (componentsFrom model index) location) e (perComponent index switches)
+  joint-at = ap (λ ms. isJoint (componentsFrom model index) ms e (perComponent index switches)) (stands .here)
 
-    pub rule-joint : false ≡ isJoint (componentsFrom model index) (perComponent index modes) e (perComponent index switches) → false ≡ jumpRule (modelFrom model index) q (stateOf index location values) e (perComponent index switches) (perVariable index next)
+  pub rule-joint : false ≡ isJoint (componentsFrom model index) (perComponent index modes) e (perComponent index switches) → false ≡ jumpRule (modelFrom model index) q (stateOf index location state) e (perComponent index switches) (valuesAfter index state)
+  unfolding jumpRule stateOf modelFrom
+  rule-joint p = first-fails _ _ (p ∙ joint-at)
+
+  module _ (joint : true ≡ isJoint (componentsFrom model index) (perComponent index modes) e (perComponent index switches)) where
+    pub rule-rows : false ≡ jumpRows (modelFrom model index) q (stateOf index location state) (perComponent index switches) (valuesAfter index state) → false ≡ jumpRule (modelFrom model index) q (stateOf index location state) e (perComponent index switches) (valuesAfter index state)
     unfolding jumpRule stateOf modelFrom
-    rule-joint p = first-fails _ _ (p ∙ joint-at)
+    rule-rows p = first-passes _ _ (joint ∙ joint-at) (first-fails _ _ p)
 
-    module _ (joint : true ≡ isJoint (componentsFrom model index) (perComponent index modes) e (perComponent index switches)) where
-      pub rule-rows : false ≡ jumpRows (modelFrom model index) q (stateOf index location values) (perComponent index switches) (perVariable index next) → false ≡ jumpRule (modelFrom model index) q (stateOf index location values) e (perComponent index switches) (perVariable index next)
-      unfolding jumpRule stateOf modelFrom
-      rule-rows p = first-passes _ _ (joint ∙ joint-at) (first-fails _ _ p)
-
-      pub rule-kept : (r : Bool) → true ≡ jumpRows (modelFrom model index) q (stateOf index location values) (perComponent index switches) (perVariable index next) → r ≡ stayingKept (modelFrom model index) (stateOf index location values) (perComponent index switches) (perVariable index next) → r ≡ jumpRule (modelFrom model index) q (stateOf index location values) e (perComponent index switches) (perVariable index next)
-      unfolding jumpRule stateOf modelFrom
-      rule-kept r p k = first-passes _ _ (joint ∙ joint-at) (first-passes _ _ p k)
-
--- the state after a step, by its location, for which no values count
-pub step-after : (m : Model) (index : List ℕ) (location r c : ℕ) (by : coded.Step) (values next : List ℤ) → r ≡ after m (stateOf index location []) (stepOf c by []) .location → stateOf index r next ≡ after m (stateOf index location values) (stepOf c by (perVariable index next))
-unfolding stateOf after stepOf
-step-after m index location r c (step.Flow δ) values next p = ap (λ (l : ℕ). record { location = l; values = perVariable index next }) p
-step-after m index location r c (step.Jump e w) values next p = ap (λ (l : ℕ). record { location = l; values = perVariable index next }) p
-
--- a flow keeps the location, so its modes
-pub flow-stays : {model index : List ℕ} (location target c δ : ℕ) (modes : List ℕ) (by : coded.Step) → by ≡ step.Flow δ → target ≡ after (modelFrom model index) (stateOf index location []) (stepOf c by []) .location → Stands model index location modes → Stands model index target modes
-unfolding stateOf after stepOf
-flow-stays {model} {index} location target c δ modes by e p stands =
-    let m = modelFrom model index in
-    let same : target ≡ location = p ∙ ap (λ (w : coded.Step). after m (stateOf index location []) (stepOf c w []) .location) e in
-    subst (λ (l : ℕ). Stands model index l modes) (sym same) stands
+    pub rule-kept : (r : Bool) → true ≡ jumpRows (modelFrom model index) q (stateOf index location state) (perComponent index switches) (valuesAfter index state) → r ≡ stayingKept (modelFrom model index) (stateOf index location state) (perComponent index switches) (valuesAfter index state) → r ≡ jumpRule (modelFrom model index) q (stateOf index location state) e (perComponent index switches) (valuesAfter index state)
+    unfolding jumpRule stateOf modelFrom
+    rule-kept r p k = first-passes _ _ (joint ∙ joint-at) (first-passes _ _ p k)
 
 -- a step, by the state that it leads to and its rule
 module _ (m : Model) (q : ℕ) (s : State) (t : Step) (next : State) (leads : next ≡ after m s t) where

@@ -1,32 +1,31 @@
-// Steps of a run: joint switches, the rule of a jump, whether a step is allowed, and the location that it leads to.
-use crate::values::admissible;
+// Steps of a run: joint switches, the rule of a jump, whether a step is allowed, and the modes that it leads to.
+use crate::rows::modes_hold;
+use crate::rows::number_at;
 use crate::values::flow_rule;
 use crate::values::jump_rows;
 use crate::values::staying_kept;
 use joint_switches::joints::bit_of;
 use joint_switches::joints::in_scope;
 use joint_switches::joints::leaves_by;
-use joint_switches::joints::modes_at;
+use joint_switches::joints::mode_after;
 use joint_switches::joints::scope_mask;
-use joint_switches::joints::target_of;
 use models::layout::BLOCK_LENGTH;
 use models::layout::COMPONENTS_AT;
 use models::layout::FIRST_BLOCK;
+use models::layout::INVARIANT_AT;
 use models::layout::Index;
 use models::layout::SWITCH_COUNT_AT;
+use models::layout::VARIABLES_AT;
 use second_sheets::Step;
 ghost use mathlib.Core.Path.{_≡_};
-ghost use mathlib.Core.List.{[]};
-ghost use Prim.Native.Nat.{_^_, _≤_, _<_};
+ghost use Prim.Native.Nat.{_*_, _^_, _≤_, _<_};
 ghost use lib.ListN.{drop, length};
-ghost use Rattle.formats.specs.Locations.{locationCount};
 ghost use Rattle.formats.specs.Joint.{moves, partIn, membersMove, allStay, oneMoves, isJoint};
-ghost use Rattle.models.specs.Index.{entry, componentsFrom, modelFrom, GoodIndex, componentsIn};
+ghost use Rattle.models.specs.Index.{componentsFrom, modelFrom, GoodIndex, componentsIn, variablesIn};
 ghost use Rattle.models.specs.Counts.{componentAt, perComponent, KnownSwitches};
-ghost use Rattle.second_sheets.specs.RunAnswers.{stepOf};
+ghost use Rattle.second_sheets.specs.RunAnswers.{KeptValues};
 ghost use Rattle.rules.specs.Runs as runs;
-ghost use Rattle.papers.specs.Standing.{Stands};
-ghost use Rattle.steps.specs.Held.{perVariable, stateOf, SmallValues, KnownStep, stepWith, modesNext};
+ghost use Rattle.steps.specs.Held.{Located, SmallValues, SmallState, KnownStep, stateIn, valuesAfter, stepWith, modesBy, modesNext};
 
 // Whether a component moves by this number: that of one of its switches, which has this label and leaves this mode.
 fn moves_by(model: &[u8], index: &Index, k: usize, mode: u8, e: u32, i: u8) -> bool
@@ -144,118 +143,92 @@ pub fn is_joint(model: &[u8], index: &Index, modes: [u8; 4], e: u32, switches: [
 pub fn jump_rule(
     model: &[u8],
     index: &Index,
-    location: u32,
     modes: [u8; 4],
     q: u32,
     e: u32,
     switches: [u8; 4],
-    values: [i64; 8],
-    next: [i64; 8],
+    state: &[i64],
 ) -> bool
-    requires { ⌜ GoodIndex (now model) (now index) ⌝ }
-    requires { ⌜ KnownSwitches (now index) switches ⌝ }
-    requires { ⌜ Stands (now model) (now index) location modes × ((e ≤ 15) × ((q < 2 ^ 24) × (SmallValues values × SmallValues next))) ⌝ }
-    ensures { λ r. ⌜ r ≡ runs.jumpRule (modelFrom (now (model .entry)) (now (index .entry))) q (stateOf (now (index .entry)) location values) e (perComponent (now (index .entry)) switches) (perVariable (now (index .entry)) next) ⌝ }
+    requires { ⌜ Located (now model) (now index) modes ⌝ }
+    requires { ⌜ KnownSwitches (now index) switches × (e ≤ 15) ⌝ }
+    requires { ⌜ SmallValues (2 * variablesIn (now index)) (now state) × (q < 2 ^ 24) ⌝ }
+    ensures { λ r. ⌜ r ≡ runs.jumpRule (modelFrom (now (model .entry)) (now (index .entry))) q (stateIn (now (model .entry)) (now (index .entry)) modes (now (state .entry))) e (perComponent (now (index .entry)) switches) (valuesAfter (now (index .entry)) (now (state .entry))) ⌝ }
 {
     if !is_joint(model, index, modes, e, switches) {
         return false;
     }
-    if !jump_rows(model, index, location, q, switches, values, next) {
+    if !jump_rows(model, index, q, switches, state) {
         return false;
     }
-    staying_kept(model, index, location, switches, values, next)
+    staying_kept(model, index, switches, state)
 }
 
-// Whether a step meets its rule.
+// Whether a step meets its rule. The numbers behind the values after are free then.
 fn rule_met(
     model: &[u8],
     index: &Index,
-    location: u32,
     modes: [u8; 4],
     q: u32,
-    values: [i64; 8],
     by: Step,
-    next: [i64; 8],
+    state: &mut [i64],
 ) -> bool
-    requires { ⌜ GoodIndex (now model) (now index) ⌝ }
-    requires { ⌜ KnownStep (now index) by ⌝ }
-    requires { ⌜ Stands (now model) (now index) location modes × ((q < 2 ^ 24) × (SmallValues values × SmallValues next)) ⌝ }
-    ensures { λ r. ⌜ r ≡ runs.ruleMet (modelFrom (now (model .entry)) (now (index .entry))) q (stateOf (now (index .entry)) location values) (stepWith (now (index .entry)) by next) ⌝ }
+    requires { ⌜ Located (now model) (now index) modes × KnownStep (now index) by ⌝ }
+    requires { ⌜ SmallState (now index) (now state) × (q < 2 ^ 24) ⌝ }
+    ensures { λ r. ⌜ r ≡ runs.ruleMet (modelFrom (now (model .entry)) (now (index .entry))) q (stateIn (now (model .entry)) (now (index .entry)) modes (now (state .entry))) (stepWith (now (index .entry)) by (now (state .entry))) ⌝ }
+    ensures { λ _. ⌜ KeptValues (2 * variablesIn (now (index .entry))) (3 * variablesIn (now (index .entry))) (now (state .entry)) (now (state .exit)) ⌝ }
 {
     match by {
-        Step::Flow(time) => flow_rule(model, index, location, modes, time, values, next),
-        Step::Jump(e, w) => jump_rule(
-            model,
-            index,
-            location,
-            modes,
-            q,
-            e,
-            [w.a, w.b, w.c, w.d],
-            values,
-            next,
-        ),
+        Step::Flow(time) => flow_rule(model, index, modes, time, state),
+        Step::Jump(e, w) => jump_rule(model, index, modes, q, e, [w.a, w.b, w.c, w.d], state),
     }
 }
 
-// Whether a step is allowed: it leads to an admissible state and meets its rule. The location that it leads to is handed over, with its
-// modes.
+// Whether a step is allowed: it leads to an admissible state and meets its rule. The modes that it leads to are handed over. The numbers
+// behind the values after are free then.
 pub fn step_allowed(
     model: &[u8],
     index: &Index,
-    location: u32,
     modes: [u8; 4],
     q: u32,
-    values: [i64; 8],
     by: Step,
-    target: u32,
     targets: [u8; 4],
-    next: [i64; 8],
+    state: &mut [i64],
 ) -> bool
-    requires { ⌜ GoodIndex (now model) (now index) ⌝ }
-    requires { ⌜ KnownStep (now index) by ⌝ }
-    requires { ⌜ Stands (now model) (now index) location modes × ((q < 2 ^ 24) × (SmallValues values × SmallValues next)) ⌝ }
-    requires { ⌜ Stands (now model) (now index) target targets × (target ≡ runs.after (modelFrom (now model) (now index)) (stateOf (now index) location []) (stepOf (componentsIn (now index)) by []) .location) ⌝ }
-    ensures { λ r. ⌜ r ≡ runs.stepAllowed (modelFrom (now (model .entry)) (now (index .entry))) q (stateOf (now (index .entry)) location values) (stepWith (now (index .entry)) by next) ⌝ }
+    requires { ⌜ Located (now model) (now index) modes × KnownStep (now index) by ⌝ }
+    requires { ⌜ targets ≡ modesNext (now model) (now index) modes by ⌝ }
+    requires { ⌜ SmallState (now index) (now state) × (q < 2 ^ 24) ⌝ }
+    ensures { λ r. ⌜ r ≡ runs.stepAllowed (modelFrom (now (model .entry)) (now (index .entry))) q (stateIn (now (model .entry)) (now (index .entry)) modes (now (state .entry))) (stepWith (now (index .entry)) by (now (state .entry))) ⌝ }
+    ensures { λ _. ⌜ KeptValues (2 * variablesIn (now (index .entry))) (3 * variablesIn (now (index .entry))) (now (state .entry)) (now (state .exit)) ⌝ }
 {
-    if !admissible(model, index, target, targets, q, next) {
+    let n = number_at(index, VARIABLES_AT);
+    if !modes_hold(model, index, targets, INVARIANT_AT, &state[n..], q) {
         return false;
     }
-    rule_met(model, index, location, modes, q, values, by, next)
+    rule_met(model, index, modes, q, by, state)
 }
 
-// The location that a step leads to: a flow keeps it.
-pub fn location_after(model: &[u8], index: &Index, location: u32, modes: [u8; 4], by: Step) -> u32
-    requires { ⌜ GoodIndex (now model) (now index) ⌝ }
-    requires { ⌜ KnownStep (now index) by ⌝ }
-    requires { ⌜ Stands (now model) (now index) location modes ⌝ }
-    ensures { λ r. ⌜ r ≡ runs.after (modelFrom (now (model .entry)) (now (index .entry))) (stateOf (now (index .entry)) location []) (stepOf (componentsIn (now (index .entry))) by []) .location ⌝ }
-    ensures { λ r. ⌜ r < locationCount (componentsFrom (now (model .entry)) (now (index .entry))) ⌝ }
+// The modes after a joint switch with these switches.
+fn modes_by(model: &[u8], index: &Index, modes: [u8; 4], switches: [u8; 4]) -> [u8; 4]
+    requires { ⌜ GoodIndex (now model) (now index) × KnownSwitches (now index) switches ⌝ }
+    ensures { λ r. ⌜ r ≡ modesBy (now (model .entry)) (now (index .entry)) modes switches ⌝ }
 {
-    match by {
-        Step::Flow(_) => location,
-        Step::Jump(_, w) => target_of(model, index, modes, [w.a, w.b, w.c, w.d]),
+    let components = number_at(index, COMPONENTS_AT);
+    let mut after = modes;
+    let mut k: usize = 0;
+    while k < components {
+        after[k] = mode_after(model, index, k, modes[k], switches[k]);
+        k += 1;
     }
+    after
 }
 
 // The modes of the location that a step leads to: a flow keeps them.
-pub fn modes_after(
-    model: &[u8],
-    index: &Index,
-    location: u32,
-    modes: [u8; 4],
-    by: Step,
-    target: u32,
-) -> [u8; 4]
-    requires { ⌜ GoodIndex (now model) (now index) ⌝ }
-    requires { ⌜ Stands (now model) (now index) location modes ⌝ }
-    requires { ⌜ target < locationCount (componentsFrom (now model) (now index)) ⌝ }
-    requires { ⌜ target ≡ runs.after (modelFrom (now model) (now index)) (stateOf (now index) location []) (stepOf (componentsIn (now index)) by []) .location ⌝ }
-    ensures { λ r. ⌜ r ≡ modesNext (now (model .entry)) (now (index .entry)) modes by target ⌝ }
-    ensures { λ r. ⌜ Stands (now (model .entry)) (now (index .entry)) target r ⌝ }
+pub fn modes_after(model: &[u8], index: &Index, modes: [u8; 4], by: Step) -> [u8; 4]
+    requires { ⌜ GoodIndex (now model) (now index) × KnownStep (now index) by ⌝ }
+    ensures { λ r. ⌜ r ≡ modesNext (now (model .entry)) (now (index .entry)) modes by ⌝ }
 {
     match by {
         Step::Flow(_) => modes,
-        Step::Jump(_, _) => modes_at(model, index, target),
+        Step::Jump(_, w) => modes_by(model, index, modes, [w.a, w.b, w.c, w.d]),
     }
 }

@@ -1,4 +1,4 @@
--- The paper is opened, then the run sheet's body is marked. Assumes nothing.
+-- The paper is opened, then the run sheet's body is marked, with a slice of 24 numbers for its states. Assumes nothing.
 use mathlib.Core.Path.{ap, _∙_}
 use borrow.Author.Needs.{needs}
 use denote.Ref.{now}
@@ -17,16 +17,21 @@ returns c =
     let e = o .open-paper .ensures .0 in
     e ∙ run-refused (now (a .model)) (now (a .second)) (λ z. c .if1 .taken (ap (λ (x : Answer). x .number) e ∙ z))
 
+slice-aggregate-mark-body : tie.Need-slice-aggregate-mark-body
+slice-aggregate-mark-body c = search needs
+
 mark-body-requires : tie.Need-mark-body-requires
 mark-body-requires c κs =
-    let w = c .before .before .before .open-paper .ensures .1 .1 (c .before .if1 .left) in
-    (w .accepted .good, (w .bodied, w .brief))
+    let w = c .before .before .before .before .open-paper .ensures .1 .1 (c .before .before .if1 .left) in
+    ((w .accepted, search needs), (w .bodied, w .brief))
 
 returns-2 : tie.Need-returns-2
 returns-2 c =
-    let o = c .before .before .before .before in
+    let o = c .before .before .before .before .before .before in
     let a = o .before .before .before .before .args in
-    c .mark-body .ensures ∙ run-open (now (a .model)) (now (a .second)) (o .open-paper .ensures .1 .1 (c .before .before .if1 .left))
+    c .before .mark-body .ensures ∙ run-open (now (a .model)) (now (a .second)) (o .open-paper .ensures .1 .1 (c .before .before .before .before .if1 .left))
 
 pub mark-run-spec : {M : Type 1} → statement M
-mark-run-spec = tie.close (tie.spec open-paper-requires returns mark-body-requires returns-2)
+mark-run-spec =
+    tie.close
+    (tie.spec open-paper-requires returns slice-aggregate-mark-body mark-body-requires returns-2)

@@ -1,92 +1,80 @@
--- The number, then its range as a signed one. Assumes nothing.
+-- Four bytes where there are four, then the range of their number as a signed one. Assumes nothing.
 use mathlib.Core.Path.{_≡_, sym, ap, _∙_}
 use mathlib.Core.Bool.{true, false}
+use Prim.Native.Nat.{_+_, _≤_, _<_}
+use native.Mathlib.Omega.{arith}
 use borrow.Author.Needs.{needs}
 use denote.Ref.{now}
 use lib.IntN.{ℤ, pos, negsuc}
+use lib.ListN.{length}
 use lib.Signed.{ltZ}
 use mir.Syntax.{w64}
 use mir.Val.{toZ, ofZ}
 use mir.Facts.{toZ-ofZ}
-use Rattle.formats.specs.Reading.{got, signed, u32, passing}
+use Rattle.formats.specs.Reading.{got, passing}
 use Rattle.second_sheets.specs.RunAnswers.{readValue, gotSigned}
-use Rattle.fields.proofs.AnswerLaws.{field-value, field-refused}
-use Rattle.second_sheets.proofs.RunLaws.{inRange, value-low, value-high, value-in, number-got, number-refused}
+use Rattle.second_sheets.proofs.RunLaws.{inRange, value-low, value-high, value-in, value-whole, value-cut}
 use Rattle.second_sheets.proofs.run.value.Statement.{statement}
 use Rattle.second_sheets.proofs.run.value.Tie as tie
 
-word-requires : tie.Need-word-requires
-word-requires c κs = search needs
+-- the number that was read, from its bits, and what is left to test of it
+back : (c : tie.After-signed-word) → toZ w64 (ofZ w64 (c .signed-word .result)) ≡ c .signed-word .result
+back c = toZ-ofZ {z = c .signed-word .result} (record { sfits = c .signed-word .ok })
 
-enum-known-number : tie.Need-enum-known-number
-enum-known-number c = search needs
+told : (c : tie.After-signed-word) → readValue (now (c .before .before .before .before .args .s)) (c .before .before .before .before .args .at) ≡ passing inRange 5 (c .before .before .before .before .args .at) (got (c .signed-word .result) (c .before .before .before .before .args .at + 4))
+told c =
+    let a = c .before .before .before .before .args in
+    let h : a .at + 4 ≤ length (now (a .s)) = omega (arith, c .before .before .if1 .left, c .before .if2 .left) in
+    value-whole (now (a .s)) (a .at) h ∙ ap (λ (x : ℤ). passing inRange 5 (a .at) (got x (a .at + 4))) (sym (c .signed-word .ensures .0))
 
-enum-known-number-2 : tie.Need-enum-known-number-2
-enum-known-number-2 c = search needs
-
-signed-requires : tie.Need-signed-requires
-signed-requires c κs = search needs
+low : (c : tie.Else3) → ltZ (c .before .signed-word .result) (negsuc 134217727) ≡ false
+low c = ap (λ (x : ℤ). ltZ x (negsuc 134217727)) (sym (back (c .before))) ∙ c .if3 .left
 
 returns : tie.Need-returns
 unfolding gotSigned
 returns c =
-    let a = c .before .before .before .before .before .before .before .args in
-    let s = now (a .s) in
-    let n = c .before .before .before .number2 .given .0 .0 in
-    let after = c .before .before .before .number2 .given .0 .1 .0 in
-    let e : u32 s (a .at) ≡ got n after = sym (c .before .before .before .before .before .word .ensures) ∙ field-value (c .before .before .before .number2 .given .1) in
-    let v = c .before .signed .result in
-    let back : toZ w64 (ofZ w64 v) ≡ v = toZ-ofZ {z = v} (record { sfits = c .before .signed .ok }) in
-    let told : readValue s (a .at) ≡ passing inRange 5 (a .at) (got v after) = number-got s (a .at) n after e ∙ ap (λ (x : ℤ). passing inRange 5 (a .at) (got x after)) (sym (c .before .signed .ensures)) in
-    let low : ltZ v (negsuc 134217727) ≡ true = ap (λ (x : ℤ). ltZ x (negsuc 134217727)) (sym back) ∙ c .if1 .taken in
-    sym (told ∙ value-low v (a .at) after low)
+    let a = c .before .before .args in
+    let h : length (now (a .s)) < 4 = c .if1 .taken in
+    sym (value-cut (now (a .s)) (a .at) (omega arith))
 
 returns-2 : tie.Need-returns-2
 unfolding gotSigned
 returns-2 c =
-    let a = c .before .before .before .before .before .before .before .before .args in
-    let s = now (a .s) in
-    let n = c .before .before .before .before .number2 .given .0 .0 in
-    let after = c .before .before .before .before .number2 .given .0 .1 .0 in
-    let e : u32 s (a .at) ≡ got n after = sym (c .before .before .before .before .before .before .word .ensures) ∙ field-value (c .before .before .before .before .number2 .given .1) in
-    let v = c .before .before .signed .result in
-    let back : toZ w64 (ofZ w64 v) ≡ v = toZ-ofZ {z = v} (record { sfits = c .before .before .signed .ok }) in
-    let told : readValue s (a .at) ≡ passing inRange 5 (a .at) (got v after) = number-got s (a .at) n after e ∙ ap (λ (x : ℤ). passing inRange 5 (a .at) (got x after)) (sym (c .before .before .signed .ensures)) in
-    let low : ltZ v (negsuc 134217727) ≡ false = ap (λ (x : ℤ). ltZ x (negsuc 134217727)) (sym back) ∙ c .before .if1 .left in
-    let high : ltZ (pos 134217728) v ≡ true = ap (λ (x : ℤ). ltZ (pos 134217728) x) (sym back) ∙ c .if2 .taken in
-    sym (told ∙ value-high v (a .at) after low high)
+    let a = c .before .before .before .args in
+    let h : length (now (a .s)) < a .at + 4 = omega (arith, c .before .if1 .left, c .if2 .taken) in
+    sym (value-cut (now (a .s)) (a .at) h)
+
+signed-word-requires : tie.Need-signed-word-requires
+signed-word-requires c κs = search needs
 
 returns-3 : tie.Need-returns-3
 unfolding gotSigned
 returns-3 c =
     let a = c .before .before .before .before .before .args in
-    let s = now (a .s) in
-    sym (number-refused s (a .at) (c .before .number .given .0 .0) (c .before .number .given .0 .1 .0) (sym (c .before .before .before .word .ensures) ∙ field-refused (c .before .number .given .1)))
+    let v = c .before .signed-word .result in
+    let under : ltZ v (negsuc 134217727) ≡ true = ap (λ (x : ℤ). ltZ x (negsuc 134217727)) (sym (back (c .before))) ∙ c .if3 .taken in
+    sym (told (c .before) ∙ value-low v (a .at) (a .at + 4) under)
 
 returns-4 : tie.Need-returns-4
 unfolding gotSigned
 returns-4 c =
-    let a = c .before .before .before .before .before .before .before .before .args in
-    let s = now (a .s) in
-    let n = c .before .before .before .before .number2 .given .0 .0 in
-    let after = c .before .before .before .before .number2 .given .0 .1 .0 in
-    let e : u32 s (a .at) ≡ got n after = sym (c .before .before .before .before .before .before .word .ensures) ∙ field-value (c .before .before .before .before .number2 .given .1) in
-    let v = c .before .before .signed .result in
-    let back : toZ w64 (ofZ w64 v) ≡ v = toZ-ofZ {z = v} (record { sfits = c .before .before .signed .ok }) in
-    let told : readValue s (a .at) ≡ passing inRange 5 (a .at) (got v after) = number-got s (a .at) n after e ∙ ap (λ (x : ℤ). passing inRange 5 (a .at) (got x after)) (sym (c .before .before .signed .ensures)) in
-    let low : ltZ v (negsuc 134217727) ≡ false = ap (λ (x : ℤ). ltZ x (negsuc 134217727)) (sym back) ∙ c .before .if1 .left in
-    let high : ltZ (pos 134217728) v ≡ false = ap (λ (x : ℤ). ltZ (pos 134217728) x) (sym back) ∙ c .if2 .left in
-    ap (λ (x : ℤ). got x after) back ∙ sym (told ∙ value-in v (a .at) after low high)
+    let a = c .before .before .before .before .before .before .args in
+    let v = c .before .before .signed-word .result in
+    let high : ltZ (pos 134217728) v ≡ true = ap (λ (x : ℤ). ltZ (pos 134217728) x) (sym (back (c .before .before))) ∙ c .if4 .taken in
+    sym (told (c .before .before) ∙ value-high v (a .at) (a .at + 4) (low (c .before)) high)
+
+add-t6 : tie.Need-add-t6
+add-t6 c = search needs
+
+returns-5 : tie.Need-returns-5
+unfolding gotSigned
+returns-5 c =
+    let a = c .before .before .before .before .before .before .args in
+    let v = c .before .before .signed-word .result in
+    let high : ltZ (pos 134217728) v ≡ false = ap (λ (x : ℤ). ltZ (pos 134217728) x) (sym (back (c .before .before))) ∙ c .if4 .left in
+    ap (λ (x : ℤ). got x (a .at + 4)) (back (c .before .before)) ∙ sym (told (c .before .before) ∙ value-in v (a .at) (a .at + 4) (low (c .before)) high)
 
 pub value-spec : {M : Type 1} → statement M
 value-spec =
     tie.close
-    (tie.spec
-    word-requires
-    enum-known-number
-    enum-known-number-2
-    signed-requires
-    returns
-    returns-2
-    returns-3
-    returns-4)
+    (tie.spec returns returns-2 signed-word-requires returns-3 returns-4 add-t6 returns-5)

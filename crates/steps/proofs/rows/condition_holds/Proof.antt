@@ -40,10 +40,12 @@ rows-within c =
     let l = c .before .loop in
     let index = now (s .args .index) in
     let few : l .j < entry index (s .args .place + 1) = omega (arith, c .loop-test .taken, c .before .before .before .number-at .ensures) in
-    row-room (entry index (s .args .place)) (s .args .count) (l .at) (l .j) (l .inv .1 .0) (length (now (s .args .s))) (s .pre .0 .1 .within (l .j) few)
+    row-room (entry index (s .args .place)) (s .args .count) (l .at) (l .j) (l .inv .1 .0) (length (now (s .args .s))) (s .pre .0 .1 .1 .within (l .j) few)
 
 row-holds-requires : tie.Need-row-holds-requires Inv-loop μ-loop
-row-holds-requires c κs = (rows-within c, c .before .before .before .before .before .pre .1)
+row-holds-requires c κs =
+    let p = c .before .before .before .before .before .pre in
+    ((rows-within c, p .0 .0), p .1)
 
 returns : tie.Need-returns Inv-loop μ-loop
 returns c =

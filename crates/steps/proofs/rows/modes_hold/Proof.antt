@@ -37,19 +37,21 @@ below c = omega (arith, c .loop-test .taken, c .before .before .number-at2 .ensu
 room : (c : tie.After-mode-place Inv-loop μ-loop) → c .mode-place .result + 1 < 1004
 room c =
     let s = c .before .before .before .before .before .before in
-    mode-place (s .pre .0 .1) (s .pre .0 .0) (c .before .before .before .before .number-at .result) (c .before .before .loop .k) (c .mode-place .result) (below (c .before)) (c .before .before .before .before .number-at .ensures) (c .mode-place .ensures)
+    mode-place (s .pre .0 .1 .1) (s .pre .0 .1 .0) (c .before .before .before .before .number-at .result) (c .before .before .loop .k) (c .mode-place .result) (below (c .before)) (c .before .before .before .before .number-at .ensures) (c .mode-place .ensures)
 
 array-read-mode-place : tie.Need-array-read-mode-place Inv-loop μ-loop
-array-read-mode-place c = omega (arith, below c, c .before .before .before .before .before .pre .0 .0)
+array-read-mode-place c = omega (arith, below c, c .before .before .before .before .before .pre .0 .1 .0)
 
 mode-place-requires : tie.Need-mode-place-requires Inv-loop μ-loop
-mode-place-requires c κs = (omega (arith, below c, c .before .before .before .before .before .pre .0 .0), c .before .before .before .before .before .pre .0 .1 .0)
+mode-place-requires c κs =
+    let p = c .before .before .before .before .before .pre in
+    (omega (arith, below c, p .0 .1 .0), p .0 .1 .1 .0)
 
 condition-holds-requires : tie.Need-condition-holds-requires Inv-loop μ-loop
 condition-holds-requires c κs =
     let s = c .before .before .before .before .before .before in
     let n = c .before .before .before .before .number-at in
-    ((room c, mode-span (s .pre .0 .1) (s .pre .0 .0) (n .result) (c .before .before .loop .k) (c .mode-place .result) (below (c .before)) (n .ensures) (c .mode-place .ensures)), (point-for (n .ensures) (s .pre .1 .0), s .pre .1 .1))
+    ((s .pre .0 .0, (room c, mode-span (s .pre .0 .1 .1) (s .pre .0 .1 .0) (n .result) (c .before .before .loop .k) (c .mode-place .result) (below (c .before)) (n .ensures) (c .mode-place .ensures))), (point-for (n .ensures) (s .pre .1 .0), s .pre .1 .1))
 
 -- what a turn tells of its number
 told : (c : tie.After-condition-holds Inv-loop μ-loop)
@@ -58,7 +60,7 @@ told : (c : tie.After-condition-holds Inv-loop μ-loop)
 told c =
     let s = c .before .before .before .before .before .before .before in
     let n = c .before .before .before .before .before .number-at in
-    mode-told (s .pre .0 .1) (s .pre .0 .0) (n .result) (c .before .before .before .loop .k) (c .before .mode-place .result) (below (c .before .before)) (n .ensures) (c .before .mode-place .ensures) (s .args .q) (now (s .args .point)) (c .condition-holds .result) (c .condition-holds .ensures)
+    mode-told (s .pre .0 .1 .1) (s .pre .0 .1 .0) (n .result) (c .before .before .before .loop .k) (c .before .mode-place .result) (below (c .before .before)) (n .ensures) (c .before .mode-place .ensures) (s .args .q) (now (s .args .point)) (c .condition-holds .result) (c .condition-holds .ensures)
 
 returns : tie.Need-returns Inv-loop μ-loop
 returns c =

@@ -31,28 +31,28 @@ known c = c .before .before .pre .1 .0 .1 (moves c)
 room : (c : tie.After-switch-place) → c .switch-place .result + 1 < 1004
 room c =
     let s = c .before .before .before in
-    switch-place (s .pre .0) (entry (now (s .args .index)) 0) (s .args .k) (s .args .i) (c .switch-place .result) (s .pre .1 .0 .0) (known (c .before)) refl (c .switch-place .ensures)
+    switch-place (s .pre .0 .0) (entry (now (s .args .index)) 0) (s .args .k) (s .args .i) (c .switch-place .result) (s .pre .1 .0 .0) (known (c .before)) refl (c .switch-place .ensures)
 
 switch-place-requires : tie.Need-switch-place-requires
-switch-place-requires c κs = omega (arith, c .before .before .pre .1 .0 .0, c .before .before .pre .0 .few)
+switch-place-requires c κs = omega (arith, c .before .before .pre .1 .0 .0, c .before .before .pre .0 .0 .few)
 
 number-at-requires : tie.Need-number-at-requires
 number-at-requires c κs = search needs
 
 mul-condition-holds : tie.Need-mul-condition-holds
-mul-condition-holds c = omega (arith, c .number-at .ensures, c .before .before .before .before .pre .0 .most)
+mul-condition-holds c = omega (arith, c .number-at .ensures, c .before .before .before .before .pre .0 .0 .most)
 
 condition-holds-requires : tie.Need-condition-holds-requires
 condition-holds-requires c κs =
     let s = c .before .before .before .before in
-    let w = switch-span (s .pre .0) (c .number-at .result) (s .args .k) (s .args .i) (c .before .switch-place .result) (s .pre .1 .0 .0) (known (c .before .before)) (c .number-at .ensures) (c .before .switch-place .ensures) in
-    ((room (c .before), w), (point-for (ap (λ (m : ℕ). 2 * m) (c .number-at .ensures)) (s .pre .1 .1 .0), s .pre .1 .1 .1))
+    let w = switch-span (s .pre .0 .0) (c .number-at .result) (s .args .k) (s .args .i) (c .before .switch-place .result) (s .pre .1 .0 .0) (known (c .before .before)) (c .number-at .ensures) (c .before .switch-place .ensures) in
+    ((s .pre .0 .1, (room (c .before), w)), (point-for (ap (λ (m : ℕ). 2 * m) (c .number-at .ensures)) (s .pre .1 .1 .0), s .pre .1 .1 .1))
 
 returns-2 : tie.Need-returns-2
 returns-2 c =
     let s = c .before .before .before .before .before in
     let n = c .before .number-at in
-    switch-told (s .pre .0) (n .result) (s .args .k) (s .args .i) (c .before .before .switch-place .result) (s .pre .1 .0 .0) (known (c .before .before .before)) (n .ensures) (c .before .before .switch-place .ensures) (s .args .q) (now (s .args .point)) (c .condition-holds .result) (moves (c .before .before .before)) (c .condition-holds .ensures)
+    switch-told (s .pre .0 .0) (n .result) (s .args .k) (s .args .i) (c .before .before .switch-place .result) (s .pre .1 .0 .0) (known (c .before .before .before)) (n .ensures) (c .before .before .switch-place .ensures) (s .args .q) (now (s .args .state)) (c .condition-holds .result) (moves (c .before .before .before)) (c .condition-holds .ensures)
 
 pub move-holds-spec : {M : Type 1} → statement M
 move-holds-spec =

@@ -1,60 +1,51 @@
 -- The values that are left are the same exactly when all are. Assumes nothing.
-use mathlib.Core.Path.{_≡_, refl, _∙_}
-use Prim.Native.Nat.{_-_, _≤_}
+use mathlib.Core.Path.{_≡_, refl}
+use Prim.Native.Nat.{_+_, _-_, _≤_}
 use native.Mathlib.Omega.{arith}
-use borrow.Author.Needs.{needs}
-use borrow.Author.Tests.{not-true, not-false}
+use denote.Ref.{now}
 use lib.IntN.{pos}
 use lib.ListN.{getD}
-use mir.Facts.{toZ-ofZ}
 use Rattle.farkas.specs.Lists.{every}
 use Rattle.farkas.specs.Rows.{item}
 use Rattle.formats.specs.Joint.{countUp}
 use Rattle.steps.specs.Held.{sameAt}
 use Rattle.steps.proofs.ValueLoops.{each-start, each-pass, each-fail, each-none}
+use Rattle.steps.proofs.ValueLaws.{same-yes, same-no}
 use Rattle.steps.proofs.values.same_values.Statement.{statement}
 use Rattle.steps.proofs.values.same_values.Tie as tie
 
 abbrev Inv-loop : tie.InvT-loop
-Inv-loop n next values i₀ i = (i ≤ n) × (every (sameAt next values) (countUp i (n - i)) ≡ every (sameAt next values) (countUp 0 n))
+Inv-loop n state i₀ i = (i ≤ n) × (every (sameAt n state) (countUp i (n - i)) ≡ every (sameAt n state) (countUp 0 n))
 
 abbrev μ-loop : tie.MeasureT-loop
-μ-loop n next values i₀ i = n - i
+μ-loop n state i₀ i = n - i
 
 loop-holds : tie.Need-loop-holds Inv-loop μ-loop
-loop-holds c = (omega arith, each-start (sameAt (c .args .t2) (c .args .t3)) (c .args .n) (c .args .n) refl)
+loop-holds c = (omega arith, each-start (sameAt (c .args .n) (now (c .args .state))) (c .args .n) (c .args .n) refl)
 
-mul-same : tie.Need-mul-same Inv-loop μ-loop
-mul-same c = omega arith
+add-if1 : tie.Need-add-if1 Inv-loop μ-loop
+add-if1 c = omega arith
 
-array-copy-out-same : tie.Need-array-copy-out-same Inv-loop μ-loop
-array-copy-out-same c = omega arith
+mul-if1 : tie.Need-mul-if1 Inv-loop μ-loop
+mul-if1 c = omega arith
 
-mul-same-2 : tie.Need-mul-same-2 Inv-loop μ-loop
-mul-same-2 c = omega arith
+shared-slice-copy-out-if1 : tie.Need-shared-slice-copy-out-if1 Inv-loop μ-loop
+shared-slice-copy-out-if1 c = omega arith
 
-array-copy-out-same-2 : tie.Need-array-copy-out-same-2 Inv-loop μ-loop
-array-copy-out-same-2 c = omega arith
+mul-if1-2 : tie.Need-mul-if1-2 Inv-loop μ-loop
+mul-if1-2 c = omega arith
 
-same-requires : tie.Need-same-requires Inv-loop μ-loop
-same-requires c κs = search needs
-
--- what a turn tells of its number
-told : (c : tie.After-same Inv-loop μ-loop) → c .same .result ≡ sameAt (c .before .before .before .before .before .args .t2) (c .before .before .before .before .before .args .t3) (c .before .before .before .before .loop .i)
-unfolding sameAt item
-told c =
-    let a = c .before .before .before .before .before .args in
-    let i = c .before .before .before .before .loop .i in
-    let x = getD (a .t2) i (pos 0) in
-    let y = getD (a .t3) i (pos 0) in
-    c .same .ensures ∙ rw (toZ-ofZ {z = x} (record { sfits = c .before .before .same-arg .given }), toZ-ofZ {z = y} (record { sfits = c .before .same-arg2 .given })) refl
+shared-slice-copy-out-if1-2 : tie.Need-shared-slice-copy-out-if1-2 Inv-loop μ-loop
+shared-slice-copy-out-if1-2 c = omega arith
 
 returns : tie.Need-returns Inv-loop μ-loop
+unfolding sameAt item
 returns c =
-    let a = c .before .before .before .before .before .before .args in
-    let f = sameAt (a .t2) (a .t3) in
-    let l = c .before .before .before .before .before .loop in
-    each-fail f (a .n) (l .i) (every f (countUp 0 (a .n))) (c .before .same .result) (c .before .before .before .before .loop-test .taken) (told (c .before)) (not-true _ (c .if1 .taken)) (l .inv .1)
+    let a = c .before .before .before .before .before .args in
+    let state = now (a .state) in
+    let l = c .before .before .before .before .loop in
+    let differ = same-no (getD state (a .n + l .i) (pos 0)) (getD state (l .i) (pos 0)) (c .if1 .taken) in
+    each-fail (sameAt (a .n) state) (a .n) (l .i) (every (sameAt (a .n) state) (countUp 0 (a .n))) _ (c .before .before .before .loop-test .taken) refl differ (l .inv .1)
 
 add-i : tie.Need-add-i Inv-loop μ-loop
 add-i c = omega arith
@@ -63,16 +54,18 @@ loop-less : tie.Need-loop-less Inv-loop μ-loop
 loop-less c = omega arith
 
 loop-again : tie.Need-loop-again Inv-loop μ-loop
+unfolding sameAt item
 loop-again c =
-    let a = c .before .before .before .before .before .before .args in
-    let f = sameAt (a .t2) (a .t3) in
-    let l = c .before .before .before .before .before .loop in
-    (omega arith, each-pass f (a .n) (l .i) (every f (countUp 0 (a .n))) (c .before .same .result) (c .before .before .before .before .loop-test .taken) (told (c .before)) (not-false _ (c .if1 .left)) (l .inv .1))
+    let a = c .before .before .before .before .before .args in
+    let state = now (a .state) in
+    let l = c .before .before .before .before .loop in
+    let agree = same-yes (getD state (a .n + l .i) (pos 0)) (getD state (l .i) (pos 0)) (record { sfits = c .before .before .if12 .given }) (record { sfits = c .before .if13 .given }) (c .if1 .left) in
+    (omega arith, each-pass (sameAt (a .n) state) (a .n) (l .i) (every (sameAt (a .n) state) (countUp 0 (a .n))) _ (c .before .before .before .loop-test .taken) refl agree (l .inv .1))
 
 returns-2 : tie.Need-returns-2 Inv-loop μ-loop
 returns-2 c =
     let a = c .before .before .args in
-    let f = sameAt (a .t2) (a .t3) in
+    let f = sameAt (a .n) (now (a .state)) in
     let l = c .before .loop in
     each-none f (a .n) (l .i) (every f (countUp 0 (a .n))) (c .loop-test .left) (l .inv .1)
 
@@ -83,11 +76,11 @@ same-values-spec =
     Inv-loop
     μ-loop
     loop-holds
-    mul-same
-    array-copy-out-same
-    mul-same-2
-    array-copy-out-same-2
-    same-requires
+    add-if1
+    mul-if1
+    shared-slice-copy-out-if1
+    mul-if1-2
+    shared-slice-copy-out-if1-2
     returns
     add-i
     loop-less

@@ -36,7 +36,9 @@ condition-holds-requires : tie.Need-condition-holds-requires
 condition-holds-requires c κs =
     let s = c .before .before .before .before in
     let n = c .number-at in
-    ((unsafe-place (s .pre .0) (n .result) (s .args .u) (s .pre .1 .0) (n .ensures), unsafe-span (s .pre .0) (n .result) (s .args .u) (s .pre .1 .0) (n .ensures)), (point-for (n .ensures) (s .pre .1 .1 .0), s .pre .1 .1 .1))
+    let g = s .pre .0 .0 .good in
+    let h = s .pre .0 .1 in
+    ((s .pre .0 .0 .short, (unsafe-place g (n .result) (s .args .u) h (n .ensures), unsafe-span g (n .result) (s .args .u) h (n .ensures))), (point-for (n .ensures) (s .pre .1 .0), s .pre .1 .1))
 
 returns-2 : tie.Need-returns-2
 unfolding unsafeAt unsafeFrom unsafePlace
@@ -44,8 +46,8 @@ returns-2 c =
     let s = c .before .before .before .before .before in
     let a = s .args in
     let index = now (a .index) in
-    let told : c .condition-holds .result ≡ runs.conditionHolds (a .q) (take (entry index 0) (now (a .point))) (spanRows (now (a .model)) (entry index 0) index (892 + 6 * a .u + 4)) =
-    c .condition-holds .ensures ∙ ap (λ (n : ℕ). runs.conditionHolds (a .q) (take n (now (a .point))) (spanRows (now (a .model)) n index (892 + 6 * a .u + 4))) (c .before .number-at .ensures) in
+    let told : c .condition-holds .result ≡ runs.conditionHolds (a .q) (take (entry index 0) (now (a .state))) (spanRows (now (a .model)) (entry index 0) index (892 + 6 * a .u + 4)) =
+    c .condition-holds .ensures ∙ ap (λ (n : ℕ). runs.conditionHolds (a .q) (take n (now (a .state))) (spanRows (now (a .model)) n index (892 + 6 * a .u + 4))) (c .before .number-at .ensures) in
     first-passes _ _ (test-passed (c .before .before .before .modes-fit .result) (c .before .before .if1 .left) (c .before .before .before .modes-fit .ensures)) told
 
 pub unsafe-fits-spec : {M : Type 1} → statement M
