@@ -5,6 +5,7 @@ use mathlib.Core.List.{List, [], _∷_, _++_, map}
 use Prim.Native.Nat.{ℕ, zero, suc, _+_, _*_, _≤_, _<_}
 use native.Mathlib.Decide.{ℕ-discrete}
 use native.Mathlib.Nat.{add-assoc, zero-mul, suc-mul}
+use native.Mathlib.Numerals.{add-one}
 use native.Mathlib.Omega.{arith}
 use lib.Dec.{eqb}
 use borrow.Author.Tests.{eq-eqb, ne-eqb}
@@ -187,3 +188,18 @@ sum-zero f i (suc n) h k a b = go (ℕ-discrete i k) (λ l. sum-zero f (suc i) n
     go : Dec (i ≡ k) → (suc i ≤ k → f k ≡ 0) → f k ≡ 0
     go (yes e) later = ap f (sym e) ∙ left-zero (f i) (sumOver f (countUp (suc i) n)) h
     go (no d) later = later (omega (arith, d))
+
+-- one number after the other: a turn, and how large the sum gets
+pub sum-next : (f : ℕ → ℕ) (i n count : ℕ) → n ≡ f i → count ≡ sumOver f (countUp 0 i) → count + n ≡ sumOver f (countUp 0 (i + 1))
+unfolding sumOver countUp
+sum-next f i n count p q = let last : f (0 + i) ≡ f i = ap f (none i) in sym (sum-split f 0 i 1 ∙ omega (arith, p, q, last))
+  where
+    none : (i : ℕ) → 0 + i ≡ i
+    none i = omega arith
+
+pub sum-most : (f : ℕ → ℕ) (most : ℕ) → ((i : ℕ) → f i ≤ most) → (n : ℕ) → sumOver f (countUp 0 n) ≤ n * most
+unfolding sumOver countUp
+sum-most f most h zero = omega arith
+sum-most f most h (suc n) =
+    let all = ap (λ (k : ℕ). sumOver f (countUp 0 k)) (sym (add-one n)) ∙ sum-split f 0 n 1 in
+    omega (arith, all, sum-most f most h n, h (0 + n))

@@ -104,7 +104,7 @@ few-or-none true xs h = omega arith
 few-or-none false xs h = h
 
 -- Over the components of an index, from the last to the first
-all-drop : {A : Type 0} {P : A → Type 0} {xs : List A} (k : ℕ) → All P xs → All P (drop k xs)
+pub all-drop : {A : Type 0} {P : A → Type 0} {xs : List A} (k : ℕ) → All P xs → All P (drop k xs)
 all-drop zero h = h
 all-drop (suc k) none = none
 all-drop (suc k) (more x rest) = all-drop k rest

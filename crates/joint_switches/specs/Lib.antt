@@ -1,2 +1,5 @@
+pub mod Tables
 pub mod Tally
 pub mod Ways
+pub mod Numbered
+pub mod Counted

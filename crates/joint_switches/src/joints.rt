@@ -29,7 +29,8 @@ ghost use Rattle.formats.specs.Locations.{locationCount, modesAt};
 ghost use Rattle.formats.specs.Joint.{stays, switchOf, leaves, bit, scopeMask, switchesOf, joinAll, countUp, joints, fourSwitches};
 ghost use Rattle.models.specs.Index.{entry, GoodIndex, componentsFrom, componentsIn};
 ghost use Rattle.models.specs.Counts.{componentAt, perComponent, KnownSwitches, targetIn};
-ghost use Rattle.joint_switches.specs.Tally.{Tallied, SmallModes};
+ghost use Rattle.joint_switches.specs.Tally.{Tallied};
+ghost use Rattle.joint_switches.specs.Tables.{SmallModes};
 
 // How many components there are.
 pub fn component_count(s: &[u8], index: &Index) -> usize
@@ -40,7 +41,7 @@ pub fn component_count(s: &[u8], index: &Index) -> usize
 }
 
 // How many modes a component has.
-fn mode_count(s: &[u8], index: &Index, k: usize) -> u32
+pub fn mode_count(s: &[u8], index: &Index, k: usize) -> u32
     requires { ⌜ GoodIndex (now s) (now index) ⌝ }
     requires { ⌜ k < componentsIn (now index) ⌝ }
     ensures { λ r. ⌜ r ≡ length (componentAt (now (s .entry)) (now (index .entry)) k .modes) ⌝ }

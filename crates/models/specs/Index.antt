@@ -37,6 +37,13 @@ firstOwner = 3
 unfoldable pub ownerPlace : ℕ → ℕ
 ownerPlace v = firstOwner + v
 
+-- then, once they are counted, how many joint switches and locations there are
+abbrev pub jointsAt : ℕ
+jointsAt = 14
+
+abbrev pub locationsAt : ℕ
+locationsAt = 15
+
 -- then a block for each component
 abbrev pub firstBlock : ℕ
 firstBlock = 16
@@ -82,7 +89,7 @@ unsafeLength = 6
 unfoldable pub unsafePlace : ℕ → ℕ
 unsafePlace u = firstUnsafe + unsafeLength * u
 
--- and after all that the sheet says, how many joint switches each event has
+-- and after all that the sheet says, once they are counted, how many joint switches each event has
 abbrev pub firstTotal : ℕ
 firstTotal = 988
 

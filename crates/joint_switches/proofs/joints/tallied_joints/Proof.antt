@@ -10,7 +10,7 @@ use Rattle.models.specs.Index.{entry, componentsFrom}
 use Rattle.models.specs.Counts.{perComponent}
 use Rattle.formats.proofs.JointCounts.{jointsIn, joints-start, limited, over-limit, joined-next, joined-end}
 use Rattle.joint_switches.proofs.JointLoops.{location-count}
-use Rattle.joint_switches.proofs.TallyLaws.{small-modes}
+use Rattle.joint_switches.proofs.TableLaws.{small-modes}
 use Rattle.joint_switches.proofs.joints.tallied_joints.Statement.{statement}
 use Rattle.joint_switches.proofs.joints.tallied_joints.Tie as tie
 
