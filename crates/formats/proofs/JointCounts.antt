@@ -3,9 +3,9 @@
 use mathlib.Core.Path.{_≡_, refl, sym, ap, _∙_}
 use mathlib.Core.Bool.{Bool, true, false, cond}
 use mathlib.Core.List.{List, [], _∷_, _++_, map, append-nil}
-use Prim.Native.Nat.{ℕ, zero, suc, _+_, _*_, _-_, _/_, _%_, _^_, _≤_, _<_, min}
+use Prim.Native.Nat.{ℕ, zero, suc, _+_, _*_, _-_, _/_, _%_, _^_, _≤_, _<_}
 use native.Mathlib.Decide.{decLe}
-use native.Mathlib.Nat.{min-le-left, min-le-right, min-eq-left, min-eq-right, le-trans, mod-lt, mod-eq-of-lt, mod-eq-sub-mod, div-eq-of-lt, div-eq-sub-div, mul-pos, mul-le-mul, pow-succ', two-pow-succ, add-comm, mul-comm, zero-mul, mul-zero, suc-mul}
+use native.Mathlib.Nat.{le-trans, mod-lt, mod-eq-of-lt, mod-eq-sub-mod, div-eq-of-lt, div-eq-sub-div, mul-pos, mul-le-mul, pow-succ', two-pow-succ, add-comm, mul-comm, zero-mul, mul-zero, suc-mul}
 use native.Mathlib.Numerals.{add-one}
 use native.Mathlib.Omega.{arith}
 use lib.Arith.{mod-mul, digits-div, digits-mod}
@@ -17,7 +17,7 @@ use lib.Seq.{drop-cons, getD-append-add}
 use Rattle.farkas.specs.Lists.{All, none, more}
 use Rattle.formats.specs.Model.{Component, hasEvent}
 use Rattle.formats.specs.Locations.{locationCount, modesAt}
-use Rattle.formats.specs.Joint.{stays, switchOf, leaves, bit, scopeMask, moverCount, numbersFrom, leaving, allStaying, silent, inFront, together, switchesOf, countUp, joinAll, JointSwitch, jointsOf, joints}
+use Rattle.formats.specs.Joint.{stays, switchOf, leaves, bit, scopeMask, moverCount, numbersFrom, leaving, allStaying, silent, inFront, together, switchesOf, countUp, joinAll, JointSwitch, jointsOf}
 use Rattle.formats.specs.Parts.{parts, memberCount}
 
 -- few modes each, few locations
@@ -290,28 +290,6 @@ jointsIn components location = joinAll (jointsOf components location) (countUp 0
 pub location-length : (components : List Component) (location : ℕ) → length (jointsIn components location) ≡ length (joinAll (switchesOf components (modesAt components location)) (countUp 0 16))
 location-length components location =
     joined-same (jointsOf components location) (switchesOf components (modesAt components location)) (countUp 0 16) (event-length components location)
-
-pub joints-start : (components : List Component) (locations : ℕ) → locations ≡ locationCount components → length (joinAll (jointsIn components) (countUp 0 (locations - 0))) ≡ length (joints components)
-unfolding joints
-joints-start components locations h = ap (λ (n : ℕ). length (joinAll (jointsIn components) (countUp 0 n))) (whole locations ∙ h)
-  where
-    whole : (n : ℕ) → n - 0 ≡ n
-    whole n = omega arith
-
--- a count up to one above a limit: while it is at most the limit, it is the count
-pub limited : (n limit : ℕ) {count : ℕ} → count ≡ min n (limit + 1) → count ≤ limit → count ≡ n
-limited n limit {count} p h = go (decLe n (limit + 1))
-  where
-    go : Dec (n ≤ limit + 1) → count ≡ n
-    go (yes l) = p ∙ min-eq-left l
-    go (no f) = let l : limit + 1 ≤ n = omega arith in absurd (omega (arith, p, min-eq-right l))
-
-pub over-limit : (n limit : ℕ) {count all : ℕ} → count ≡ min n (limit + 1) → limit < count → n ≤ all → count ≡ min all (limit + 1)
-over-limit n limit {count} {all} p h l =
-    let a = min-le-left n (limit + 1) in
-    let b = min-le-right n (limit + 1) in
-    let e : count ≡ limit + 1 = omega arith in
-    e ∙ sym (min-eq-right (omega arith))
 
 -- of the numbers from one on, up to another: the first, then the rest
 one-less : (i n : ℕ) → i < n → n - i ≡ suc (n - (i + 1))

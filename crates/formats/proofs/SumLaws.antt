@@ -203,3 +203,13 @@ sum-most f most h zero = omega arith
 sum-most f most h (suc n) =
     let all = ap (λ (k : ℕ). sumOver f (countUp 0 k)) (sym (add-one n)) ∙ sum-split f 0 n 1 in
     omega (arith, all, sum-most f most h n, h (0 + n))
+
+-- no part is more than the sum
+pub sum-part : (f : ℕ → ℕ) (i n k : ℕ) → i ≤ k → k < i + n → f k ≤ sumOver f (countUp i n)
+unfolding sumOver countUp
+sum-part f i zero k a b = absurd (omega arith)
+sum-part f i (suc n) k a b = go (ℕ-discrete i k) (λ l. sum-part f (suc i) n k l (omega arith))
+  where
+    go : Dec (i ≡ k) → (suc i ≤ k → f k ≤ sumOver f (countUp (suc i) n)) → f k ≤ f i + sumOver f (countUp (suc i) n)
+    go (yes e) later = omega (arith, ap f e)
+    go (no d) later = omega (arith, later (omega (arith, d)))

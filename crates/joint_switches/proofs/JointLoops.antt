@@ -14,7 +14,7 @@ use lib.Seq.{drop-cons, getD-take, take-at, take-take, length-take-le}
 use Rattle.farkas.specs.Lists.{All, none, more}
 use Rattle.formats.specs.Model.{Component, hasEvent}
 use Rattle.formats.specs.Locations.{locationCount, modesAt, locationOf}
-use Rattle.formats.specs.Joint.{stays, switchOf, bit, scopeMask, moverCount, isJoint, modesAfter, leaving, allStaying, silent, together, switchesOf, countUp, joinAll, JointSwitch, jointsOf, joints, fourSwitches, jointFrom}
+use Rattle.formats.specs.Joint.{stays, switchOf, bit, scopeMask, moverCount, isJoint, modesAfter, leaving, allStaying, silent, together, switchesOf, countUp, JointSwitch, jointsOf, joints, fourSwitches, jointFrom}
 use Rattle.models.specs.Index.{entry, componentsFrom, GoodIndex}
 use Rattle.models.specs.Counts.{componentAt, perComponent, KnownSwitches}
 use Rattle.formats.specs.Parts.{parts}
@@ -24,7 +24,7 @@ use Rattle.formats.proofs.Members.{in-map, in-joined, in-count}
 use Rattle.formats.proofs.Joint.{Known, no-numbers, number-and}
 use Rattle.formats.proofs.JointList.{listed-joint}
 use Rattle.models.proofs.GoodIndexLaws.{components-length, component-at, switch-length, components-drop, components-back, components-end, good-component, good-components, few-components}
-use Rattle.formats.proofs.JointCounts.{count-most, mask-below, silent-length, silent-most, together-length, together-most, left-positive, together-some, mapped-at, silent-now, silent-later, modes-digit, together-digit, jointsIn, location-length}
+use Rattle.formats.proofs.JointCounts.{count-most, mask-below, silent-length, silent-most, together-length, together-most, left-positive, together-some, mapped-at, silent-now, silent-later, modes-digit, together-digit, jointsIn}
 
 -- an array of four that is filled from its last number back, and the quotient that is left of a number whose digits are taken off
 fill-last : (d v k : ℕ) (rest : List ℕ) → set (replicate (suc k) d ++ rest) k v ≡ replicate k d ++ (v ∷ rest)
@@ -168,11 +168,6 @@ unfolding perComponent
 per-component-modes s index location modes rest p =
     ap (take (entry index 1)) p
     ∙ take-at (modesAt (componentsFrom s index) location) rest (entry index 1) (modes-length (componentsFrom s index) location ∙ components-length s index)
-
-pub location-count : (s index : List ℕ) (location : ℕ) (modes rest : List ℕ) → modes ≡ modesAt (componentsFrom s index) location ++ rest → length (joinAll (switchesOf (componentsFrom s index) (perComponent index modes)) (countUp 0 16)) ≡ length (jointsIn (componentsFrom s index) location)
-location-count s index location modes rest p =
-    ap (λ ms. length (joinAll (switchesOf (componentsFrom s index) ms) (countUp 0 16))) (per-component-modes s index location modes rest p)
-    ∙ sym (location-length (componentsFrom s index) location)
 
 module _ {s index : List ℕ} (g : GoodIndex s index) where
   few-modes : (k : ℕ) → All (λ c. length (c .modes) ≤ 8) (componentsOn s index k)

@@ -15,13 +15,14 @@ use lib.Seq.{getD-set-same, getD-set-other}
 use Rattle.farkas.specs.Lists.{All, none, more}
 use Rattle.formats.specs.Model.{Component, hasEvent}
 use Rattle.formats.specs.Locations.{locationCount}
-use Rattle.formats.specs.Joint.{scopeMask, moverCount, countUp}
-use Rattle.formats.specs.JointTotals.{labelled, choices, togetherTotal, silentTotal, eventTotal}
+use Rattle.formats.specs.Joint.{scopeMask, moverCount, countUp, joints}
+use Rattle.formats.specs.JointTotals.{sumOver, jointTotal, labelled, choices, togetherTotal, silentTotal, eventTotal}
 use Rattle.models.specs.Index.{entry, GoodIndex, componentsFrom}
 use Rattle.models.specs.Counts.{componentAt}
 use Rattle.formats.proofs.WellFormed.{GoodComponent}
 use Rattle.formats.proofs.JointCounts.{count-most}
-use Rattle.models.proofs.GoodIndexLaws.{components-back, components-end, good-components, few-components}
+use Rattle.formats.proofs.JointProduct.{countable, joints-total}
+use Rattle.models.proofs.GoodIndexLaws.{counted-at, components-back, components-end, good-components, few-components}
 use Rattle.joint_switches.proofs.JointLoops.{all-drop, componentsOn}
 use Rattle.joint_switches.proofs.TableLaws.{by-numbers}
 use Rattle.joint_switches.proofs.NumberedLaws.{labelled-few}
@@ -148,3 +149,12 @@ filled-whole f n xs long w =
   where
     start : (p : ℕ) → p ≡ 0 + p
     start p = omega arith
+
+-- all events, one after the other: what an array of their totals has at a number, and the law that their sum is how many there are
+pub total-at : (f : ℕ → ℕ) (totals : List ℕ) (e : ℕ) → totals ≡ map f (countUp 0 16) → e < 16 → getD totals e 0 ≡ f e
+total-at f totals e p h = ap (λ (xs : List ℕ). getD xs e 0) p ∙ counted-at f 16 e 0 h
+
+pub totals-summed : {s index : List ℕ} → GoodIndex s index → (e count : ℕ) → e ≡ 16 → count ≡ sumOver (eventTotal (componentsFrom s index)) (countUp 0 e) → count ≡ length (joints (componentsFrom s index))
+unfolding jointTotal
+totals-summed {s} {index} g e count whole h =
+    h ∙ ap (λ (n : ℕ). sumOver (eventTotal (componentsFrom s index)) (countUp 0 n)) whole ∙ sym (joints-total (countable (good-components g)))

@@ -9,7 +9,8 @@ use models::layout::Index;
 ghost use mathlib.Core.Path.{_≡_};
 ghost use mathlib.Core.List.{map};
 ghost use Prim.Native.Nat.{_≤_, _<_};
-ghost use Rattle.formats.specs.Joint.{countUp};
+ghost use lib.ListN.{length};
+ghost use Rattle.formats.specs.Joint.{countUp, joints};
 ghost use Rattle.formats.specs.JointTotals.{labelled, choices, togetherTotal, silentTotal, eventTotal};
 ghost use Rattle.models.specs.Index.{entry, GoodIndex, componentsFrom, componentsIn};
 ghost use Rattle.models.specs.Counts.{componentAt};
@@ -110,4 +111,19 @@ pub fn event_totals(s: &[u8], index: &Index) -> [u32; 16]
     let mut table = [0u8; LABELS_LENGTH];
     count_switches(s, index, 16, 0, &mut table);
     totals_by(s, index, &table)
+}
+
+// How many joint switches there are: those of all events.
+pub fn joint_total(s: &[u8], index: &Index, totals: [u32; 16]) -> u32
+    requires { ⌜ GoodIndex (now s) (now index) ⌝ }
+    requires { ⌜ totals ≡ map (eventTotal (componentsFrom (now s) (now index))) (countUp 0 16) ⌝ }
+    ensures { λ r. ⌜ r ≡ length (joints (componentsFrom (now (s .entry)) (now (index .entry)))) ⌝ }
+{
+    let mut count: u32 = 0;
+    let mut e: usize = 0;
+    while e < 16 {
+        count += totals[e];
+        e += 1;
+    }
+    count
 }

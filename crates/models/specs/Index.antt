@@ -261,6 +261,11 @@ partsFrom s n c conditions index =
 pub record Kept (from until : ℕ) (before after : List ℕ) : Type 0 where
   pub kept : (i : ℕ) → (from ≤ i → i < until → ⊥) → entry after i ≡ entry before i
 
+-- two indices say the same of a sheet: all but what is counted is equal
+pub record SameSheet (before after : List ℕ) : Type 0 where
+  pub front : (i : ℕ) → i < firstOwner + 8 → entry after i ≡ entry before i
+  pub body : (i : ℕ) → firstBlock ≤ i → i < firstTotal → entry after i ≡ entry before i
+
 -- a sheet of a right length, and an index with all its numbers
 pub record Sized (s index : List ℕ) : Type 0 where
   pub short : length s ≤ 32768
