@@ -2,7 +2,7 @@
 use mathlib.Core.Path.{_≡_, refl, sym, ap, ap₂, _∙_}
 use mathlib.Core.Bool.{Bool, true, false, cond}
 use mathlib.Core.List.{List, [], _∷_, _++_, map}
-use Prim.Native.Nat.{ℕ, zero, suc, _+_, _*_, _≤_, _<_}
+use Prim.Native.Nat.{ℕ, zero, suc, _+_, _*_, _-_, _≤_, _<_}
 use native.Mathlib.Decide.{ℕ-discrete}
 use native.Mathlib.Nat.{add-assoc, zero-mul, suc-mul}
 use native.Mathlib.Numerals.{add-one}
@@ -213,3 +213,12 @@ sum-part f i (suc n) k a b = go (ℕ-discrete i k) (λ l. sum-part f (suc i) n k
     go : Dec (i ≡ k) → (suc i ≤ k → f k ≤ sumOver f (countUp (suc i) n)) → f k ≤ f i + sumOver f (countUp (suc i) n)
     go (yes e) later = omega (arith, ap f e)
     go (no d) later = omega (arith, later (omega (arith, d)))
+
+-- nor is what comes first
+pub sum-first : (f : ℕ → ℕ) (m n : ℕ) → m ≤ n → sumOver f (countUp 0 m) ≤ sumOver f (countUp 0 n)
+sum-first f m n h =
+    let all = ap (λ (k : ℕ). sumOver f (countUp 0 k)) (parted m n h) ∙ sum-split f 0 m (n - m) in
+    omega (arith, all)
+  where
+    parted : (m n : ℕ) → m ≤ n → n ≡ m + (n - m)
+    parted m n h = omega arith

@@ -15,6 +15,7 @@ use Rattle.formats.specs.JointTotals.{sumOver, togetherTotal, eventTotal, enter
 use Rattle.models.specs.Index.{entry, GoodIndex, componentsFrom}
 use Rattle.models.specs.Counts.{componentAt, perComponent}
 use Rattle.formats.proofs.WellFormed.{GoodComponent}
+use Rattle.formats.proofs.SumLaws.{sum-most}
 use Rattle.models.proofs.GoodIndexLaws.{components-back, components-end, few-components}
 use Rattle.joint_switches.proofs.JointLoops.{componentsOn, numbersOn, per-component-back}
 use Rattle.joint_switches.proofs.NumberedLaws.{entering-few}
@@ -79,6 +80,11 @@ module _ {s index : List ℕ} (g : GoodIndex s index) (modes : List ℕ) (long :
   unfolding eventInto
   event-few zero = omega (arith, silent-few 0)
   event-few (suc e) = few-or-none (eqb (moverCount (componentsFrom s index) (suc e)) 0) (togetherInto (componentsFrom s index) (perComponent index modes) (suc e)) 1048576 (together-few (suc e) 0)
+
+  -- all events
+  pub into-few : jointsInto (componentsFrom s index) (perComponent index modes) ≤ 16777216
+  unfolding jointsInto
+  into-few = sum-most (eventInto (componentsFrom s index) (perComponent index modes)) 1048576 event-few 16
 
 -- event 0 alone
 pub event-starts : (components : List Component) (modes : List ℕ) (count : ℕ) → count ≡ silentInto components modes → count ≡ sumOver (eventInto components modes) (countUp 0 1)

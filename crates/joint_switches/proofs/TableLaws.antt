@@ -1,7 +1,7 @@
 -- Tables with a part for each component: blank ones, one more at a place, lists by their numbers, and the places of a switch and of the
 -- modes of a location. Assumes nothing.
 use mathlib.Core.Path.{_≡_, refl, sym, ap, ap₂, _∙_}
-use mathlib.Core.List.{List, [], _∷_, _++_, map}
+use mathlib.Core.List.{List, [], _∷_, map}
 use Prim.Native.Nat.{ℕ, zero, suc, _+_, _*_, _≤_, _<_}
 use native.Mathlib.Nat.{lt-irrefl}
 use native.Mathlib.Omega.{arith}
@@ -18,7 +18,6 @@ use Rattle.formats.proofs.WellFormed.{GoodComponent, GoodSwitch}
 use Rattle.formats.proofs.Members.{all-below}
 use Rattle.formats.proofs.Locations.{Modes, no-modes, mode-and, HaveModes, modes-at}
 use Rattle.models.proofs.GoodIndexLaws.{components-length, switch-length, switch-at, good-component, good-components}
-use Rattle.joint_switches.proofs.JointLoops.{per-component-modes}
 
 -- a table of zeros
 zero-at : (n p : ℕ) → getD {A = ℕ} (replicate n 0) p 0 ≡ 0
@@ -98,6 +97,3 @@ small-present {s} {index} location modes g h e = record {
       let same : getD modes k 0 ≡ getD (modesAt (componentsFrom s index) location) k 0 = sym (getD-take (entry index 1) modes k 0 l) ∙ ap (λ (ms : List ℕ). getD ms k 0) e in
       rw same (mode-small all (modes-at (have-modes all) location h) k (omega (arith, components-length s index)));
 }
-
-pub small-modes : {s index : List ℕ} (location : ℕ) (modes rest : List ℕ) → GoodIndex s index → location < locationCount (componentsFrom s index) → modes ≡ modesAt (componentsFrom s index) location ++ rest → SmallModes index modes
-small-modes {s} {index} location modes rest g h e = small-present location modes g h (per-component-modes s index location modes rest e)

@@ -68,13 +68,17 @@ few-locations limits s m next e =
     (λ t. gives-then _ (gives-give m (leb-true (locationCount (m .components)) (limits .locations) t)))))))
     .holds s 0 m next e
 
+pub few-read : (model index : List ℕ) (next : ℕ) → readModel examLimits model ≡ got (modelFrom model index) next → locationCount (componentsFrom model index) ≤ 64
+unfolding examLimits modelFrom
+few-read model index next e = few-locations examLimits model (modelFrom model index) next e
+
 pub accepted : (model index : List ℕ) (next : ℕ) → readModel examLimits model ≡ got (modelFrom model index) next → Counted model index → Accepted model index
 unfolding examLimits modelFrom
 accepted model index next e counted =
     record {
       good = index-good examLimits model index next e;
       short = model-short examLimits model (modelFrom model index) next e;
-      few = few-locations examLimits model (modelFrom model index) next e;
+      few = few-read model index next e;
       joined = few-joints examLimits model (modelFrom model index) next e;
       counted = counted;
     }

@@ -18,7 +18,7 @@ use Rattle.formats.proofs.JointProduct.{countable, joined-length}
 use Rattle.formats.proofs.JointsInto.{joints-into}
 
 -- one obligation per row
-per-row : (kind : Kind) (subject : ℕ) (hypotheses : List Hypothesis) (put : Row → Row) (line : ℕ) (region : Condition) → length (perRow kind subject hypotheses put line region) ≡ length region
+pub per-row : (kind : Kind) (subject : ℕ) (hypotheses : List Hypothesis) (put : Row → Row) (line : ℕ) (region : Condition) → length (perRow kind subject hypotheses put line region) ≡ length region
 unfolding perRow
 per-row kind subject hypotheses put line [] = refl
 per-row kind subject hypotheses put line (r ∷ region) = omega (arith, per-row kind subject hypotheses put (suc line) region)
