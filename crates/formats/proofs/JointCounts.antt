@@ -147,7 +147,7 @@ parts-step : (b : Bool) (numbers : List ℕ) → length numbers ≤ 32 → lengt
 parts-step true numbers h = h
 parts-step false numbers h = omega arith
 
-parts-few : (c : Component) (mode e : ℕ) → length (c .switches) ≤ 32 → length (parts c mode e) ≤ 32
+pub parts-few : (c : Component) (mode e : ℕ) → length (c .switches) ≤ 32 → length (parts c mode e) ≤ 32
 unfolding parts
 parts-few c mode e h = parts-step (hasEvent (c .alphabet) e) (leaving c mode e) (le-trans (leaving-few c mode e) h)
 
@@ -174,6 +174,15 @@ together-some (c ∷ components) [] e (suc k) h = absurd (omega arith)
 together-some (c ∷ components) (mode ∷ modes) e (suc k) h =
     together-some components modes e k
     (right-positive (length (parts c mode e)) (length (together components modes e)) (rw together-length at h))
+
+-- none where the later components have none
+zero-too : (n m : ℕ) → (0 < n → 0 < m) → 0 ≡ m → n ≡ 0
+zero-too zero m f h = refl
+zero-too (suc n) m f h = absurd (omega (arith, f (omega arith)))
+
+pub none-later : (components : List Component) (modes : List ℕ) (e k : ℕ) → 0 ≡ length (together (drop k components) (drop k modes) e) → 0 ≡ length (together components modes e)
+none-later components modes e k p =
+    sym (zero-too (length (together components modes e)) (length (together (drop k components) (drop k modes) e)) (together-some components modes e k) p)
 
 -- which one has a number
 pub mapped-at : {A B : Type 0} (f : A → B) (xs : List A) (i : ℕ) (a : A) (b : B) → i < length xs → getD (map f xs) i b ≡ f (getD xs i a)

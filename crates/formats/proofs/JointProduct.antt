@@ -14,7 +14,7 @@ use Rattle.farkas.specs.Lists.{All, none, more}
 use Rattle.formats.specs.Model.{Switch, Component, Model, hasEvent}
 use Rattle.formats.specs.Locations.{locationCount, modesAt}
 use Rattle.formats.specs.Joint.{stays, switchOf, leaves, bit, moverCount, leaving, silent, together, switchesOf, countUp, joinAll, jointsOf, joints}
-use Rattle.formats.specs.Parts.{parts}
+use Rattle.formats.specs.Parts.{parts, modeAfter}
 use Rattle.formats.proofs.Locations.{HaveModes}
 use Rattle.formats.proofs.WellFormed.{GoodSwitch, GoodComponent, WellFormed}
 use Rattle.formats.proofs.JointCounts.{silent-length, together-length, event-length}
@@ -94,10 +94,6 @@ each-target modes e g (more {a = w} {xs = switches} r rest) =
   where
     apart : (a b v : ℕ) → (a + b) * v ≡ a * v + b * v
     apart a b v = omega arith
-
--- a component's mode after its part of a joint switch
-unfoldable pub modeAfter : Component → ℕ → ℕ → ℕ
-modeAfter c mode i = cond (eqb i stays) mode (switchOf c i .target)
 
 leaving-sum : (c : Component) → Countable c → (mode e : ℕ) (g : ℕ → ℕ) → sumOver (λ i. g (modeAfter c mode i)) (leaving c mode e) ≡ sumOver (λ w. bit (leaves mode e w) * g (w .target)) (c .switches)
 unfolding leaving switchOf modeAfter

@@ -12,17 +12,17 @@ use Rattle.farkas.specs.Lists.{All, none, more}
 use Rattle.formats.specs.Model.{Switch, Component, hasEvent}
 use Rattle.formats.specs.Locations.{locationCount, modesAt, locationOf}
 use Rattle.formats.specs.Joint.{stays, bit, moverCount, leaving, allStaying, silent, inFront, together, switchesOf, modesAfter, countUp, joinAll, JointSwitch, jointsOf, joints}
-use Rattle.formats.specs.Parts.{parts}
+use Rattle.formats.specs.Parts.{parts, modeAfter}
 use Rattle.formats.proofs.Locations.{Modes, no-modes, mode-and, modes-at, number-of}
 use Rattle.formats.specs.JointTotals.{sumOver, labelled, choices, togetherTotal, eventTotal, entering, arrivals, togetherInto, silentInto, eventInto, jointsInto}
 use Rattle.formats.proofs.SumLaws.{sum-append, sum-same, sum-plus, sum-before, sum-map, sum-joined, sum-swap, sum-below}
-use Rattle.formats.proofs.JointProduct.{Countable, have-modes, sum-locations, modeAfter, leaving-modes, parts-modes}
+use Rattle.formats.proofs.JointProduct.{Countable, have-modes, sum-locations, leaving-modes, parts-modes}
 
 -- the location that a joint switch leads into
 unfoldable pub targetOf : List Component → List ℕ → List ℕ → ℕ
 targetOf components modes switches = locationOf components (modesAfter components modes switches)
 
-target-step : (c : Component) (components : List Component) (mode : ℕ) (modes : List ℕ) (i : ℕ) (switches : List ℕ) → targetOf (c ∷ components) (mode ∷ modes) (i ∷ switches) ≡ modeAfter c mode i * locationCount components + targetOf components modes switches
+pub target-step : (c : Component) (components : List Component) (mode : ℕ) (modes : List ℕ) (i : ℕ) (switches : List ℕ) → targetOf (c ∷ components) (mode ∷ modes) (i ∷ switches) ≡ modeAfter c mode i * locationCount components + targetOf components modes switches
 unfolding targetOf locationOf modesAfter modeAfter
 target-step c components mode modes i switches = refl
 
@@ -93,7 +93,7 @@ together-into (more {a = c} {xs = components} r rest) e w =
     turned x y z = sym (mul-assoc x y z) ∙ ap (λ (k : ℕ). k * z) (mul-comm x y) ∙ mul-assoc y x z
 
 -- event 0: the others stay, so their location is the same
-staying-after : {components : List Component} {modes : List ℕ} → Modes components modes → modesAfter components modes (allStaying components) ≡ modes
+pub staying-after : {components : List Component} {modes : List ℕ} → Modes components modes → modesAfter components modes (allStaying components) ≡ modes
 unfolding modesAfter allStaying stays
 staying-after no-modes = refl
 staying-after (mode-and {mode = mode} h rest) = ap (λ (xs : List ℕ). mode ∷ xs) (staying-after rest)
@@ -108,7 +108,7 @@ silent-into-none : (w : ℕ → ℕ) → sumOver (λ l. sumOver (λ switches. w 
 unfolding silent silentInto locationCount countUp sumOver
 silent-into-none w = omega arith
 
-stays-after : (c : Component) (mode : ℕ) → modeAfter c mode stays ≡ mode
+pub stays-after : (c : Component) (mode : ℕ) → modeAfter c mode stays ≡ mode
 unfolding modeAfter stays
 stays-after c mode = refl
 

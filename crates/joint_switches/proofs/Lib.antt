@@ -5,3 +5,7 @@ pub mod WaysLaws
 pub mod NumberedLaws
 pub mod TotalLaws
 pub mod IntoLaws
+pub mod LineLaws
+pub mod DigitLaws
+pub mod SlotLaws
+pub mod SilentLaws

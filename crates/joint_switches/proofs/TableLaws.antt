@@ -12,12 +12,12 @@ use Rattle.formats.specs.Model.{Component}
 use Rattle.formats.specs.Locations.{locationCount, modesAt}
 use Rattle.formats.specs.Joint.{switchOf, countUp}
 use Rattle.models.specs.Index.{entry, componentPlace, switchPlace, switchFrom, componentsFrom, GoodIndex}
-use Rattle.models.specs.Counts.{componentAt, perComponent}
+use Rattle.models.specs.Counts.{componentAt, perComponent, KnownModes}
 use Rattle.joint_switches.specs.Tables.{Blank, SmallModes}
 use Rattle.formats.proofs.WellFormed.{GoodComponent, GoodSwitch}
 use Rattle.formats.proofs.Members.{all-below}
 use Rattle.formats.proofs.Locations.{Modes, no-modes, mode-and, HaveModes, modes-at}
-use Rattle.models.proofs.GoodIndexLaws.{components-length, switch-length, switch-at, good-component, good-components}
+use Rattle.models.proofs.GoodIndexLaws.{components-length, component-at, mode-length, switch-length, switch-at, good-component, good-components}
 
 -- a table of zeros
 zero-at : (n p : ℕ) → getD {A = ℕ} (replicate n 0) p 0 ≡ 0
@@ -79,21 +79,26 @@ module _ {s index : List ℕ} (g : GoodIndex s index) (k i : ℕ) (h : k < entry
   pub switch-within : i < 32
   switch-within = omega (arith, good-component g k h .few)
 
--- the modes of a location are within the table
-have-modes : {n : ℕ} {components : List Component} → All (GoodComponent n) components → HaveModes components
+-- the modes of a location are modes of their components, so they are within the tables
+pub have-modes : {n : ℕ} {components : List Component} → All (GoodComponent n) components → HaveModes components
 have-modes none = none
 have-modes (more g rest) = more (g .least) (have-modes rest)
 
-mode-small : {n : ℕ} {components : List Component} {modes : List ℕ} → All (GoodComponent n) components → Modes components modes → (k : ℕ) → k < length components → getD modes k 0 < 8
-mode-small none no-modes k h = absurd (omega arith)
-mode-small (more g rest) (mode-and l others) zero h = omega (arith, g .most)
-mode-small (more g rest) (mode-and l others) (suc k) h = mode-small rest others k (omega arith)
+mode-below : {components : List Component} {modes : List ℕ} → Modes components modes → (k : ℕ) (d : Component) → k < length components → getD modes k 0 < length (getD components k d .modes)
+mode-below no-modes k d h = absurd (omega arith)
+mode-below (mode-and l rest) zero d h = l
+mode-below (mode-and l rest) (suc k) d h = mode-below rest k d (omega arith)
+
+pub known-present : {model index : List ℕ} (location : ℕ) (modes : List ℕ) → GoodIndex model index → location < locationCount (componentsFrom model index) → perComponent index modes ≡ modesAt (componentsFrom model index) location → KnownModes index modes
+unfolding perComponent
+known-present {model} {index} location modes g h e = record {
+  known = λ k l.
+      let c = componentAt model index k in
+      let components = componentsFrom model index in
+      let below = mode-below (modes-at (have-modes (good-components g)) location h) k c (omega (arith, components-length model index)) in
+      let same : getD modes k 0 ≡ getD (modesAt components location) k 0 = sym (getD-take (entry index 1) modes k 0 l) ∙ ap (λ (ms : List ℕ). getD ms k 0) e in
+      rw same (omega (arith, below, ap (λ (c : Component). length (c .modes)) (component-at model index k c l), mode-length model index k));
+}
 
 pub small-present : {s index : List ℕ} (location : ℕ) (modes : List ℕ) → GoodIndex s index → location < locationCount (componentsFrom s index) → perComponent index modes ≡ modesAt (componentsFrom s index) location → SmallModes index modes
-unfolding perComponent
-small-present {s} {index} location modes g h e = record {
-  small = λ k l.
-      let all = good-components g in
-      let same : getD modes k 0 ≡ getD (modesAt (componentsFrom s index) location) k 0 = sym (getD-take (entry index 1) modes k 0 l) ∙ ap (λ (ms : List ℕ). getD ms k 0) e in
-      rw same (mode-small all (modes-at (have-modes all) location h) k (omega (arith, components-length s index)));
-}
+small-present location modes g h e = record { small = λ k l. omega (arith, known-present location modes g h e .known k l, g .blocks k l .most) }

@@ -2,22 +2,21 @@
 use mathlib.Core.Path.{_≡_, refl, sym, ap, _∙_}
 use mathlib.Core.Bool.{cond, _&&_}
 use mathlib.Core.List.{List, map}
-use Prim.Native.Nat.{ℕ, zero, suc, _+_, _*_, _/_, _%_, _≤_, _<_}
+use Prim.Native.Nat.{ℕ, _+_, _*_, _/_, _%_, _≤_, _<_}
 use native.Mathlib.Decide.{ℕ-discrete, decLe}
 use native.Mathlib.Omega.{arith}
 use borrow.Author.Count.{below-more}
 use borrow.Author.Tests.{eq-eqb, ne-eqb, lt-ltb, le-ltb}
 use lib.Dec.{eqb}
-use lib.ListN.{length, getD, drop, set}
+use lib.ListN.{length, getD, set}
 use Rattle.farkas.specs.Lists.{none, more}
-use Rattle.formats.specs.Model.{Component}
-use Rattle.formats.specs.Joint.{switchOf, leaves, bit, leaving, together, countUp}
+use Rattle.formats.specs.Joint.{switchOf, leaves, bit, leaving, countUp}
 use Rattle.models.specs.Index.{entry, componentPlace, switchPlace, switchFrom, GoodIndex, Kept}
 use Rattle.models.specs.Counts.{componentAt}
 use Rattle.joint_switches.specs.Tally.{tallyPlace, tallyNumber, tallyOf, TalliedAt, Tallied}
 use Rattle.joint_switches.specs.Tables.{Blank}
 use Rattle.models.proofs.GoodIndexLaws.{switch-length, switch-at, good-component}
-use Rattle.formats.proofs.JointCounts.{leaving-few, leavingFrom, leaving-all, leaving-none, leaving-count, together-some}
+use Rattle.formats.proofs.JointCounts.{leaving-few, leavingFrom, leaving-all, leaving-none, leaving-count}
 use Rattle.joint_switches.proofs.TableLaws.{by-numbers, good-switch, label-small, raised-here, raised-other}
 
 -- the whole tally
@@ -125,12 +124,3 @@ blank-later k w b = record { blank = λ p h. w .kept p (λ x y. omega arith) ∙
 
 pub tally-goes-on : {s index before after : List ℕ} (k : ℕ) → Kept (128 * k) (128 * k + 128) before after → TalliedAt s index k after → ((j : ℕ) → j < k → TalliedAt s index j before) → (j : ℕ) → j < k + 1 → TalliedAt s index j after
 tally-goes-on {s} {index} {before} {after} k w here all = below-more (λ j. TalliedAt s index j after) k (λ j h. tallied-kept k j h w (all j h)) here
-
--- none where the later components have none
-zero-too : (n m : ℕ) → (0 < n → 0 < m) → 0 ≡ m → n ≡ 0
-zero-too zero m f h = refl
-zero-too (suc n) m f h = absurd (omega (arith, f (omega arith)))
-
-pub none-later : (components : List Component) (modes : List ℕ) (e k : ℕ) → 0 ≡ length (together (drop k components) (drop k modes) e) → 0 ≡ length (together components modes e)
-none-later components modes e k p =
-    sym (zero-too (length (together components modes e)) (length (together (drop k components) (drop k modes) e)) (together-some components modes e k) p)

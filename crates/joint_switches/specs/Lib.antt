@@ -3,3 +3,4 @@ pub mod Tally
 pub mod Ways
 pub mod Numbered
 pub mod Counted
+pub mod Slots
