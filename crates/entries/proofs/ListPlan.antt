@@ -19,7 +19,8 @@ use Rattle.rules.specs.declared.Joint.{Joint}
 use Rattle.rules.specs.Marking.{answer, withModel}
 use Rattle.rules.specs.Beside.{recordOf, listAnswer, filled, tableAfter}
 use Rattle.joint_lists.specs.Records.{recordsFrom, IndexOf}
-use Rattle.papers.proofs.PaperLaws.{accepted}
+use Rattle.models.proofs.GoodIndexLaws.{index-good}
+use Rattle.papers.proofs.PaperLaws.{few-read}
 use Rattle.joint_lists.proofs.RecordLaws.{whole-list, index-model}
 
 -- how many records are written, which, and what the table is afterwards
@@ -65,8 +66,8 @@ module _ (model index : List ℕ) (table : List Joint) (indexed : IndexOf model 
           records = map recordOf (joints (m .components));
           whole = length-map (joints (m .components)) recordOf;
           fits = leb-true (length (joints (m .components))) (length table) t;
-          good = λ h. accepted model index next read .good;
-          few = λ h. accepted model index next read .few;
+          good = λ h. index-good examLimits model index next read;
+          few = λ h. few-read model index next read;
           starts = λ h. records-read;
           after = after-read ∙ ap (λ (b : Bool). elim b [ true ↦ map recordOf (joints (m .components)) ++ drop (length (joints (m .components))) table | false ↦ table ]) t;
         }

@@ -3,9 +3,9 @@
 use mathlib.Core.Path.{_≡_, refl, sym, ap, _∙_}
 use mathlib.Core.Bool.{Bool, true, false, cond}
 use mathlib.Core.List.{List, [], _∷_, _++_, map, append-nil}
-use Prim.Native.Nat.{ℕ, zero, suc, _+_, _*_, _-_, _/_, _%_, _^_, _≤_, _<_, min}
+use Prim.Native.Nat.{ℕ, zero, suc, _+_, _*_, _-_, _/_, _%_, _^_, _≤_, _<_}
 use native.Mathlib.Decide.{decLe}
-use native.Mathlib.Nat.{min-le-left, min-le-right, min-eq-left, min-eq-right, le-trans, mod-lt, mod-eq-of-lt, mod-eq-sub-mod, div-eq-of-lt, div-eq-sub-div, mul-pos, mul-le-mul, pow-succ', two-pow-succ, add-comm, mul-comm, zero-mul, mul-zero, suc-mul}
+use native.Mathlib.Nat.{le-trans, mod-lt, mod-eq-of-lt, mod-eq-sub-mod, div-eq-of-lt, div-eq-sub-div, mul-pos, mul-le-mul, pow-succ', two-pow-succ, add-comm, mul-comm, zero-mul, mul-zero, suc-mul}
 use native.Mathlib.Numerals.{add-one}
 use native.Mathlib.Omega.{arith}
 use lib.Arith.{mod-mul, digits-div, digits-mod}
@@ -17,7 +17,7 @@ use lib.Seq.{drop-cons, getD-append-add}
 use Rattle.farkas.specs.Lists.{All, none, more}
 use Rattle.formats.specs.Model.{Component, hasEvent}
 use Rattle.formats.specs.Locations.{locationCount, modesAt}
-use Rattle.formats.specs.Joint.{stays, switchOf, leaves, bit, scopeMask, moverCount, numbersFrom, leaving, allStaying, silent, inFront, together, switchesOf, countUp, joinAll, JointSwitch, jointsOf, joints}
+use Rattle.formats.specs.Joint.{stays, switchOf, leaves, bit, scopeMask, moverCount, numbersFrom, leaving, allStaying, silent, inFront, together, switchesOf, countUp, joinAll, JointSwitch, jointsOf}
 use Rattle.formats.specs.Parts.{parts, memberCount}
 
 -- few modes each, few locations
@@ -147,7 +147,7 @@ parts-step : (b : Bool) (numbers : List ℕ) → length numbers ≤ 32 → lengt
 parts-step true numbers h = h
 parts-step false numbers h = omega arith
 
-parts-few : (c : Component) (mode e : ℕ) → length (c .switches) ≤ 32 → length (parts c mode e) ≤ 32
+pub parts-few : (c : Component) (mode e : ℕ) → length (c .switches) ≤ 32 → length (parts c mode e) ≤ 32
 unfolding parts
 parts-few c mode e h = parts-step (hasEvent (c .alphabet) e) (leaving c mode e) (le-trans (leaving-few c mode e) h)
 
@@ -174,6 +174,15 @@ together-some (c ∷ components) [] e (suc k) h = absurd (omega arith)
 together-some (c ∷ components) (mode ∷ modes) e (suc k) h =
     together-some components modes e k
     (right-positive (length (parts c mode e)) (length (together components modes e)) (rw together-length at h))
+
+-- none where the later components have none
+zero-too : (n m : ℕ) → (0 < n → 0 < m) → 0 ≡ m → n ≡ 0
+zero-too zero m f h = refl
+zero-too (suc n) m f h = absurd (omega (arith, f (omega arith)))
+
+pub none-later : (components : List Component) (modes : List ℕ) (e k : ℕ) → 0 ≡ length (together (drop k components) (drop k modes) e) → 0 ≡ length (together components modes e)
+none-later components modes e k p =
+    sym (zero-too (length (together components modes e)) (length (together (drop k components) (drop k modes) e)) (together-some components modes e k) p)
 
 -- which one has a number
 pub mapped-at : {A B : Type 0} (f : A → B) (xs : List A) (i : ℕ) (a : A) (b : B) → i < length xs → getD (map f xs) i b ≡ f (getD xs i a)
@@ -290,28 +299,6 @@ jointsIn components location = joinAll (jointsOf components location) (countUp 0
 pub location-length : (components : List Component) (location : ℕ) → length (jointsIn components location) ≡ length (joinAll (switchesOf components (modesAt components location)) (countUp 0 16))
 location-length components location =
     joined-same (jointsOf components location) (switchesOf components (modesAt components location)) (countUp 0 16) (event-length components location)
-
-pub joints-start : (components : List Component) (locations : ℕ) → locations ≡ locationCount components → length (joinAll (jointsIn components) (countUp 0 (locations - 0))) ≡ length (joints components)
-unfolding joints
-joints-start components locations h = ap (λ (n : ℕ). length (joinAll (jointsIn components) (countUp 0 n))) (whole locations ∙ h)
-  where
-    whole : (n : ℕ) → n - 0 ≡ n
-    whole n = omega arith
-
--- a count up to one above a limit: while it is at most the limit, it is the count
-pub limited : (n limit : ℕ) {count : ℕ} → count ≡ min n (limit + 1) → count ≤ limit → count ≡ n
-limited n limit {count} p h = go (decLe n (limit + 1))
-  where
-    go : Dec (n ≤ limit + 1) → count ≡ n
-    go (yes l) = p ∙ min-eq-left l
-    go (no f) = let l : limit + 1 ≤ n = omega arith in absurd (omega (arith, p, min-eq-right l))
-
-pub over-limit : (n limit : ℕ) {count all : ℕ} → count ≡ min n (limit + 1) → limit < count → n ≤ all → count ≡ min all (limit + 1)
-over-limit n limit {count} {all} p h l =
-    let a = min-le-left n (limit + 1) in
-    let b = min-le-right n (limit + 1) in
-    let e : count ≡ limit + 1 = omega arith in
-    e ∙ sym (min-eq-right (omega arith))
 
 -- of the numbers from one on, up to another: the first, then the rest
 one-less : (i n : ℕ) → i < n → n - i ≡ suc (n - (i + 1))

@@ -7,5 +7,8 @@ pub mod Joint
 pub mod JointOrder
 pub mod JointList
 pub mod JointCounts
+pub mod SumLaws
+pub mod JointProduct
+pub mod JointsInto
 pub mod RowPlaces
 pub mod Placed

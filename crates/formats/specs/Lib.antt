@@ -4,6 +4,7 @@ pub mod Model
 pub mod Locations
 pub mod Joint
 pub mod Parts
+pub mod JointTotals
 pub mod ModelSheet
 pub mod Certificate
 pub mod RunSheet

@@ -1,11 +1,9 @@
--- The joint list's answer by cases: the count of joint switches is exact where there are few; and how the model's reading makes the
--- answer. Assumes nothing.
+-- The joint list's answer by cases, and how the model's reading makes the answer. Assumes nothing.
 use mathlib.Core.Path.{_≡_, sym, ap, _∙_}
 use mathlib.Core.Bool.{cond}
 use mathlib.Core.List.{List}
-use Prim.Native.Nat.{ℕ, _+_, _≤_, _<_, min}
+use Prim.Native.Nat.{ℕ, _≤_, _<_}
 use native.Mathlib.Omega.{arith}
-use native.Mathlib.Nat.{min-eq-left}
 use lib.Dec.{leb}
 use lib.ListN.{length}
 use borrow.Author.Tests.{le-leb, lt-leb}
@@ -18,10 +16,7 @@ use Rattle.rules.specs.Beside.{listAnswer}
 use Rattle.joint_lists.specs.Records.{listOf}
 
 -- The answer on a model that was read, by its count
-module _ (components : List Component) (size lent count : ℕ) (counted : count ≡ min (length (joints components)) (4096 + 1)) (few : length (joints components) ≤ 4096) where
-  exact : count ≡ length (joints components)
-  exact = counted ∙ min-eq-left (omega arith)
-
+module _ (components : List Component) (size lent count : ℕ) (exact : count ≡ length (joints components)) where
   pub list-fits : count ≤ lent → answer 0 0 size count 0 ≡ listOf components size lent
   unfolding listOf
   list-fits h =

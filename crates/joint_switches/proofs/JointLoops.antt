@@ -14,7 +14,7 @@ use lib.Seq.{drop-cons, getD-take, take-at, take-take, length-take-le}
 use Rattle.farkas.specs.Lists.{All, none, more}
 use Rattle.formats.specs.Model.{Component, hasEvent}
 use Rattle.formats.specs.Locations.{locationCount, modesAt, locationOf}
-use Rattle.formats.specs.Joint.{stays, switchOf, bit, scopeMask, moverCount, isJoint, modesAfter, leaving, allStaying, silent, together, switchesOf, countUp, joinAll, JointSwitch, jointsOf, joints, fourSwitches, jointFrom}
+use Rattle.formats.specs.Joint.{stays, switchOf, bit, scopeMask, moverCount, isJoint, modesAfter, leaving, allStaying, silent, together, switchesOf, countUp, JointSwitch, jointsOf, joints, fourSwitches, jointFrom}
 use Rattle.models.specs.Index.{entry, componentsFrom, GoodIndex}
 use Rattle.models.specs.Counts.{componentAt, perComponent, KnownSwitches}
 use Rattle.formats.specs.Parts.{parts}
@@ -24,20 +24,20 @@ use Rattle.formats.proofs.Members.{in-map, in-joined, in-count}
 use Rattle.formats.proofs.Joint.{Known, no-numbers, number-and}
 use Rattle.formats.proofs.JointList.{listed-joint}
 use Rattle.models.proofs.GoodIndexLaws.{components-length, component-at, switch-length, components-drop, components-back, components-end, good-component, good-components, few-components}
-use Rattle.formats.proofs.JointCounts.{count-most, mask-below, silent-length, silent-most, together-length, together-most, left-positive, together-some, mapped-at, silent-now, silent-later, modes-digit, together-digit, jointsIn, location-length}
+use Rattle.formats.proofs.JointCounts.{count-most, mask-below, silent-length, silent-most, together-length, together-most, left-positive, together-some, mapped-at, silent-now, silent-later, modes-digit, together-digit, jointsIn}
 
 -- an array of four that is filled from its last number back, and the quotient that is left of a number whose digits are taken off
 fill-last : (d v k : ℕ) (rest : List ℕ) → set (replicate (suc k) d ++ rest) k v ≡ replicate k d ++ (v ∷ rest)
 fill-last d v zero rest = refl
 fill-last d v (suc k) rest = ap (λ xs. d ∷ xs) (fill-last d v k rest)
 
-fill-back : (d v k : ℕ) (rest : List ℕ) → 0 < k → set (replicate k d ++ rest) (k - 1) v ≡ replicate (k - 1) d ++ (v ∷ rest)
+pub fill-back : (d v k : ℕ) (rest : List ℕ) → 0 < k → set (replicate k d ++ rest) (k - 1) v ≡ replicate (k - 1) d ++ (v ∷ rest)
 fill-back d v k rest h = ap (λ (i : ℕ). set (replicate i d ++ rest) (k - 1) v) (back k h) ∙ fill-last d v (k - 1) rest
   where
     back : (k : ℕ) → 0 < k → k ≡ suc (k - 1)
     back k h = omega arith
 
-fill-none : (d k : ℕ) → k ≤ 4 → replicate 4 d ≡ replicate k d ++ replicate (4 - k) d
+pub fill-none : (d k : ℕ) → k ≤ 4 → replicate 4 d ≡ replicate k d ++ replicate (4 - k) d
 fill-none d k h = ap (λ (n : ℕ). replicate n d) (parted k h) ∙ sym (replicate-append-replicate k (4 - k) d)
   where
     parted : (k : ℕ) → k ≤ 4 → 4 ≡ k + (4 - k)
@@ -50,7 +50,7 @@ quotient-left x left n u p q = rw p (div-div-eq-div-mul x u n ∙ ap (λ (m : �
 abbrev pub filledTo : ℕ → List ℕ → List ℕ
 filledTo n switches = take n (switches ++ (stays ∷ stays ∷ stays ∷ stays ∷ []))
 
-padded-four : (switches : List ℕ) → filledTo 4 switches ≡ fourSwitches switches
+pub padded-four : (switches : List ℕ) → filledTo 4 switches ≡ fourSwitches switches
 unfolding fourSwitches
 padded-four switches = refl
 
@@ -59,10 +59,10 @@ take-some d zero m h = refl
 take-some d (suc n) zero h = absurd (omega arith)
 take-some d (suc n) (suc m) h = ap (λ xs. d ∷ xs) (take-some d n m (omega arith))
 
-padded-none : (n : ℕ) → n ≤ 4 → filledTo n [] ≡ replicate n stays
+pub padded-none : (n : ℕ) → n ≤ 4 → filledTo n [] ≡ replicate n stays
 padded-none n h = take-some stays n 4 h
 
-padded-more : (k v : ℕ) (switches : List ℕ) → 0 < k → k ≤ 4 → v ∷ filledTo (4 - k) switches ≡ filledTo (4 - (k - 1)) (v ∷ switches)
+pub padded-more : (k v : ℕ) (switches : List ℕ) → 0 < k → k ≤ 4 → v ∷ filledTo (4 - k) switches ≡ filledTo (4 - (k - 1)) (v ∷ switches)
 padded-more k v switches h l = ap (λ (n : ℕ). filledTo n (v ∷ switches)) (one-more k h l)
   where
     one-more : (k : ℕ) → 0 < k → k ≤ 4 → suc (4 - k) ≡ 4 - (k - 1)
@@ -79,7 +79,7 @@ take-one d v zero k m h l = absurd (omega arith)
 take-one d v (suc n) zero m h l = ap (λ xs. v ∷ xs) (take-some d n m (omega arith))
 take-one d v (suc n) (suc k) m h l = ap (λ xs. d ∷ xs) (take-one d v n k m (omega arith) (omega arith))
 
-alone-four : (k v : ℕ) (components : List Component) → k < 4 → fourSwitches (replicate k stays ++ (v ∷ allStaying components)) ≡ set (replicate 4 stays) k v
+pub alone-four : (k v : ℕ) (components : List Component) → k < 4 → fourSwitches (replicate k stays ++ (v ∷ allStaying components)) ≡ set (replicate 4 stays) k v
 unfolding fourSwitches
 alone-four k v components h =
     let m = length components in
@@ -88,14 +88,14 @@ alone-four k v components h =
     ∙ ap (λ xs. replicate k stays ++ (v ∷ xs)) (ap (λ xs. xs ++ replicate 4 stays) (staying-some components) ∙ replicate-append-replicate m 4 stays))
     ∙ take-one stays v 4 k (m + 4) h (omega arith)
 
-one-more-stays : (k : ℕ) (switches : List ℕ) → replicate (k + 1) stays ++ switches ≡ replicate k stays ++ (stays ∷ switches)
+pub one-more-stays : (k : ℕ) (switches : List ℕ) → replicate (k + 1) stays ++ switches ≡ replicate k stays ++ (stays ∷ switches)
 one-more-stays zero switches = refl
 one-more-stays (suc k) switches = ap (λ (n : ℕ). replicate n stays ++ switches) (plus-one k) ∙ ap (λ xs. stays ∷ xs) (one-more-stays k switches)
   where
     plus-one : (k : ℕ) → suc k + 1 ≡ suc (k + 1)
     plus-one k = omega arith
 
-nil-only : (n : ℕ) → getD {A = List ℕ} ([] ∷ []) n [] ≡ []
+pub nil-only : (n : ℕ) → getD {A = List ℕ} ([] ∷ []) n [] ≡ []
 nil-only zero = refl
 nil-only (suc n) = refl
 
@@ -104,7 +104,7 @@ few-or-none true xs h = omega arith
 few-or-none false xs h = h
 
 -- Over the components of an index, from the last to the first
-all-drop : {A : Type 0} {P : A → Type 0} {xs : List A} (k : ℕ) → All P xs → All P (drop k xs)
+pub all-drop : {A : Type 0} {P : A → Type 0} {xs : List A} (k : ℕ) → All P xs → All P (drop k xs)
 all-drop zero h = h
 all-drop (suc k) none = none
 all-drop (suc k) (more x rest) = all-drop k rest
@@ -168,11 +168,6 @@ unfolding perComponent
 per-component-modes s index location modes rest p =
     ap (take (entry index 1)) p
     ∙ take-at (modesAt (componentsFrom s index) location) rest (entry index 1) (modes-length (componentsFrom s index) location ∙ components-length s index)
-
-pub location-count : (s index : List ℕ) (location : ℕ) (modes rest : List ℕ) → modes ≡ modesAt (componentsFrom s index) location ++ rest → length (joinAll (switchesOf (componentsFrom s index) (perComponent index modes)) (countUp 0 16)) ≡ length (jointsIn (componentsFrom s index) location)
-location-count s index location modes rest p =
-    ap (λ ms. length (joinAll (switchesOf (componentsFrom s index) ms) (countUp 0 16))) (per-component-modes s index location modes rest p)
-    ∙ sym (location-length (componentsFrom s index) location)
 
 module _ {s index : List ℕ} (g : GoodIndex s index) where
   few-modes : (k : ℕ) → All (λ c. length (c .modes) ≤ 8) (componentsOn s index k)

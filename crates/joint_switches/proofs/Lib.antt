@@ -1,3 +1,11 @@
 pub mod JointLoops
+pub mod TableLaws
 pub mod TallyLaws
 pub mod WaysLaws
+pub mod NumberedLaws
+pub mod TotalLaws
+pub mod IntoLaws
+pub mod LineLaws
+pub mod DigitLaws
+pub mod SlotLaws
+pub mod SilentLaws

@@ -1,54 +1,23 @@
 -- A tally of switches: what the loops that make it keep up, and the counts of joint switches from it. Assumes nothing.
-use mathlib.Core.Path.{_≡_, refl, sym, ap, ap₂, _∙_}
+use mathlib.Core.Path.{_≡_, refl, sym, ap, _∙_}
 use mathlib.Core.Bool.{cond, _&&_}
-use mathlib.Core.List.{List, [], _∷_, _++_, map}
-use Prim.Native.Nat.{ℕ, zero, suc, _+_, _*_, _/_, _%_, _≤_, _<_}
-use native.Mathlib.Nat.{lt-irrefl}
+use mathlib.Core.List.{List, map}
+use Prim.Native.Nat.{ℕ, _+_, _*_, _/_, _%_, _≤_, _<_}
 use native.Mathlib.Decide.{ℕ-discrete, decLe}
 use native.Mathlib.Omega.{arith}
 use borrow.Author.Count.{below-more}
 use borrow.Author.Tests.{eq-eqb, ne-eqb, lt-ltb, le-ltb}
 use lib.Dec.{eqb}
-use lib.ListN.{length, getD, drop, set, replicate}
-use lib.Seq.{getD-set-same, getD-set-other, getD-take}
-use Rattle.farkas.specs.Lists.{All, none, more}
-use Rattle.formats.specs.Model.{Component}
-use Rattle.formats.specs.Locations.{locationCount, modesAt}
-use Rattle.formats.specs.Joint.{switchOf, leaves, bit, leaving, together, countUp}
-use Rattle.models.specs.Index.{entry, componentPlace, switchPlace, switchFrom, componentsFrom, GoodIndex, Kept}
-use Rattle.models.specs.Counts.{componentAt, perComponent}
-use Rattle.joint_switches.specs.Tally.{tallyPlace, tallyNumber, tallyOf, Blank, TalliedAt, Tallied, SmallModes}
-use Rattle.formats.proofs.WellFormed.{GoodComponent, GoodSwitch}
-use Rattle.formats.proofs.Members.{all-below}
-use Rattle.formats.proofs.Locations.{Modes, no-modes, mode-and, HaveModes, modes-at}
-use Rattle.models.proofs.GoodIndexLaws.{components-length, switch-length, switch-at, good-component, good-components}
-use Rattle.formats.proofs.JointCounts.{leaving-few, leavingFrom, leaving-all, leaving-none, leaving-count, together-some}
-use Rattle.joint_switches.proofs.JointLoops.{per-component-modes}
-
--- a table of zeros
-zero-at : (n p : ℕ) → getD {A = ℕ} (replicate n 0) p 0 ≡ 0
-zero-at zero p = refl
-zero-at (suc n) zero = refl
-zero-at (suc n) (suc p) = zero-at n p
-
-pub zeros-blank : (n : ℕ) → Blank 0 (replicate n 0)
-zeros-blank n = record { blank = λ p h. zero-at n p }
-
--- a list by its numbers
-pub by-numbers : (f : ℕ → ℕ) (xs : List ℕ) (i : ℕ) → ((p : ℕ) → p < length xs → getD xs p 0 ≡ f (i + p)) → xs ≡ map f (countUp i (length xs))
-unfolding countUp
-by-numbers f [] i h = refl
-by-numbers f (x ∷ xs) i h =
-    ap₂ _∷_ (h 0 (omega arith) ∙ ap f (nothing i)) (by-numbers f xs (suc i) (λ p l. h (suc p) (omega (arith, l)) ∙ ap f (one-later i p)))
-  where
-    nothing : (i : ℕ) → i + 0 ≡ i
-    nothing i = omega arith
-
-    one-later : (i p : ℕ) → i + suc p ≡ suc i + p
-    one-later i p = omega arith
-
-pub blank-after : (k v : ℕ) (xs : List ℕ) → Blank k xs → Blank (k + 1) (set xs k v)
-blank-after k v xs b = record { blank = λ p h. getD-set-other xs k p v 0 (λ e. lt-irrefl p (omega (arith, e, h))) ∙ b .blank p (omega (arith, h)) }
+use lib.ListN.{length, getD, set}
+use Rattle.farkas.specs.Lists.{none, more}
+use Rattle.formats.specs.Joint.{switchOf, leaves, bit, leaving, countUp}
+use Rattle.models.specs.Index.{entry, componentPlace, switchPlace, switchFrom, GoodIndex, Kept}
+use Rattle.models.specs.Counts.{componentAt}
+use Rattle.joint_switches.specs.Tally.{tallyPlace, tallyNumber, tallyOf, TalliedAt, Tallied}
+use Rattle.joint_switches.specs.Tables.{Blank}
+use Rattle.models.proofs.GoodIndexLaws.{switch-length, switch-at, good-component}
+use Rattle.formats.proofs.JointCounts.{leaving-few, leavingFrom, leaving-all, leaving-none, leaving-count}
+use Rattle.joint_switches.proofs.TableLaws.{by-numbers, good-switch, label-small, raised-here, raised-other}
 
 -- the whole tally
 pub tally-whole : (s index t : List ℕ) → length t ≡ 512 → Tallied s index t → Blank (128 * entry index 1) t → t ≡ tallyOf s index
@@ -72,42 +41,14 @@ tally-whole s index t long told rest = by-numbers (tallyNumber s index) t 0 (λ 
     at : (p : ℕ) → getD t p 0 ≡ tallyNumber s index (0 + p)
     at p = here p (decLe (entry index 1) (p / 128)) ∙ ap (tallyNumber s index) (start p)
 
--- a switch's mode and label are within the table
+-- a switch's source is within the table, and stands in the index
 module _ {s index : List ℕ} (g : GoodIndex s index) (k i : ℕ) (h : k < entry index 1) (l : i < length (componentAt s index k .switches)) where
-  good-switch : GoodSwitch (entry index 0) (length (componentAt s index k .modes)) (switchOf (componentAt s index k) i)
-  unfolding switchOf
-  good-switch = all-below (good-component g k h .switches) i _ l
-
   pub source-small : switchOf (componentAt s index k) i .source < 8
-  source-small = omega (arith, good-switch .source, good-component g k h .most)
+  source-small = omega (arith, good-switch g k i h l .source, good-component g k h .most)
 
-  pub label-small : switchOf (componentAt s index k) i .label ≤ 15
-  label-small = good-switch .label
-
-  -- they stand in the index
   pub source-at : entry index (16 + 219 * k + 59 + 5 * i) ≡ switchOf (componentAt s index k) i .source
   unfolding componentPlace switchPlace switchFrom
   source-at = sym (ap (λ w. w .source) (switch-at s index k i (omega (arith, switch-length s index k))))
-
-  pub label-at : entry index (16 + 219 * k + 59 + 5 * i + 2) ≡ switchOf (componentAt s index k) i .label
-  unfolding componentPlace switchPlace switchFrom
-  label-at = sym (ap (λ w. w .label) (switch-at s index k i (omega (arith, switch-length s index k))))
-
-  -- and the places of a switch are within the index
-  pub switch-within : i < 32
-  switch-within = omega (arith, good-component g k h .few)
-
--- one more at a place: there is one more there, and at any other place as many as before
-raised-here : (table : List ℕ) (place here rest : ℕ) {n all : ℕ} → place < length table → here ≡ place → n ≡ 1 + rest → getD table here 0 + n ≡ all → getD (set table place (getD table place 0 + 1)) here 0 + rest ≡ all
-raised-here table place here rest h p q r =
-    let v = getD table place 0 + 1 in
-    let now : getD (set table place v) here 0 ≡ v = ap (λ (x : ℕ). getD (set table place v) x 0) p ∙ getD-set-same table place v 0 h in
-    let old : getD table here 0 ≡ getD table place 0 = ap (λ (x : ℕ). getD table x 0) p in
-    omega arith
-
-raised-other : (table : List ℕ) (place here rest : ℕ) {n all : ℕ} → (here ≡ place → ⊥) → n ≡ 0 + rest → getD table here 0 + n ≡ all → getD (set table place (getD table place 0 + 1)) here 0 + rest ≡ all
-raised-other table place here rest h q r =
-    omega (arith, getD-set-other table place here (getD table place 0 + 1) 0 h)
 
 -- a switch is counted for its own mode and label, and for no other
 for-own : (mode e source label : ℕ) → label ≡ e → source ≡ mode → bit (eqb label e && eqb source mode) ≡ 1
@@ -183,34 +124,3 @@ blank-later k w b = record { blank = λ p h. w .kept p (λ x y. omega arith) ∙
 
 pub tally-goes-on : {s index before after : List ℕ} (k : ℕ) → Kept (128 * k) (128 * k + 128) before after → TalliedAt s index k after → ((j : ℕ) → j < k → TalliedAt s index j before) → (j : ℕ) → j < k + 1 → TalliedAt s index j after
 tally-goes-on {s} {index} {before} {after} k w here all = below-more (λ j. TalliedAt s index j after) k (λ j h. tallied-kept k j h w (all j h)) here
-
--- the modes of a location are within the table
-have-modes : {n : ℕ} {components : List Component} → All (GoodComponent n) components → HaveModes components
-have-modes none = none
-have-modes (more g rest) = more (g .least) (have-modes rest)
-
-mode-small : {n : ℕ} {components : List Component} {modes : List ℕ} → All (GoodComponent n) components → Modes components modes → (k : ℕ) → k < length components → getD modes k 0 < 8
-mode-small none no-modes k h = absurd (omega arith)
-mode-small (more g rest) (mode-and l others) zero h = omega (arith, g .most)
-mode-small (more g rest) (mode-and l others) (suc k) h = mode-small rest others k (omega arith)
-
-pub small-present : {s index : List ℕ} (location : ℕ) (modes : List ℕ) → GoodIndex s index → location < locationCount (componentsFrom s index) → perComponent index modes ≡ modesAt (componentsFrom s index) location → SmallModes index modes
-unfolding perComponent
-small-present {s} {index} location modes g h e = record {
-  small = λ k l.
-      let all = good-components g in
-      let same : getD modes k 0 ≡ getD (modesAt (componentsFrom s index) location) k 0 = sym (getD-take (entry index 1) modes k 0 l) ∙ ap (λ (ms : List ℕ). getD ms k 0) e in
-      rw same (mode-small all (modes-at (have-modes all) location h) k (omega (arith, components-length s index)));
-}
-
-pub small-modes : {s index : List ℕ} (location : ℕ) (modes rest : List ℕ) → GoodIndex s index → location < locationCount (componentsFrom s index) → modes ≡ modesAt (componentsFrom s index) location ++ rest → SmallModes index modes
-small-modes {s} {index} location modes rest g h e = small-present location modes g h (per-component-modes s index location modes rest e)
-
--- none where the later components have none
-zero-too : (n m : ℕ) → (0 < n → 0 < m) → 0 ≡ m → n ≡ 0
-zero-too zero m f h = refl
-zero-too (suc n) m f h = absurd (omega (arith, f (omega arith)))
-
-pub none-later : (components : List Component) (modes : List ℕ) (e k : ℕ) → 0 ≡ length (together (drop k components) (drop k modes) e) → 0 ≡ length (together components modes e)
-none-later components modes e k p =
-    sym (zero-too (length (together components modes e)) (length (together (drop k components) (drop k modes) e)) (together-some components modes e k) p)

@@ -15,12 +15,12 @@ use Rattle.formats.specs.Joint.{stays, switchOf, leaves, bit, leaving, silent, 
 use Rattle.models.specs.Index.{entry, Kept, GoodIndex, componentsFrom}
 use Rattle.models.specs.Counts.{componentAt, perComponent}
 use Rattle.formats.specs.Parts.{parts}
-use Rattle.joint_switches.specs.Tally.{Blank}
+use Rattle.joint_switches.specs.Tables.{Blank}
 use Rattle.joint_switches.specs.Ways.{waysOf, wayCount, wayCounts, ListedAt, Ways}
 use Rattle.models.proofs.IndexLaws.{kept-none, kept-set, kept-then}
 use Rattle.models.proofs.GoodIndexLaws.{good-component}
 use Rattle.formats.proofs.JointCounts.{leaving-few, stays-only, leavingFrom, leaving-all, leaving-none, leaving-count, leaving-skip, leaving-first, leaving-later}
-use Rattle.joint_switches.proofs.TallyLaws.{by-numbers}
+use Rattle.joint_switches.proofs.TableLaws.{by-numbers}
 use Rattle.joint_switches.proofs.JointLoops.{quotient-left, silentOn, togetherOn, digitsOn, silent-starts, silent-goes-on, silent-found, silent-passed, together-starts, together-goes-on, parts-some, digits-start, digits-go-on}
 
 -- a component's ways, by the event

@@ -3,7 +3,7 @@
 use mathlib.Core.Path.{_≡_}
 use mathlib.Core.Bool.{cond}
 use mathlib.Core.List.{List, map}
-use Prim.Native.Nat.{ℕ, _+_, _*_, _/_, _%_, _≤_, _<_}
+use Prim.Native.Nat.{ℕ, _+_, _*_, _/_, _%_, _<_}
 use lib.Dec.{ltb}
 use lib.ListN.{length, getD}
 use Rattle.formats.specs.Joint.{leaving, countUp}
@@ -24,10 +24,6 @@ tallyNumber s index p =
 unfoldable pub tallyOf : List ℕ → List ℕ → List ℕ
 tallyOf s index = map (tallyNumber s index) (countUp 0 512)
 
--- from a place on nothing is counted
-pub record Blank (from : ℕ) (tally : List ℕ) : Type 0 where
-  pub blank : (p : ℕ) → from ≤ p → getD tally p 0 ≡ 0
-
 -- how many switches of a component leave each mode with each label
 pub record TalliedAt (s index : List ℕ) (k : ℕ) (tally : List ℕ) : Type 0 where
   pub counted : (mode e : ℕ) → mode < 8 → e < 16 → getD tally (tallyPlace k mode e) 0 ≡ length (leaving (componentAt s index k) mode e)
@@ -35,7 +31,3 @@ pub record TalliedAt (s index : List ℕ) (k : ℕ) (tally : List ℕ) : Type 0 
 -- the same of every component
 pub record Tallied (s index tally : List ℕ) : Type 0 where
   pub components : (k : ℕ) → k < entry index 1 → TalliedAt s index k tally
-
--- the components' modes are within the table
-pub record SmallModes (index modes : List ℕ) : Type 0 where
-  pub small : (k : ℕ) → k < entry index 1 → getD modes k 0 < 8

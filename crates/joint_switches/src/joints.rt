@@ -1,8 +1,5 @@
 // Locations and joint switches of a model, by its index. Joint switches are counted, and one is found by its number among those of its
 // location and event; they are never listed. The sheet is handed over for the contracts, which speak of the model: no byte of it is read.
-use crate::tally::TallyTable;
-use crate::tally::tallied;
-use crate::tally::tally;
 use crate::ways::WAYS_LENGTH;
 use crate::ways::list_ways;
 use crate::ways::way_at;
@@ -21,15 +18,14 @@ use models::model::has_event;
 ghost use mathlib.Core.Path.{_≡_};
 ghost use mathlib.Core.Bool.{cond, false};
 ghost use mathlib.Core.List.{[], _++_};
-ghost use Prim.Native.Nat.{_+_, _-_, _<_, _≤_, min};
+ghost use Prim.Native.Nat.{_+_, _-_, _<_, _≤_};
 ghost use lib.Dec.{eqb};
 ghost use lib.ListN.{length, getD, replicate};
 ghost use Rattle.formats.specs.Model.{hasEvent};
 ghost use Rattle.formats.specs.Locations.{locationCount, modesAt};
-ghost use Rattle.formats.specs.Joint.{stays, switchOf, leaves, bit, scopeMask, switchesOf, joinAll, countUp, joints, fourSwitches};
+ghost use Rattle.formats.specs.Joint.{stays, switchOf, leaves, bit, scopeMask, switchesOf, fourSwitches};
 ghost use Rattle.models.specs.Index.{entry, GoodIndex, componentsFrom, componentsIn};
 ghost use Rattle.models.specs.Counts.{componentAt, perComponent, KnownSwitches, targetIn};
-ghost use Rattle.joint_switches.specs.Tally.{Tallied, SmallModes};
 
 // How many components there are.
 pub fn component_count(s: &[u8], index: &Index) -> usize
@@ -40,7 +36,7 @@ pub fn component_count(s: &[u8], index: &Index) -> usize
 }
 
 // How many modes a component has.
-fn mode_count(s: &[u8], index: &Index, k: usize) -> u32
+pub fn mode_count(s: &[u8], index: &Index, k: usize) -> u32
     requires { ⌜ GoodIndex (now s) (now index) ⌝ }
     requires { ⌜ k < componentsIn (now index) ⌝ }
     ensures { λ r. ⌜ r ≡ length (componentAt (now (s .entry)) (now (index .entry)) k .modes) ⌝ }
@@ -151,61 +147,6 @@ pub fn event_count(s: &[u8], index: &Index, modes: [u8; 4], e: u32) -> u32
     let mut ways = [0u8; WAYS_LENGTH];
     let counts = list_ways(s, index, modes, e, &mut ways);
     ways_count(s, index, modes, e, &ways, counts)
-}
-
-// A count of joint switches, with those of one more location: one above the limit as soon as there are more.
-fn with_location(
-    s: &[u8],
-    index: &Index,
-    table: &TallyTable,
-    modes: [u8; 4],
-    before: u32,
-    limit: u32,
-) -> u32
-    requires { ⌜ GoodIndex (now s) (now index) × Tallied (now s) (now index) (now table) ⌝ }
-    requires { ⌜ SmallModes (now index) modes ⌝ }
-    requires { ⌜ (before ≤ limit) × (limit ≤ 4096) ⌝ }
-    ensures { λ r. ⌜ r ≡ min (before + length (joinAll (switchesOf (componentsFrom (now (s .entry)) (now (index .entry))) (perComponent (now (index .entry)) modes)) (countUp 0 16))) (limit + 1) ⌝ }
-{
-    let mut count = before;
-    let mut e: u32 = 0;
-    while e < 16 {
-        count += tallied(s, index, table, modes, e);
-        if limit < count {
-            return limit + 1;
-        }
-        e += 1;
-    }
-    count
-}
-
-// How many joint switches the locations have by the tally, or one above the limit where there are more.
-fn tallied_joints(s: &[u8], index: &Index, table: &TallyTable, locations: u32, limit: u32) -> u32
-    requires { ⌜ GoodIndex (now s) (now index) × Tallied (now s) (now index) (now table) ⌝ }
-    requires { ⌜ (locations ≡ locationCount (componentsFrom (now s) (now index))) × (limit ≤ 4096) ⌝ }
-    ensures { λ r. ⌜ r ≡ min (length (joints (componentsFrom (now (s .entry)) (now (index .entry))))) (limit + 1) ⌝ }
-{
-    let mut count: u32 = 0;
-    let mut location: u32 = 0;
-    while location < locations {
-        let modes = modes_at(s, index, location);
-        count = with_location(s, index, table, modes, count, limit);
-        if limit < count {
-            return count;
-        }
-        location += 1;
-    }
-    count
-}
-
-// How many joint switches there are, or one above the limit where there are more. The switches are tallied once.
-pub fn joint_count(s: &[u8], index: &Index, locations: u32, limit: u32) -> u32
-    requires { ⌜ GoodIndex (now s) (now index) ⌝ }
-    requires { ⌜ (locations ≡ locationCount (componentsFrom (now s) (now index))) × (limit ≤ 4096) ⌝ }
-    ensures { λ r. ⌜ r ≡ min (length (joints (componentsFrom (now (s .entry)) (now (index .entry))))) (limit + 1) ⌝ }
-{
-    let table = tally(s, index);
-    tallied_joints(s, index, &table, locations, limit)
 }
 
 // A joint switch by its number among those of its event in a location with these modes: a switch number per component, 255 for a staying

@@ -19,7 +19,8 @@ ghost use Rattle.formats.specs.Joint.{switchOf, leaving, silent, together, swit
 ghost use Rattle.models.specs.Index.{entry, GoodIndex, componentsFrom, Kept, componentsIn};
 ghost use Rattle.models.specs.Counts.{componentAt, perComponent};
 ghost use Rattle.formats.specs.Parts.{parts};
-ghost use Rattle.joint_switches.specs.Tally.{tallyPlace, tallyOf, Blank, TalliedAt, Tallied, SmallModes};
+ghost use Rattle.joint_switches.specs.Tally.{tallyPlace, tallyOf, TalliedAt, Tallied};
+ghost use Rattle.joint_switches.specs.Tables.{Blank, SmallModes};
 
 // A tally has 128 numbers for each of four components: sixteen labels for each of eight modes.
 pub const TALLY_LENGTH: usize = 512;

@@ -4,6 +4,7 @@ use crate::joints::bit_of;
 use crate::joints::in_scope;
 use crate::joints::leaves_by;
 use crate::joints::scope_mask;
+use crate::slots::alone;
 use models::layout::BLOCK_LENGTH;
 use models::layout::COMPONENTS_AT;
 use models::layout::FIRST_BLOCK;
@@ -12,8 +13,8 @@ use models::layout::SWITCH_COUNT_AT;
 ghost use mathlib.Core.Path.{_≡_};
 ghost use mathlib.Core.List.{[]};
 ghost use Prim.Native.Nat.{_+_, _*_, _≤_, _<_};
-ghost use lib.ListN.{length, getD, set, replicate};
-ghost use Rattle.formats.specs.Joint.{stays, leaving, silent, together, switchesOf, fourSwitches};
+ghost use lib.ListN.{length, getD};
+ghost use Rattle.formats.specs.Joint.{leaving, silent, together, switchesOf, fourSwitches};
 ghost use Rattle.models.specs.Index.{entry, Kept, GoodIndex, componentsFrom, componentsIn};
 ghost use Rattle.models.specs.Counts.{componentAt, perComponent};
 ghost use Rattle.joint_switches.specs.Ways.{waysOf, wayCounts, ListedAt, Ways};
@@ -135,16 +136,6 @@ pub fn ways_count(
         return 0;
     }
     together_total(s, index, modes, e, ways, counts)
-}
-
-// Four switch numbers where one component moves.
-fn alone(k: usize, i: u8) -> [u8; 4]
-    requires { ⌜ k < 4 ⌝ }
-    ensures { λ r. ⌜ r ≡ set (replicate 4 stays) k i ⌝ }
-{
-    let mut switches = [255u8; 4];
-    switches[k] = i;
-    switches
 }
 
 // A joint switch of event 0, by its number: the first component with so many ways moves by one of them.

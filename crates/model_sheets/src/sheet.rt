@@ -4,42 +4,69 @@ use fields::Field;
 use fields::Next;
 use fields::header::finished;
 use fields::header::header;
-use joint_switches::joints::joint_count;
 use joint_switches::joints::location_count;
+use joint_switches::totals::event_totals;
+use joint_switches::totals::joint_total;
 use models::body::body_into;
+use models::layout::FIRST_TOTAL;
 use models::layout::INDEX_LENGTH;
 use models::layout::Index;
+use models::layout::JOINTS_AT;
+use models::layout::LOCATIONS_AT;
 ghost use mathlib.Core.Path.{_≡_};
+ghost use Prim.Native.Nat.{_≤_};
+ghost use lib.ListN.{length};
 ghost use Rattle.formats.specs.ModelSheet.{examLimits, readModel};
-ghost use Rattle.models.specs.Index.{GoodIndex, componentsFrom, modelFrom, Kept, firstTotal};
+ghost use Rattle.models.specs.Index.{GoodIndex, componentsFrom, modelFrom, Kept, indexLength};
 ghost use Rattle.fields.specs.Answers.{gotAs};
 ghost use Rattle.models.specs.Counts.{limitsTest};
 ghost use Rattle.model_sheets.specs.Read.{indexWith};
+ghost use Rattle.model_sheets.specs.Limits.{Small, Standing, OnlyCounts, CountedAfter};
 
 // How many locations and joint switches a model may have.
 pub const LOCATIONS: u32 = 64;
 
 pub const JOINTS: u32 = 4096;
 
-// Whether the model is within the limits: 7 and 8, at the place of its first count.
-fn within_limits(s: &[u8], index: &Index, next: usize) -> Next
+// Keeps the counts in an index.
+fn keep_counts(totals: [u32; 16], joints: u32, locations: u32, index: &mut [u16])
+    requires { ⌜ (indexLength ≤ length (now index)) × Small totals joints locations ⌝ }
+    ensures { λ _. ⌜ Standing totals joints locations (now (index .exit)) ⌝ }
+    ensures { λ _. ⌜ OnlyCounts (now (index .entry)) (now (index .exit)) ⌝ }
+{
+    let mut e: usize = 0;
+    while e < 16 {
+        index[FIRST_TOTAL + e] = totals[e] as u16;
+        e += 1;
+    }
+    index[JOINTS_AT] = joints as u16;
+    index[LOCATIONS_AT] = locations as u16;
+}
+
+// Whether the model is within the limits: 7 and 8, at the place of its first count. If it is, the counts are kept in its index.
+fn within_limits(s: &[u8], index: &mut Index, next: usize) -> Next
     requires { ⌜ GoodIndex (now s) (now index) ⌝ }
     ensures { λ r. ⌜ gotAs tt r ≡ limitsTest examLimits (componentsFrom (now (s .entry)) (now (index .entry))) 4 (now (s .entry)) next ⌝ }
+    ensures { λ r. ⌜ OnlyCounts (now (index .entry)) (now (index .exit)) × CountedAfter (now (s .entry)) (now (index .exit)) r ⌝ }
 {
     let locations = location_count(s, index);
     if LOCATIONS < locations {
         return Next::Refused(7, 4);
     }
-    if JOINTS < joint_count(s, index, locations, JOINTS) {
+    let totals = event_totals(s, index);
+    let joints = joint_total(s, index, totals);
+    if JOINTS < joints {
         return Next::Refused(8, 4);
     }
+    keep_counts(totals, joints, locations, index);
     Next::At(next)
 }
 
-// A model sheet, read into a lent index. After a refusal the index is free.
+// A model sheet, read into a lent index, which then has its counts too. After a refusal the index is free.
 pub fn model_into(s: &[u8], index: &mut Index) -> Next
     ensures { λ r. ⌜ gotAs (modelFrom (now (s .entry)) (now (index .exit))) r ≡ readModel examLimits (now (s .entry)) ⌝ }
-    ensures { λ _. ⌜ Kept 0 firstTotal (now (index .entry)) (now (index .exit)) ⌝ }
+    ensures { λ _. ⌜ Kept 0 indexLength (now (index .entry)) (now (index .exit)) ⌝ }
+    ensures { λ r. ⌜ CountedAfter (now (s .entry)) (now (index .exit)) r ⌝ }
 {
     match header(s, 1) {
         Field::Refused(number, place) => Next::Refused(number, place),

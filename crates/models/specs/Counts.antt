@@ -25,6 +25,10 @@ conditionAt s index u = unsafeFrom s (entry index 0) (entry index 1) index (unsa
 unfoldable pub perComponent : List ℕ → List ℕ → List ℕ
 perComponent index numbers = take (entry index 1) numbers
 
+-- each present mode is one of its component's
+pub record KnownModes (index modes : List ℕ) : Type 0 where
+  pub known : (k : ℕ) → k < entry index 1 → getD modes k 0 < entry index (componentPlace k + 1)
+
 -- each component's number is that of one of its switches, or says that the component stays
 pub record KnownSwitches (index switches : List ℕ) : Type 0 where
   pub known : (k : ℕ) → k < entry index 1 → eqb (getD switches k 0) stays ≡ false → getD switches k 0 < entry index (componentPlace k + 2)

@@ -37,6 +37,13 @@ firstOwner = 3
 unfoldable pub ownerPlace : ℕ → ℕ
 ownerPlace v = firstOwner + v
 
+-- then, once they are counted, how many joint switches and locations there are
+abbrev pub jointsAt : ℕ
+jointsAt = 14
+
+abbrev pub locationsAt : ℕ
+locationsAt = 15
+
 -- then a block for each component
 abbrev pub firstBlock : ℕ
 firstBlock = 16
@@ -82,7 +89,7 @@ unsafeLength = 6
 unfoldable pub unsafePlace : ℕ → ℕ
 unsafePlace u = firstUnsafe + unsafeLength * u
 
--- and after all that the sheet says, how many joint switches each event has
+-- and after all that the sheet says, once they are counted, how many joint switches each event has
 abbrev pub firstTotal : ℕ
 firstTotal = 988
 
@@ -253,6 +260,11 @@ partsFrom s n c conditions index =
 -- nothing outside a range of numbers has changed
 pub record Kept (from until : ℕ) (before after : List ℕ) : Type 0 where
   pub kept : (i : ℕ) → (from ≤ i → i < until → ⊥) → entry after i ≡ entry before i
+
+-- two indices say the same of a sheet: all but what is counted is equal
+pub record SameSheet (before after : List ℕ) : Type 0 where
+  pub front : (i : ℕ) → i < firstOwner + 8 → entry after i ≡ entry before i
+  pub body : (i : ℕ) → firstBlock ≤ i → i < firstTotal → entry after i ≡ entry before i
 
 -- a sheet of a right length, and an index with all its numbers
 pub record Sized (s index : List ℕ) : Type 0 where

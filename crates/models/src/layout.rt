@@ -15,6 +15,11 @@ pub const CONDITIONS_AT: usize = 2;
 
 pub const FIRST_OWNER: usize = 3;
 
+// Then, once they are counted, how many joint switches and locations there are.
+pub const JOINTS_AT: usize = 14;
+
+pub const LOCATIONS_AT: usize = 15;
+
 // A block for each component: its alphabet, its mode count and its switch count, then its modes, then its switches.
 pub const FIRST_BLOCK: usize = 16;
 
@@ -65,3 +70,6 @@ pub const COUNT_AT: usize = 1;
 pub const SECOND_SPAN: usize = 2;
 
 pub const THIRD_SPAN: usize = 4;
+
+// Last, once they are counted, how many joint switches each event has.
+pub const FIRST_TOTAL: usize = 988;

@@ -9,6 +9,7 @@ use Rattle.formats.specs.Model.{Model}
 use Rattle.formats.specs.ModelSheet.{Limits, examLimits, readModel}
 use Rattle.formats.proofs.Placed.{Fine, placed-header, model-fine}
 use Rattle.models.specs.Index.{modelFrom}
+use Rattle.joint_switches.specs.Counted.{Counted}
 use Rattle.model_sheets.proofs.SheetLaws.{header-read}
 use Rattle.rules.specs.declared.Answer.{Answer}
 use Rattle.rules.specs.Marking.{answer, withModel}
@@ -51,15 +52,15 @@ header-number kind s number at e = subst (λ x. Fine s 0 x) e (placed-header {le
 pub header-four : (kind : ℕ) (s : List ℕ) (version body : ℕ) → header kind s 0 ≡ got version body → body ≡ 4
 header-four kind s version body e = header-read kind s version body e .four
 
-pub is-open : (kind : ℕ) (model index second : List ℕ) (end version body : ℕ) → readModel examLimits model ≡ got (modelFrom model index) end → header kind second 0 ≡ got version body → Open kind model index second
-is-open kind model index second end version body e d =
+pub is-open : (kind : ℕ) (model index second : List ℕ) (end version body : ℕ) → readModel examLimits model ≡ got (modelFrom model index) end → header kind second 0 ≡ got version body → Counted model index → Open kind model index second
+is-open kind model index second end version body e d counted =
     let b = header-body kind second version body d in
     record {
       end = end;
       reads = e;
       version = version;
       headed = d ∙ ap (λ (p : ℕ). got version p) (header-four kind second version body d);
-      accepted = accepted model index end e;
+      accepted = accepted model index end e counted;
       bodied = b .0;
       brief = b .1;
     }

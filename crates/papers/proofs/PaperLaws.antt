@@ -15,6 +15,7 @@ use Rattle.formats.specs.Model.{Model}
 use Rattle.formats.specs.Locations.{locationCount}
 use Rattle.formats.specs.Joint.{joints}
 use Rattle.models.specs.Index.{entry, componentsFrom, modelFrom}
+use Rattle.joint_switches.specs.Counted.{Counted}
 use Rattle.formats.specs.ModelSheet.{Limits, examLimits, readModel}
 use Rattle.formats.specs.Certificate.{readRegions}
 use Rattle.second_sheets.specs.CertificateAnswers.{regionsFrom, regionsFor, GoodRegions}
@@ -67,14 +68,19 @@ few-locations limits s m next e =
     (λ t. gives-then _ (gives-give m (leb-true (locationCount (m .components)) (limits .locations) t)))))))
     .holds s 0 m next e
 
-pub accepted : (model index : List ℕ) (next : ℕ) → readModel examLimits model ≡ got (modelFrom model index) next → Accepted model index
+pub few-read : (model index : List ℕ) (next : ℕ) → readModel examLimits model ≡ got (modelFrom model index) next → locationCount (componentsFrom model index) ≤ 64
 unfolding examLimits modelFrom
-accepted model index next e =
+few-read model index next e = few-locations examLimits model (modelFrom model index) next e
+
+pub accepted : (model index : List ℕ) (next : ℕ) → readModel examLimits model ≡ got (modelFrom model index) next → Counted model index → Accepted model index
+unfolding examLimits modelFrom
+accepted model index next e counted =
     record {
       good = index-good examLimits model index next e;
       short = model-short examLimits model (modelFrom model index) next e;
-      few = few-locations examLimits model (modelFrom model index) next e;
+      few = few-read model index next e;
       joined = few-joints examLimits model (modelFrom model index) next e;
+      counted = counted;
     }
 
 -- a paper is good once its regions are read
@@ -86,6 +92,7 @@ good-paper {model} {index} {second} {regions} locations at next a h l e =
       short = a .short;
       brief = h;
       few = a .few;
+      counted = a .counted;
     }
 
 -- The regions: those that the model wants are those for its numbers

@@ -3,23 +3,21 @@
 use mathlib.Core.Path.{_≡_, refl, sym, ap, ap₂, _∙_}
 use mathlib.Core.Bool.{Bool, true, false, _&&_, _||_}
 use mathlib.Core.List.{List, [], _∷_, _++_, map}
-use Prim.Native.Nat.{ℕ, zero, suc, _+_, _≤_, _<_}
+use Prim.Native.Nat.{ℕ, _+_, _≤_, _<_}
 use native.Mathlib.Omega.{arith}
 use lib.Dec.{eqb}
-use lib.ListN.{length, getD, drop, drop-of-length-le, take}
-use lib.Seq.{getD-take}
+use lib.ListN.{length, getD, drop, drop-of-length-le}
 use Rattle.formats.specs.Model.{Mode, Component}
 use Rattle.formats.specs.Locations.{modeOf, locationCount, modesAt}
 use Rattle.formats.specs.Joint.{countUp}
 use Rattle.models.specs.Index.{entry, componentPlace, modePlace, unsafePlace, modeFrom, componentFrom, componentsFrom, GoodIndex, unsafeFrom}
 use Rattle.models.specs.Counts.{componentAt, perComponent}
-use Rattle.models.proofs.GoodIndexLaws.{counted-at, components-drop, components-end, counted-length, counted-drop, components-length, component-at, mode-length, good-components}
+use Rattle.models.proofs.GoodIndexLaws.{counted-at, components-drop, components-end, counted-length, counted-drop}
 use Rattle.joint_switches.proofs.JointLoops.{componentsOn, numbersOn, per-component-drop, per-component-length, per-component-modes}
+pub use Rattle.joint_switches.proofs.TableLaws.{have-modes, known-present}
 use Rattle.rules.specs.Runs.{present, modesFit}
 use Rattle.papers.specs.Standing.{KnownModes, GoodModes, Stands}
-use Rattle.farkas.specs.Lists.{All, none, more, every}
-use Rattle.formats.proofs.Locations.{Modes, no-modes, mode-and, HaveModes, modes-at}
-use Rattle.formats.proofs.WellFormed.{GoodComponent}
+use Rattle.farkas.specs.Lists.{every}
 use Rattle.fields.specs.declared.Next.the-variants as next
 use Rattle.formats.proofs.Gives.{passes}
 use Rattle.formats.specs.RunSheet.{flow}
@@ -44,26 +42,6 @@ module _ (s index modes : List ℕ) (long : entry index 1 ≤ length modes) wher
   present-end k h = ap (λ (components : List Component). present components (numbersOn index modes k)) (ap (λ (i : ℕ). drop i (componentsFrom s index)) h ∙ components-end s index)
 
 -- The modes of a location are modes of their components
-pub have-modes : {n : ℕ} {components : List Component} → All (GoodComponent n) components → HaveModes components
-have-modes none = none
-have-modes (more g rest) = more (g .least) (have-modes rest)
-
-mode-below : {components : List Component} {modes : List ℕ} → Modes components modes → (k : ℕ) (d : Component) → k < length components → getD modes k 0 < length (getD components k d .modes)
-mode-below no-modes k d h = absurd (omega arith)
-mode-below (mode-and l rest) zero d h = l
-mode-below (mode-and l rest) (suc k) d h = mode-below rest k d (omega arith)
-
-pub known-present : {model index : List ℕ} (location : ℕ) (modes : List ℕ) → GoodIndex model index → location < locationCount (componentsFrom model index) → perComponent index modes ≡ modesAt (componentsFrom model index) location → KnownModes index modes
-unfolding perComponent
-known-present {model} {index} location modes g h e = record {
-  known = λ k l.
-      let c = componentAt model index k in
-      let components = componentsFrom model index in
-      let below = mode-below (modes-at (have-modes (good-components g)) location h) k c (omega (arith, components-length model index)) in
-      let same : getD modes k 0 ≡ getD (modesAt components location) k 0 = sym (getD-take (entry index 1) modes k 0 l) ∙ ap (λ (ms : List ℕ). getD ms k 0) e in
-      rw same (omega (arith, below, ap (λ (c : Component). length (c .modes)) (component-at model index k c l), mode-length model index k));
-}
-
 pub known-modes : {model index : List ℕ} (location : ℕ) (modes rest : List ℕ) → GoodIndex model index → location < locationCount (componentsFrom model index) → modes ≡ modesAt (componentsFrom model index) location ++ rest → KnownModes index modes
 known-modes {model} {index} location modes rest g h e = known-present location modes g h (per-component-modes model index location modes rest e)
 

@@ -8,17 +8,20 @@ use Rattle.formats.specs.Rows.{Condition}
 use Rattle.formats.specs.Locations.{locationCount}
 use Rattle.formats.specs.Joint.{joints, JointSwitch}
 use Rattle.models.specs.Index.{entry, componentsFrom, GoodIndex, modelFrom}
+use Rattle.joint_switches.specs.Counted.{Counted}
 use Rattle.second_sheets.specs.CertificateAnswers.{regionsFrom, GoodRegions}
 use Rattle.rules.specs.Obligations.{regionOf, Obligation, obligations, locationObligations, jumpsObligations}
 use Rattle.fields.specs.declared.Next.{Next}
 use Rattle.fields.specs.declared.Next.the-variants as next
 
--- a model that was read: its index is good, its sheet short, and its locations and joint switches are no more than the exam allows
+-- a model that was read: its index is good and has its counts, its sheet is short, and its locations and joint switches are no more than
+-- the exam allows
 pub record Accepted (model index : List ℕ) : Type 0 where
   pub good : GoodIndex model index
   pub short : length model ≤ 32768
   pub few : locationCount (componentsFrom model index) ≤ 64
   pub joined : length (joints (componentsFrom model index)) ≤ 4096
+  pub counted : Counted model index
 
 -- a model and a certificate's regions that were read, and their places
 pub record GoodPaper (model index second regions : List ℕ) : Type 0 where
@@ -27,6 +30,7 @@ pub record GoodPaper (model index second regions : List ℕ) : Type 0 where
   pub short : length model ≤ 32768
   pub brief : length second ≤ 32768
   pub few : locationCount (componentsFrom model index) ≤ 64
+  pub counted : Counted model index
 
 -- the regions of a certificate, by the places that the code keeps
 unfoldable pub regionsOf : List ℕ → List ℕ → List ℕ → List ℕ → ℕ → Condition

@@ -9,14 +9,14 @@ use models::layout::Index;
 use rules::Answer;
 ghost use mathlib.Core.Path.{_≡_};
 ghost use Rattle.formats.specs.ModelSheet.{examLimits};
-ghost use Rattle.models.specs.Index.{Kept, firstTotal};
+ghost use Rattle.models.specs.Index.{Kept, indexLength};
 ghost use Rattle.papers.specs.Opening.{opened, Open};
 
 // The model is read into a lent index, then the header of a second sheet of this kind: number 0 where both are good, else the answer that
 // refuses the paper. After a refusal the index is free.
 pub fn open_paper(model: &[u8], second: &[u8], kind: u32, index: &mut Index) -> Answer
     ensures { λ r. ⌜ r ≡ opened examLimits kind (now (model .entry)) (now (second .entry)) ⌝ }
-    ensures { λ _. ⌜ Kept 0 firstTotal (now (index .entry)) (now (index .exit)) ⌝ }
+    ensures { λ _. ⌜ Kept 0 indexLength (now (index .entry)) (now (index .exit)) ⌝ }
     ensures { λ r. ⌜ (r .number ≡ 0 → Open kind (now (model .entry)) (now (index .exit)) (now (second .entry))) ⌝ }
 {
     match model_into(model, index) {

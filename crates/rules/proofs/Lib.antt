@@ -3,6 +3,7 @@ pub mod Points
 pub mod Shown
 pub mod Hypotheses
 pub mod Safety
+pub mod ObligationTotal
 pub mod MarkedRanges
 pub mod CertificateExactly
 pub mod RunExactly

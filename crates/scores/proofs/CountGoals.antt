@@ -3,29 +3,30 @@
 use mathlib.Core.Path.{_≡_, refl, sym, ap, ap₂, _∙_}
 use mathlib.Core.Bool.{Bool, true, false, cond}
 use mathlib.Core.List.{List, [], _∷_, _++_}
-use Prim.Native.Nat.{ℕ, suc, _+_, _*_, _-_, _≤_, _<_}
-use native.Mathlib.Nat.{sub-zero}
+use Prim.Native.Nat.{ℕ, suc, _+_, _*_, _≤_, _<_}
 use native.Mathlib.Numerals.{add-one}
 use native.Mathlib.Omega.{arith}
 use lib.Dec.{eqb}
 use lib.ListN.{length, getD, drop, length-append, drop-of-length-le}
 use lib.Seq.{drop-cons}
 use Rattle.farkas.specs.Lists.{every}
-use Rattle.farkas.specs.declared.Row.{Row}
 use Rattle.formats.specs.Rows.{Condition}
 use Rattle.formats.specs.Model.{Component, Unsafe, Model}
 use Rattle.formats.specs.Locations.{locationCount, modesAt, locationOf}
+use Rattle.formats.specs.JointTotals.{sumOver}
 use Rattle.formats.specs.Joint.{bit, numbersFrom, modesAfter, switchesOf, JointSwitch, jointsOf, joints, countUp, joinAll, jointFrom}
 use Rattle.models.specs.Index.{entry, unsafePlace, unsafeFrom, componentsFrom, modelFrom, GoodIndex}
 use Rattle.models.specs.Counts.{perComponent}
 use Rattle.second_sheets.specs.CertificateAnswers.{regionsFrom}
-use Rattle.models.proofs.GoodIndexLaws.{counted-length, counted-drop}
+use Rattle.models.proofs.GoodIndexLaws.{counted-length, counted-drop, index-well-formed}
+use Rattle.formats.proofs.SumLaws.{sum-first}
 use Rattle.formats.proofs.JointCounts.{numbers-length, event-length, jointsIn}
-use Rattle.joint_switches.proofs.JointLoops.{switches-few, per-component-modes, record-at}
+use Rattle.joint_switches.proofs.JointLoops.{switches-few, record-at}
 use Rattle.rules.specs.Runs.{present, modesIn, modesFit}
-use Rattle.rules.specs.Obligations.{Hypothesis, Kind, Obligation, perRow, startObligations, flowObligations, unsafeObligations, locationObligations, jumpObligations, jumpsObligations, obligationsOver, obligations, regionOf}
+use Rattle.rules.specs.Obligations.{Obligation, startObligations, flowObligations, unsafeObligations, locationObligations, jumpObligations, jumpsObligations, obligationsOver, obligations, regionOf}
 use Rattle.papers.specs.Paper.{GoodPaper, regionsOf}
-use Rattle.scores.specs.Counting.{targetRows}
+use Rattle.scores.specs.Counting.{rowsInto, targetRows}
+use Rattle.rules.proofs.ObligationTotal.{per-row, goalsAt, obligations-total}
 use Rattle.rules.proofs.ListFacts.{joined-few, joined-twice, count-length}
 use Rattle.papers.proofs.RegionLaws.{region-few}
 
@@ -76,12 +77,7 @@ module _ (model index : List ℕ) where
   pub fitting-most : GoodIndex model index → (modes : List ℕ) → length (fittingOn model index modes 0) ≤ 16
   fitting-most g modes = fitting-few g (λ w. modesFit (w .modes) (perComponent index modes))
 
--- one obligation per row
-rows-each : (kind : Kind) (subject : ℕ) (hypotheses : List Hypothesis) (put : Row → Row) (line : ℕ) (region : Condition) → length (perRow kind subject hypotheses put line region) ≡ length region
-unfolding perRow
-rows-each kind subject hypotheses put line [] = refl
-rows-each kind subject hypotheses put line (r ∷ region) = ap suc (rows-each kind subject hypotheses put (suc line) region)
-
+-- how many obligations of each kind a location has
 start-step : (b : Bool) (xs : List Obligation) (n : ℕ) → length xs ≡ n → length {A = Obligation} (elim b [ true ↦ xs | false ↦ [] ]) ≡ bit b * n
 unfolding bit
 start-step true xs n h = omega (arith, h)
@@ -94,11 +90,11 @@ unsafe-step false o xs i ys h = h
 module _ (m : Model) (regionAt : ℕ → Condition) where
   start-length : (location : ℕ) → length (startObligations m regionAt location) ≡ bit (every (λ mode. eqb (mode .start) 1) (modesIn m location)) * length (regionAt location)
   unfolding startObligations
-  start-length location = start-step (every (λ mode. eqb (mode .start) 1) (modesIn m location)) _ (length (regionAt location)) (rows-each _ location _ _ 0 (regionAt location))
+  start-length location = start-step (every (λ mode. eqb (mode .start) 1) (modesIn m location)) _ (length (regionAt location)) (per-row _ location _ _ 0 (regionAt location))
 
   flow-length : (location : ℕ) → length (flowObligations m regionAt location) ≡ length (regionAt location)
   unfolding flowObligations
-  flow-length location = rows-each _ location _ _ 0 (regionAt location)
+  flow-length location = per-row _ location _ _ 0 (regionAt location)
 
   unsafe-length : (location line : ℕ) (conditions : List Unsafe) → length (unsafeObligations m regionAt location line conditions) ≡ length (numbersFrom line (λ w. modesFit (w .modes) (modesAt (m .components) location)) conditions)
   unfolding unsafeObligations numbersFrom
@@ -116,7 +112,7 @@ module _ (m : Model) (regionAt : ℕ → Condition) where
 
   jump-length : (number : ℕ) (j : JointSwitch) → length (jumpObligations m regionAt number j) ≡ length (regionAt (j .target))
   unfolding jumpObligations
-  jump-length number j = rows-each _ number _ _ 0 (regionAt (j .target))
+  jump-length number j = per-row _ number _ _ 0 (regionAt (j .target))
 
   pub jumps-length : (number : ℕ) (switches : List JointSwitch) → length (jumpsObligations m regionAt number switches) ≡ length (targetRows regionAt switches)
   unfolding jumpsObligations targetRows joinAll
@@ -136,20 +132,16 @@ location-few {model} {index} {second} {regions} g location =
 
 -- their sum, by the counts of the modes of a location
 pub location-sum :
-    (model index second regions : List ℕ) (location : ℕ) (modes rest : List ℕ) → modes ≡ modesAt (componentsFrom model index) location ++ rest
+    (model index second regions : List ℕ) (location : ℕ) (modes : List ℕ) → perComponent index modes ≡ modesAt (componentsFrom model index) location
     → (starts rows fitting : ℕ) {b : Bool} → b ≡ every (λ mode. eqb (mode .start) 1) (present (componentsFrom model index) (perComponent index modes)) → starts ≡ bit b
     → rows ≡ length (regionsOf model index second regions location) → fitting ≡ length (numbersFrom 0 (λ w. modesFit (w .modes) (perComponent index modes)) (modelFrom model index .unsafe))
     → starts * rows + (rows + fitting) ≡ length (locationObligations (modelFrom model index) (regionsOf model index second regions) location)
 unfolding modesIn modelFrom
-location-sum model index second regions location modes rest e starts rows fitting p q r f =
-    let here = per-component-modes model index location modes rest e in
+location-sum model index second regions location modes here starts rows fitting p q r f =
     let m = modelFrom model index in
     let s : starts ≡ bit (every (λ mode. eqb (mode .start) 1) (modesIn m location)) = q ∙ ap bit p ∙ ap (λ (ms : List ℕ). bit (every (λ mode. eqb (mode .start) 1) (present (componentsFrom model index) ms))) here in
     let t : fitting ≡ length (numbersFrom 0 (λ w. modesFit (w .modes) (modesAt (m .components) location)) (m .unsafe)) = f ∙ ap (λ (ms : List ℕ). length (numbersFrom 0 (λ w. modesFit (w .modes) ms) (m .unsafe))) here in
     ap₂ (λ (i j : ℕ). i + j) (ap₂ (λ (i j : ℕ). i * j) s r) (ap₂ (λ (i j : ℕ). i + j) r t) ∙ sym (location-length m (regionsOf model index second regions) location)
-
-pub joined-start : {B : Type 0} (f : ℕ → List B) (n : ℕ) → length (joinAll f (countUp 0 (n - 0))) ≡ length (joinAll f (countUp 0 n))
-joined-start f n = ap (λ (k : ℕ). length (joinAll f (countUp 0 k))) (sub-zero n)
 
 pub locations-few : {model index second regions : List ℕ} → GoodPaper model index second regions → (locations : ℕ) → locations ≡ locationCount (componentsFrom model index) → length (joinAll (locationObligations (modelFrom model index) (regionsOf model index second regions)) (countUp 0 locations)) ≤ 3072
 locations-few {model} {index} {second} {regions} g locations h =
@@ -166,6 +158,22 @@ obligations-length model index second regions locations h =
     ∙ length-append (joinAll (locationObligations m regionAt) (countUp 0 count)) (jumpsObligations m regionAt 0 (joints (componentsFrom model index)))
     ∙ ap₂ (λ (i k : ℕ). i + k) (ap (λ (n : ℕ). length (joinAll (locationObligations m regionAt) (countUp 0 n))) (sym h)) (jumps-length m regionAt 0 (joints (componentsFrom model index)))
 
+-- the same by locations alone: of each location its own, and those of the joint switches that lead into it
+abbrev pub goalsFor : List ℕ → List ℕ → List ℕ → List ℕ → ℕ → ℕ
+goalsFor model index second regions = goalsAt (modelFrom model index) (regionsOf model index second regions)
+
+pub goals-sum : (model index second regions : List ℕ) (location here into : ℕ) → here ≡ length (locationObligations (modelFrom model index) (regionsOf model index second regions) location) → into ≡ rowsInto model index second regions location → here + into ≡ goalsFor model index second regions location
+unfolding goalsAt modelFrom
+goals-sum model index second regions location here into p q = ap₂ (λ (i j : ℕ). i + j) p q
+
+pub goals-all : {model index : List ℕ} (second regions : List ℕ) → GoodIndex model index → (locations : ℕ) → locations ≡ locationCount (componentsFrom model index) → sumOver (goalsFor model index second regions) (countUp 0 locations) ≡ length (obligations (modelFrom model index) (regionsFrom second (entry index 0) regions locations))
+unfolding regionsOf modelFrom
+goals-all {model} {index} second regions g locations h =
+    let count = locationCount (componentsFrom model index) in
+    ap (λ (n : ℕ). sumOver (goalsFor model index second regions) (countUp 0 n)) h
+    ∙ sym (obligations-total (modelFrom model index) (regionsFrom second (entry index 0) regions count) (index-well-formed g))
+    ∙ ap (λ (n : ℕ). length (obligations (modelFrom model index) (regionsFrom second (entry index 0) regions n))) (sym h)
+
 -- the rows of targets
 pub rows-few : (regionAt : ℕ → Condition) → ((l : ℕ) → length (regionAt l) ≤ 16) → (switches : List JointSwitch) → length (targetRows regionAt switches) ≤ 16 * length switches
 unfolding targetRows
@@ -174,12 +182,6 @@ rows-few regionAt h switches = joined-few (λ j. regionAt (j .target)) 16 (λ j.
 pub rows-joined : (regionAt : ℕ → Condition) (f : ℕ → List JointSwitch) (xs : List ℕ) → length (joinAll (λ i. targetRows regionAt (f i)) xs) ≡ length (targetRows regionAt (joinAll f xs))
 unfolding targetRows
 rows-joined regionAt f xs = ap (λ (c : Condition). length c) (sym (joined-twice (λ j. regionAt (j .target)) f xs))
-
-pub rows-start : (regionAt : ℕ → Condition) (components : List Component) (locations : ℕ) → locations ≡ locationCount components → length (joinAll (λ l. targetRows regionAt (jointsIn components l)) (countUp 0 (locations - 0))) ≡ length (targetRows regionAt (joints components))
-unfolding joints
-rows-start regionAt components locations h =
-    ap (λ (n : ℕ). length (joinAll (λ l. targetRows regionAt (jointsIn components l)) (countUp 0 n))) (sub-zero locations ∙ h)
-    ∙ rows-joined regionAt (jointsIn components) (countUp 0 (locationCount components))
 
 -- how many joint switches an event has, by the modes of a location
 pub counted-switches : (components : List Component) (e : ℕ) {n : ℕ} {modes here : List ℕ} → n ≡ length (switchesOf components modes e) → modes ≡ here → n ≡ length (switchesOf components here e)
@@ -210,6 +212,11 @@ event-few {model} {index} {second} {regions} g location e =
 pub jumps-few : {model index second regions : List ℕ} → GoodPaper model index second regions → length (joints (componentsFrom model index)) ≤ 4096 → length (targetRows (regionsOf model index second regions) (joints (componentsFrom model index))) ≤ 65536
 jumps-few {model} {index} {second} {regions} g h =
     omega (arith, rows-few (regionsOf model index second regions) (region-few model index second regions g) (joints (componentsFrom model index)))
+
+-- all of them are few, and so are those of the locations so far
+pub goals-few : {model index second regions : List ℕ} → GoodPaper model index second regions → (locations : ℕ) → locations ≡ locationCount (componentsFrom model index) → length (joints (componentsFrom model index)) ≤ 4096 → (n : ℕ) → n ≤ locations → sumOver (goalsFor model index second regions) (countUp 0 n) ≤ 68608
+goals-few {model} {index} {second} {regions} g locations h few n l =
+    omega (arith, sum-first (goalsFor model index second regions) n locations l, goals-all second regions (g .good) locations h, obligations-length model index second regions locations h, locations-few g locations h, jumps-few g few)
 
 pub events-few : {model index second regions : List ℕ} → GoodPaper model index second regions → (location : ℕ) → length (targetRows (regionsOf model index second regions) (jointsIn (componentsFrom model index) location)) ≤ 268435456
 unfolding countUp

@@ -1,4 +1,8 @@
 // How many obligations there are: the goals of each group, counted and never listed.
+use joint_switches::into::ENTERING_LENGTH;
+use joint_switches::into::EnteringTable;
+use joint_switches::into::count_entering;
+use joint_switches::into::joints_into;
 use joint_switches::joints::bit_of;
 use joint_switches::joints::modes_at;
 use joint_switches::joints::target_of;
@@ -19,10 +23,12 @@ ghost use Rattle.formats.specs.Joint.{numbersFrom, switchesOf, jointsOf, joints
 ghost use Rattle.models.specs.Index.{entry, componentsFrom, modelFrom, GoodIndex};
 ghost use Rattle.models.specs.Counts.{perComponent};
 ghost use Rattle.joint_switches.specs.Ways.{Ways};
+ghost use Rattle.joint_switches.specs.Numbered.{ByMode};
 ghost use Rattle.rules.specs.Runs.{modesFit};
 ghost use Rattle.rules.specs.Marking.{refusedScore};
+ghost use Rattle.papers.specs.Standing.{Stands};
 ghost use Rattle.papers.specs.Paper.{GoodPaper, regionsOf, locationObligationsFor, obligationsFor};
-ghost use Rattle.scores.specs.Counting.{targetRowsFor, rowsAfter};
+ghost use Rattle.scores.specs.Counting.{rowsInto, targetRowsFor, rowsAfter};
 
 // How many unsafe conditions there are whose modes fit the present ones.
 fn fitting_count(model: &[u8], index: &Index, modes: [u8; 4]) -> u32
@@ -54,8 +60,27 @@ pub fn region_rows(
     regions[2 * (location as usize) + 1] as u32
 }
 
-// How many goals a location has: its region's rows from the start, if all its modes are start modes; after a flow; and one for each unsafe
-// condition that fits.
+// How many goals a location with these modes has: its region's rows from the start, if all its modes are start modes; after a flow; and one
+// for each unsafe condition that fits.
+fn goals_here(
+    model: &[u8],
+    index: &Index,
+    second: &[u8],
+    regions: &Regions,
+    location: u32,
+    modes: [u8; 4],
+) -> u32
+    requires { ⌜ GoodPaper (now model) (now index) (now second) (now regions) ⌝ }
+    requires { ⌜ Stands (now model) (now index) location modes ⌝ }
+    ensures { λ r. ⌜ r ≡ length (locationObligationsFor (now (model .entry)) (now (index .entry)) (now (second .entry)) (now (regions .entry)) location) ⌝ }
+{
+    let rows = region_rows(model, index, second, regions, location);
+    let fitting = fitting_count(model, index, modes);
+    let starts = bit_of(all_start(model, index, modes));
+    starts * rows + (rows + fitting)
+}
+
+// How many goals a location has.
 pub fn location_goals(
     model: &[u8],
     index: &Index,
@@ -68,14 +93,57 @@ pub fn location_goals(
     ensures { λ r. ⌜ r ≡ length (locationObligationsFor (now (model .entry)) (now (index .entry)) (now (second .entry)) (now (regions .entry)) location) ⌝ }
 {
     let modes = modes_at(model, index, location);
-    let rows = region_rows(model, index, second, regions, location);
-    let fitting = fitting_count(model, index, modes);
-    let starts = bit_of(all_start(model, index, modes));
-    starts * rows + (rows + fitting)
+    goals_here(model, index, second, regions, location, modes)
 }
 
-// How many goals all locations have.
-fn all_location_goals(
+// How many goals the joint switches have that lead into a location with these modes: each has its region's rows.
+fn goals_into(
+    model: &[u8],
+    index: &Index,
+    second: &[u8],
+    regions: &Regions,
+    table: &EnteringTable,
+    location: u32,
+    modes: [u8; 4],
+) -> u32
+    requires { ⌜ GoodPaper (now model) (now index) (now second) (now regions) ⌝ }
+    requires { ⌜ Stands (now model) (now index) location modes × ByMode (now model) (now index) (now table) ⌝ }
+    ensures { λ r. ⌜ r ≡ rowsInto (now (model .entry)) (now (index .entry)) (now (second .entry)) (now (regions .entry)) location ⌝ }
+{
+    let rows = region_rows(model, index, second, regions, location);
+    if rows == 0 {
+        return 0;
+    }
+    rows * joints_into(model, index, table, modes)
+}
+
+// How many obligations there are, by the table of switches that enter modes: of each location its own, and those of the joint switches
+// that lead into it.
+fn goals_by(
+    model: &[u8],
+    index: &Index,
+    second: &[u8],
+    regions: &Regions,
+    table: &EnteringTable,
+    locations: u32,
+) -> u32
+    requires { ⌜ GoodPaper (now model) (now index) (now second) (now regions) × ByMode (now model) (now index) (now table) ⌝ }
+    requires { ⌜ (locations ≡ locationCount (componentsFrom (now model) (now index))) × (length (joints (componentsFrom (now model) (now index))) ≤ 4096) ⌝ }
+    ensures { λ r. ⌜ r ≡ length (obligationsFor (now (model .entry)) (now (index .entry)) (now (second .entry)) (now (regions .entry)) locations) ⌝ }
+{
+    let mut count: u32 = 0;
+    let mut location: u32 = 0;
+    while location < locations {
+        let modes = modes_at(model, index, location);
+        let here = goals_here(model, index, second, regions, location, modes);
+        count += here + goals_into(model, index, second, regions, table, location, modes);
+        location += 1;
+    }
+    count
+}
+
+// How many obligations there are in all. No joint switch is gone through: those that lead into a location are counted by its modes.
+pub fn obligation_count(
     model: &[u8],
     index: &Index,
     second: &[u8],
@@ -83,16 +151,12 @@ fn all_location_goals(
     locations: u32,
 ) -> u32
     requires { ⌜ GoodPaper (now model) (now index) (now second) (now regions) ⌝ }
-    requires { ⌜ locations ≡ locationCount (componentsFrom (now model) (now index)) ⌝ }
-    ensures { λ r. ⌜ r ≡ length (joinAll (locationObligationsFor (now (model .entry)) (now (index .entry)) (now (second .entry)) (now (regions .entry))) (countUp 0 locations)) ⌝ }
+    requires { ⌜ (locations ≡ locationCount (componentsFrom (now model) (now index))) × (length (joints (componentsFrom (now model) (now index))) ≤ 4096) ⌝ }
+    ensures { λ r. ⌜ r ≡ length (obligationsFor (now (model .entry)) (now (index .entry)) (now (second .entry)) (now (regions .entry)) locations) ⌝ }
 {
-    let mut count: u32 = 0;
-    let mut location: u32 = 0;
-    while location < locations {
-        count += location_goals(model, index, second, regions, location);
-        location += 1;
-    }
-    count
+    let mut table = [0u8; ENTERING_LENGTH];
+    count_entering(model, index, &mut table);
+    goals_by(model, index, second, regions, &table, locations)
 }
 
 // How many goals a joint switch has, found by its number from the table of its event's ways: the rows of its target's region.
@@ -208,43 +272,6 @@ pub fn jump_goals(
         e += 1;
     }
     count
-}
-
-// How many goals all joint switches have.
-fn all_jump_goals(
-    model: &[u8],
-    index: &Index,
-    second: &[u8],
-    regions: &Regions,
-    locations: u32,
-) -> u32
-    requires { ⌜ GoodPaper (now model) (now index) (now second) (now regions) ⌝ }
-    requires { ⌜ (locations ≡ locationCount (componentsFrom (now model) (now index))) × (length (joints (componentsFrom (now model) (now index))) ≤ 4096) ⌝ }
-    ensures { λ r. ⌜ r ≡ length (targetRowsFor (now (model .entry)) (now (index .entry)) (now (second .entry)) (now (regions .entry)) (joints (componentsFrom (now (model .entry)) (now (index .entry))))) ⌝ }
-{
-    let mut count: u32 = 0;
-    let mut location: u32 = 0;
-    while location < locations {
-        count += jump_goals(model, index, second, regions, location);
-        location += 1;
-    }
-    count
-}
-
-// How many obligations there are in all.
-pub fn obligation_count(
-    model: &[u8],
-    index: &Index,
-    second: &[u8],
-    regions: &Regions,
-    locations: u32,
-) -> u32
-    requires { ⌜ GoodPaper (now model) (now index) (now second) (now regions) ⌝ }
-    requires { ⌜ (locations ≡ locationCount (componentsFrom (now model) (now index))) × (length (joints (componentsFrom (now model) (now index))) ≤ 4096) ⌝ }
-    ensures { λ r. ⌜ r ≡ length (obligationsFor (now (model .entry)) (now (index .entry)) (now (second .entry)) (now (regions .entry)) locations) ⌝ }
-{
-    let here = all_location_goals(model, index, second, regions, locations);
-    here + all_jump_goals(model, index, second, regions, locations)
 }
 
 // The score of a refused certificate: 100 times the proofs that passed over all obligations, rounded down, or 100 if there are none; at

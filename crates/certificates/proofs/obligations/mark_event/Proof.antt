@@ -9,7 +9,7 @@ use lib.ListN.{length}
 use Rattle.formats.specs.Locations.{modesAt}
 use Rattle.formats.specs.Joint.{switchesOf, jointsOf}
 use Rattle.models.specs.Index.{componentsFrom, modelFrom}
-use Rattle.joint_switches.proofs.TallyLaws.{small-present}
+use Rattle.joint_switches.proofs.TableLaws.{small-present}
 use Rattle.rules.specs.Marking.{passed}
 use Rattle.hypotheses.specs.Listing.{jointTasks, markTasks}
 use Rattle.certificates.specs.Passed.{standsAt}

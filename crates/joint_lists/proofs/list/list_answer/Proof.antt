@@ -7,24 +7,23 @@ use Rattle.formats.specs.Reading.{got, refused}
 use Rattle.models.specs.Index.{modelFrom}
 use Rattle.formats.specs.ModelSheet.{examLimits, readModel}
 use Rattle.fields.proofs.ChainLaws.{told-at, told-refused}
-use Rattle.models.proofs.GoodIndexLaws.{index-good}
 use Rattle.papers.proofs.PaperLaws.{model-placed, few-joints, model-short}
 use Rattle.joint_lists.proofs.ListLaws.{list-refused, list-read}
 use Rattle.joint_lists.proofs.list.list_answer.Statement.{statement}
 use Rattle.joint_lists.proofs.list.list_answer.Tie as tie
 
-read-model-requires : tie.Need-read-model-requires
-read-model-requires c κs = search needs
+model-into-requires : tie.Need-model-into-requires
+model-into-requires c κs = search needs
 
-enum-known-next : tie.Need-enum-known-next
-enum-known-next c = search needs
+enum-known-number : tie.Need-enum-known-number
+enum-known-number c = search needs
 
 on-model-requires : tie.Need-on-model-requires
 on-model-requires c κs =
-    let s = now (c .before .before .before .before .before .before .args .model) in
-    let read = c .before .before .before .before .read-model in
-    let told = c .before .next .given in
-    let e : readModel examLimits s ≡ refused (told .0 .0) (told .0 .1 .0) = told-refused (modelFrom s (read .result .index)) (readModel examLimits s) (read .ensures .0) (told .1) in
+    let into = c .before .before .before in
+    let s = now (into .before .before .before .args .model) in
+    let told = c .before .number .given in
+    let e : readModel examLimits s ≡ refused (told .0 .0) (told .0 .1 .0) = told-refused (modelFrom s (into .model-into .last .1 .0)) (readModel examLimits s) (into .model-into .ensures .0) (told .1) in
     omega (arith, model-placed examLimits s (told .0 .0) (told .0 .1 .0) e)
 
 enum-told : tie.Need-enum-told
@@ -33,39 +32,39 @@ enum-told c = search needs
 count-answer-requires : tie.Need-count-answer-requires
 unfolding modelFrom examLimits
 count-answer-requires c κs =
-    let s = now (c .before .before .before .before .before .before .args .model) in
-    let read = c .before .before .before .before .read-model in
+    let into = c .before .before .before in
+    let s = now (into .before .before .before .args .model) in
     let told = c .before .enum-told .given in
-    let m = modelFrom s (read .result .index) in
-    let e : readModel examLimits s ≡ got m (told .0 .0) = told-at m (readModel examLimits s) (read .ensures .0) (told .1) in
-    (index-good examLimits s (read .result .index) (told .0 .0) e, (model-short examLimits s m (told .0 .0) e, few-joints examLimits s m (told .0 .0) e))
+    let m = modelFrom s (into .model-into .last .1 .0) in
+    let e : readModel examLimits s ≡ got m (told .0 .0) = told-at m (readModel examLimits s) (into .model-into .ensures .0) (told .1) in
+    (into .model-into .ensures .1 .1 (told .0 .0) (told .1), (model-short examLimits s m (told .0 .0) e, few-joints examLimits s m (told .0 .0) e))
 
 returns : tie.Need-returns
 returns c =
-    let a = c .before .before .before .before .before .before .before .args in
+    let into = c .before .before .before .before in
+    let a = into .before .before .before .args in
     let s = now (a .model) in
-    let read = c .before .before .before .before .before .read-model in
-    let told = c .before .before .next .given in
-    let e : readModel examLimits s ≡ refused (told .0 .0) (told .0 .1 .0) = told-refused (modelFrom s (read .result .index)) (readModel examLimits s) (read .ensures .0) (told .1) in
+    let told = c .before .before .number .given in
+    let e : readModel examLimits s ≡ refused (told .0 .0) (told .0 .1 .0) = told-refused (modelFrom s (into .model-into .last .1 .0)) (readModel examLimits s) (into .model-into .ensures .0) (told .1) in
     c .on-model .ensures ∙ list-refused examLimits s (a .lent) (told .0 .0) (told .0 .1 .0) e
 
 returns-2 : tie.Need-returns-2
 unfolding modelFrom
 returns-2 c =
-    let a = c .before .before .before .before .before .before .before .args in
+    let into = c .before .before .before .before in
+    let a = into .before .before .before .args in
     let s = now (a .model) in
-    let read = c .before .before .before .before .before .read-model in
     let told = c .before .before .enum-told .given in
-    let m = modelFrom s (read .result .index) in
-    let e : readModel examLimits s ≡ got m (told .0 .0) = told-at m (readModel examLimits s) (read .ensures .0) (told .1) in
+    let m = modelFrom s (into .model-into .last .1 .0) in
+    let e : readModel examLimits s ≡ got m (told .0 .0) = told-at m (readModel examLimits s) (into .model-into .ensures .0) (told .1) in
     c .count-answer .ensures ∙ list-read examLimits s (a .lent) m (told .0 .0) e
 
 pub list-answer-spec : {M : Type 1} → statement M
 list-answer-spec =
     tie.close
     (tie.spec
-    read-model-requires
-    enum-known-next
+    model-into-requires
+    enum-known-number
     on-model-requires
     enum-told
     count-answer-requires

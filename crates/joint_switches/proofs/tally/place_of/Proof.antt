@@ -2,7 +2,8 @@
 use native.Mathlib.Omega.{arith}
 use borrow.Author.Needs.{needs}
 use Rattle.models.specs.Index.{entry}
-use Rattle.joint_switches.proofs.TallyLaws.{source-small, label-small, source-at, label-at, switch-within}
+use Rattle.joint_switches.proofs.TableLaws.{label-small, label-at, switch-within}
+use Rattle.joint_switches.proofs.TallyLaws.{source-small, source-at}
 use Rattle.joint_switches.proofs.tally.place_of.Statement.{statement}
 use Rattle.joint_switches.proofs.tally.place_of.Tie as tie
 

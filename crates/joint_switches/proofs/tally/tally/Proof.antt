@@ -1,7 +1,8 @@
 -- A table of zeros is blank. Assumes nothing.
 use borrow.Author.Needs.{needs}
 use denote.Ref.{now}
-use Rattle.joint_switches.proofs.TallyLaws.{zeros-blank, tally-whole}
+use Rattle.joint_switches.proofs.TableLaws.{zeros-blank}
+use Rattle.joint_switches.proofs.TallyLaws.{tally-whole}
 use Rattle.joint_switches.proofs.tally.tally.Statement.{statement}
 use Rattle.joint_switches.proofs.tally.tally.Tie as tie
 

@@ -3,7 +3,8 @@ use mathlib.Core.Path.{_≡_, refl, _∙_}
 use Prim.Native.Nat.{ℕ, _*_, _-_, _≤_, _<_}
 use native.Mathlib.Omega.{arith}
 use lib.ListN.{length}
-use Rattle.joint_switches.specs.Tally.{Blank, TalliedAt}
+use Rattle.joint_switches.specs.Tally.{TalliedAt}
+use Rattle.joint_switches.specs.Tables.{Blank}
 use Rattle.joint_switches.proofs.TallyLaws.{blank-later, tally-goes-on}
 use Rattle.joint_switches.proofs.tally.tally_into.Statement.{statement}
 use Rattle.joint_switches.proofs.tally.tally_into.Tie as tie

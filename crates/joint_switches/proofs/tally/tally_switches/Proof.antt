@@ -7,7 +7,8 @@ use lib.ListN.{length, getD, length-set}
 use Rattle.models.specs.Index.{Kept}
 use Rattle.models.specs.Counts.{componentAt}
 use Rattle.models.proofs.IndexLaws.{kept-none, kept-set, kept-then}
-use Rattle.joint_switches.proofs.TallyLaws.{switch-within, Counting, counting-starts, counting-ends, place-low, place-high, place-small, counting-few, counting-goes-on}
+use Rattle.joint_switches.proofs.TableLaws.{switch-within}
+use Rattle.joint_switches.proofs.TallyLaws.{Counting, counting-starts, counting-ends, place-low, place-high, place-small, counting-few, counting-goes-on}
 use Rattle.joint_switches.proofs.tally.tally_switches.Statement.{statement}
 use Rattle.joint_switches.proofs.tally.tally_switches.Tie as tie
 

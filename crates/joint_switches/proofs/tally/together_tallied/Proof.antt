@@ -8,7 +8,7 @@ use lib.ListN.{length}
 use Rattle.models.specs.Index.{entry, componentsFrom}
 use Rattle.models.specs.Counts.{perComponent}
 use Rattle.joint_switches.proofs.JointLoops.{numbersOn, togetherOn, together-few, together-starts, together-goes-on}
-use Rattle.joint_switches.proofs.TallyLaws.{none-later}
+use Rattle.formats.proofs.JointCounts.{none-later}
 use Rattle.joint_switches.proofs.tally.together_tallied.Statement.{statement}
 use Rattle.joint_switches.proofs.tally.together_tallied.Tie as tie
 

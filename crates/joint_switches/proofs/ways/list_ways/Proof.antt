@@ -6,8 +6,8 @@ use borrow.Author.Needs.{needs}
 use denote.Ref.{now}
 use lib.ListN.{length, replicate, length-set}
 use Rattle.models.specs.Index.{entry}
-use Rattle.joint_switches.specs.Tally.{Blank}
-use Rattle.joint_switches.proofs.TallyLaws.{zeros-blank, blank-after}
+use Rattle.joint_switches.specs.Tables.{Blank}
+use Rattle.joint_switches.proofs.TableLaws.{zeros-blank, blank-after}
 use Rattle.joint_switches.proofs.WaysLaws.{WaysTo, ways-none, ways-go-on, ways-all, counts-whole}
 use Rattle.joint_switches.proofs.ways.list_ways.Statement.{statement}
 use Rattle.joint_switches.proofs.ways.list_ways.Tie as tie

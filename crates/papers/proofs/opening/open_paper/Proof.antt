@@ -61,7 +61,7 @@ returns c =
     let e : readModel examLimits s ≡ refused (told .0 .0) (told .0 .1 .0) = told-refused (modelFrom s (into .model-into .last .1 .0)) (readModel examLimits s) (into .model-into .ensures .0) (told .1) in (
       c .on-model .ensures ∙ opened-model examLimits (a .kind) s (now (a .second)) (told .0 .0) (told .0 .1 .0) e,
       (
-        into .model-into .ensures .1,
+        into .model-into .ensures .1 .0,
         λ z. absurd (refuses (told .0 .0) 0 (told .0 .1 .0) 0 0 (c .on-model .ensures) (model-number examLimits (a .kind) s (now (a .second)) (told .0 .0) (told .0 .1 .0) e) z),
       ),
     )
@@ -79,7 +79,7 @@ returns-2 c =
     let d : header (a .kind) (now (a .second)) 0 ≡ refused (told .0 .0) (told .0 .1 .0) = sym (h .header .ensures) ∙ field-refused (told .1) in (
       c .on-second .ensures ∙ opened-second examLimits (a .kind) s (now (a .second)) m (read .0 .0) (told .0 .0) (told .0 .1 .0) e d,
       (
-        into .model-into .ensures .1,
+        into .model-into .ensures .1 .0,
         λ z. absurd (refuses (told .0 .0) 1 (told .0 .1 .0) 0 0 (c .on-second .ensures) (header-number (a .kind) (now (a .second)) (told .0 .0) (told .0 .1 .0) d) z),
       ),
     )
@@ -97,8 +97,8 @@ returns-3 c =
     let d : header (a .kind) (now (a .second)) 0 ≡ got (told .0 .0) (told .0 .1 .0) = sym (h .header .ensures) ∙ field-value (told .1) in (
       c .on-second2 .ensures ∙ opened-both examLimits (a .kind) s (now (a .second)) (modelFrom s index) (read .0 .0) (told .0 .0) (told .0 .1 .0) e d,
       (
-        into .model-into .ensures .1,
-        λ z. is-open (a .kind) s index (now (a .second)) (read .0 .0) (told .0 .0) (told .0 .1 .0) e d,
+        into .model-into .ensures .1 .0,
+        λ z. is-open (a .kind) s index (now (a .second)) (read .0 .0) (told .0 .0) (told .0 .1 .0) e d (into .model-into .ensures .1 .1 (read .0 .0) (read .1)),
       ),
     )
 

@@ -1,26 +1,23 @@
--- The goals of locations and those of joint switches are all. Assumes nothing.
+-- A table of zeros is blank. Assumes nothing.
 use native.Mathlib.Omega.{arith}
-use denote.Ref.{now}
-use Rattle.scores.proofs.CountGoals.{obligations-length, locations-few, jumps-few}
+use borrow.Author.Needs.{needs}
+use Rattle.joint_switches.proofs.TableLaws.{zeros-blank}
 use Rattle.scores.proofs.counting.obligation_count.Statement.{statement}
 use Rattle.scores.proofs.counting.obligation_count.Tie as tie
 
-all-location-goals-requires : tie.Need-all-location-goals-requires
-all-location-goals-requires c κs = (c .before .before .pre .0, c .before .before .pre .1 .0)
+slice-aggregate-count-entering : tie.Need-slice-aggregate-count-entering
+slice-aggregate-count-entering c = search needs
 
-all-jump-goals-requires : tie.Need-all-jump-goals-requires
-all-jump-goals-requires c κs = c .before .before .before .pre
+count-entering-requires : tie.Need-count-entering-requires
+count-entering-requires c κs = (c .before .before .before .pre .0 .good, (omega arith, zeros-blank 512))
 
-add-result : tie.Need-add-result
-add-result c =
-    let p = c .before .before .before .before .pre in
-    omega (arith, c .all-jump-goals .ensures, c .before .all-location-goals .ensures, locations-few (p .0) (c .before .before .before .before .args .locations) (p .1 .0), jumps-few (p .0) (p .1 .1))
+goals-by-requires : tie.Need-goals-by-requires
+goals-by-requires c κs = search needs
 
 returns : tie.Need-returns
-returns c =
-    let a = c .before .before .before .before .args in
-    omega (arith, c .all-jump-goals .ensures, c .before .all-location-goals .ensures, obligations-length (now (a .model)) (now (a .index)) (now (a .second)) (now (a .regions)) (a .locations) (c .before .before .before .before .pre .1 .0))
+returns c = search needs
 
 pub obligation-count-spec : {M : Type 1} → statement M
 obligation-count-spec =
-    tie.close (tie.spec all-location-goals-requires all-jump-goals-requires add-result returns)
+    tie.close
+    (tie.spec slice-aggregate-count-entering count-entering-requires goals-by-requires returns)
