@@ -1,5 +1,5 @@
 -- What rows and proofs promise: all that the crates above may use of this crate, beside its definitions (specs/) and the general laws on
--- lists, whole numbers, bits and arrays (All, Integers, Order, Bits, Fill), which say nothing of rows.
+-- lists, whole numbers, bits, arrays and numbers in bytes (All, Integers, Order, Bits, Fill, WordLaws), which say nothing of rows.
 --
 -- The functions (src/lib.rt), each an equation:
 --   no_sums ()               ≡ noSums

@@ -1,5 +1,5 @@
 -- One number more, m times 1, at one unknown. Assumes nothing.
-use mathlib.Core.Path.{_≡_, refl, sym, ap, ap₂, _∙_}
+use mathlib.Core.Path.{_≡_, ap₂, _∙_}
 use mathlib.Core.List.{List, []}
 use Prim.Native.Nat.{ℕ, _+_, _*_, _^_, _<_}
 use native.Mathlib.Omega.{arith}
@@ -8,10 +8,9 @@ use denote.Ref.{now}
 use lib.IntN.{ℤ, pos, natAbs, _+ℤ_, _*ℤ_}
 use lib.ListN.{getD, set}
 use mir.Syntax.{w64}
-use mir.Val.{SFits, toZ, ofZ}
+use mir.Val.{toZ, ofZ}
 use mir.Facts.{toZ-ofZ}
 use Rattle.farkas.specs.Rows.{item}
-use Rattle.farkas.specs.Sums.{plusFrom}
 use Rattle.farkas.proofs.Bits.{fits, read-back}
 use Rattle.farkas.proofs.SumLaws.{plus-none, plus-store}
 use Rattle.farkas.proofs.sums.add_one.Statement.{statement}

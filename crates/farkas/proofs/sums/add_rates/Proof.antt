@@ -1,7 +1,7 @@
 -- Three calls add −a on x, a on x', −b on d; each finds its unknowns as they were. Assumes nothing.
 use mathlib.Core.Path.{_≡_, sym, ap, ap₂, _∙_, subst}
 use mathlib.Core.List.{List, [], _∷_}
-use Prim.Native.Nat.{ℕ, _+_, _*_, _≤_}
+use Prim.Native.Nat.{_+_, _*_, _≤_}
 use native.Mathlib.Omega.{arith}
 use borrow.Author.Needs.{needs}
 use denote.Ref.{now}
@@ -60,9 +60,11 @@ add-numbers-requires-2 : tie.Need-add-numbers-requires-2
 add-numbers-requires-2 c κs =
     let s = c .before .before .before .before .before .before .before in
     let n = s .args .count in
-    let r = rates-second (s .args .m) n (negℤ (pos (s .args .m))) (pos 0) (now (s .args .sums)) (row s) (as-many s) (s .pre .0 .0) (s .pre .0 .1) in
-    (subst (λ (ys : List ℤ). (n + n ≤ length ys) × RoomAt (natAbs (toZ w64 (ofZ w64 (c .times .result)))) n n ys) (sym (first (c .before .before .before)))
-    (r .0, rw (more-size c) (r .1)), (omega arith, s .pre .1 .1))
+    let r = rates-second (s .args .m) n (negℤ (pos (s .args .m))) (pos 0) (now (s .args .sums)) (row s) (as-many s) (s .pre .0 .0) (s .pre .0 .1) in (
+      subst (λ (ys : List ℤ). (n + n ≤ length ys) × RoomAt (natAbs (toZ w64 (ofZ w64 (c .times .result)))) n n ys) (sym (first (c .before .before .before)))
+          (r .0, rw (more-size c) (r .1)),
+      (omega arith, s .pre .1 .1),
+    )
 
 add-add-numbers : tie.Need-add-add-numbers
 add-add-numbers c = search needs
@@ -89,9 +91,11 @@ add-numbers-requires-3 c κs =
     let s = t .before .before .before .before .before .before .before .before in
     let n = s .args .count in
     let o = t .before .before .before .before .before .before in
-    let r = rates-third (s .args .m) n (negℤ (pos (s .args .m))) (pos (s .args .m)) (now (s .args .sums)) (row s) (as-many s) (s .pre .0 .0) (s .pre .0 .1) in
-    (subst (λ (ys : List ℤ). (n + n + 1 ≤ length ys) × RoomAt (natAbs (toZ w64 (ofZ w64 (o .opposite .result)))) (n + n) 1 ys) (sym (both t))
-    (r .0, rw (less-size o) (r .1)), (omega arith, s .pre .1 .1))
+    let r = rates-third (s .args .m) n (negℤ (pos (s .args .m))) (pos (s .args .m)) (now (s .args .sums)) (row s) (as-many s) (s .pre .0 .0) (s .pre .0 .1) in (
+      subst (λ (ys : List ℤ). (n + n + 1 ≤ length ys) × RoomAt (natAbs (toZ w64 (ofZ w64 (o .opposite .result)))) (n + n) 1 ys) (sym (both t))
+          (r .0, rw (less-size o) (r .1)),
+      (omega arith, s .pre .1 .1),
+    )
 
 same-length : tie.Need-same-length
 same-length c = search needs

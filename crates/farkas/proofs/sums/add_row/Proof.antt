@@ -1,6 +1,6 @@
 -- The coefficients are added by `add_numbers`, the bound by one product more. Assumes nothing.
 use mathlib.Core.Path.{_≡_, sym, ap, ap₂, _∙_}
-use Prim.Native.Nat.{ℕ, _+_, _*_, _^_, _≤_, _<_}
+use Prim.Native.Nat.{_+_, _^_, _≤_}
 use native.Mathlib.Nat.{mul-le-mul-left}
 use native.Mathlib.Omega.{arith}
 use borrow.Author.Needs.{needs}
@@ -11,9 +11,9 @@ use mir.Syntax.{w64}
 use mir.Val.{toZ, ofZ}
 use mir.Facts.{toZ-ofZ}
 use Rattle.farkas.specs.Rows.{rowOf, onward}
-use Rattle.farkas.specs.Words.{signedAt, numbersAt, rowIn}
+use Rattle.farkas.specs.Words.{numbersAt, rowIn}
 use Rattle.farkas.specs.Farkas.{addRow}
-use Rattle.farkas.specs.Sums.{plusFrom, RoomAt}
+use Rattle.farkas.specs.Sums.{plusFrom}
 use Rattle.farkas.proofs.SumLaws.{plus-onward, numbers-length, room-all}
 use Rattle.farkas.proofs.sums.add_row.Statement.{statement}
 use Rattle.farkas.proofs.sums.add_row.Tie as tie

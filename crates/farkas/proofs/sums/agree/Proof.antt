@@ -1,8 +1,8 @@
 -- The three tests are the parts of the definition's test: before the goal's unknowns, at them, and past them. Assumes nothing.
 use mathlib.Core.Path.{_≡_, refl, sym, ap, _∙_}
-use mathlib.Core.Bool.{Bool, true, false}
+use mathlib.Core.Bool.{true, false}
 use mathlib.Core.List.{List}
-use Prim.Native.Nat.{ℕ, _+_, _*_, _-_, _≤_}
+use Prim.Native.Nat.{ℕ, _+_, _-_, _≤_}
 use native.Mathlib.Omega.{arith}
 use borrow.Author.Needs.{needs}
 use borrow.Author.Tests.{not-true, not-false}
@@ -11,7 +11,7 @@ use lib.IntN.{ℤ, pos}
 use lib.ListN.{length, take, drop, replicate}
 use Rattle.farkas.specs.Lists.{every}
 use Rattle.farkas.specs.Words.{numbersAt}
-use Rattle.farkas.specs.Sums.{isZero, agreesAt, cleared}
+use Rattle.farkas.specs.Sums.{isZero, cleared}
 use Rattle.farkas.proofs.SumLaws.{numbers-length}
 use Rattle.farkas.proofs.SumTest.{first-fails, second-fails, third-tells, cleared-length, cleared-past, cleared-zero, zeros-are, whole-part}
 use Rattle.farkas.proofs.sums.agree.Statement.{statement}

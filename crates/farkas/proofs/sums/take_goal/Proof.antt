@@ -1,19 +1,17 @@
 -- The sums agree at each number that the loop has passed, and those are 0 again; where it stops they differ. Assumes nothing.
 use mathlib.Core.Path.{_≡_, refl, sym, ap, _∙_}
-use mathlib.Core.Bool.{Bool, true, false}
 use mathlib.Core.List.{List}
-use Prim.Native.Nat.{ℕ, _+_, _*_, _-_, _^_, _≤_, _<_}
+use Prim.Native.Nat.{ℕ, _+_, _*_, _-_, _≤_, _<_}
 use native.Mathlib.Omega.{arith}
 use borrow.Author.Count.{below-none, below-more}
 use borrow.Author.Needs.{needs}
 use denote.Ref.{now}
-use lib.IntN.{ℤ, pos, natAbs, _*ℤ_}
+use lib.IntN.{ℤ, pos, _*ℤ_}
 use lib.ListN.{length, getD, set}
 use mir.Syntax.{w64}
-use mir.Val.{toZ, ofZ}
-use mir.Facts.{toZ-ofZ}
+use mir.Val.{ofZ}
 use Rattle.farkas.proofs.Bits.{fits, same-bits, times-room, times}
-use Rattle.farkas.specs.Words.{signedAt, numbersAt}
+use Rattle.farkas.specs.Words.{signedAt}
 use Rattle.farkas.specs.Sums.{cleared}
 use Rattle.farkas.proofs.SumTest.{cleared-none, cleared-length, cleared-read, cleared-store, goal-agrees, goal-differs}
 use Rattle.farkas.proofs.sums.take_goal.Statement.{statement}
