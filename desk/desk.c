@@ -22,7 +22,7 @@ static const char help[] =
     "       desk --help                   this text\n"
     "\n"
     "MODEL and SECOND are files with one sheet each. SECOND is marked as a run if its byte 3 is 3, else as a certificate.\n"
-    "Variables are the letters a to h, in the model's order; a' is the value of a after a jump.\n"
+    "Variables are the letters a to h, in the model's order; a' is the value of a after a flow or a jump.\n"
     "TEXT has one <= between two expressions of whole numbers, letters, round brackets, +, - and *, such as 2*(a - 1) <= b.\n"
     "Status: 0 accepted, 1 refused, 2 the desk could not do what was asked.\n";
 
@@ -78,14 +78,15 @@ static int show_row(const struct request *request)
 {
     const struct sheet *model = &request->model;
     const struct sheet *second = &request->second;
-    struct silfoddra_answer answer =
-        silfoddra_show_row(model->bytes, model->length, second->bytes, second->length, request->obligation, request->hypothesis);
-    if (answer.number != 0) {
+    struct silfoddra_row row =
+        silfoddra_hypothesis(model->bytes, model->length, second->bytes, second->length, request->obligation, request->hypothesis);
+    if (row.number != 0) {
+        struct silfoddra_answer answer = {.number = row.number, .sheet = row.sheet, .place = row.place};
         print_refusal(&answer, model, second);
         return REFUSED;
     }
     print_obligation(model, second, request->obligation);
-    print_hypothesis(model, second, request->obligation, request->hypothesis, &answer);
+    print_hypothesis(model, second, request->obligation, request->hypothesis, &row);
     return ACCEPTED;
 }
 

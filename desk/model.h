@@ -11,19 +11,8 @@ enum { MOST_VARIABLES = 8, MOST_COMPONENTS = 4, MOST_JOINTS = 4096, STAYS = 255 
 size_t model_variables(const struct sheet *model);
 size_t model_components(const struct sheet *model);
 
-/* The component that owns a variable. */
-size_t model_owner(const struct sheet *model, size_t variable);
-
 /* The mode of each component in a location. */
 void model_modes(const struct sheet *model, uint32_t location, uint32_t modes[MOST_COMPONENTS]);
-
-enum condition { INITIAL, INVARIANT, FLOW, JUMP, UNSAFE };
-
-/* The kind of condition that has a row at this offset. */
-enum condition model_condition(const struct sheet *model, size_t offset);
-
-/* How many numbers a row of such a condition has: its coefficients and its bound. */
-size_t model_row_numbers(const struct sheet *model, enum condition condition);
 
 /* The joint list: its answer, and the records, which last until the next call. */
 struct silfoddra_answer model_joints(const struct sheet *model, const struct silfoddra_joint **records);

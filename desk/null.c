@@ -42,6 +42,12 @@ static struct numbers row(const struct sheet *model, const struct sheet *second)
     return from_answer(silfoddra_show_row(model->bytes, model->length, second->bytes, second->length, 0, 0));
 }
 
+static struct numbers hypothesis(const struct sheet *model, const struct sheet *second)
+{
+    struct silfoddra_row r = silfoddra_hypothesis(model->bytes, model->length, second->bytes, second->length, 0, 0);
+    return (struct numbers){6, {r.number, r.sheet, r.place, r.size, r.role, r.owner}};
+}
+
 static struct numbers obligation(const struct sheet *model, const struct sheet *second)
 {
     struct silfoddra_obligation o = silfoddra_which_obligation(model->bytes, model->length, second->bytes, second->length, 0);
@@ -109,6 +115,7 @@ static int try_all(const struct sheet *model, const struct sheet *second, const 
     int differences = try_sheets("silfoddra_mark_certificate", certificate, model, second);
     differences += try_sheets("silfoddra_mark_run", run, model, run_sheet);
     differences += try_sheets("silfoddra_show_row", row, model, second);
+    differences += try_sheets("silfoddra_hypothesis", hypothesis, model, second);
     differences += try_sheets("silfoddra_which_obligation", obligation, model, second);
     differences += try_table(model, model);
     differences += try_table(lone_model, lone_model);

@@ -7,9 +7,20 @@
 #include <inttypes.h>
 #include <stdio.h>
 
-/* The kinds of obligation, and the sheets of a row: the numbers of marker.h. */
+/* The kinds of obligation, and the sheets and roles of a row: the numbers of marker.h. */
 enum { FROM_START = 0, AFTER_FLOW = 1, NOT_UNSAFE = 2 };
-enum { IN_MODEL = 0, IN_CERTIFICATE = 1, IN_NO_SHEET = 2 };
+enum { IN_MODEL = 0, IN_NO_SHEET = 2 };
+enum {
+    INITIAL = 0,
+    REGION = 1,
+    INVARIANT = 2,
+    UNSAFE = 3,
+    NEW_INVARIANT = 4,
+    FLOW = 5,
+    TIME = 6,
+    JUMP = 7,
+    STAYING = 8
+};
 
 enum { MOST_NUMBERS = 2 * MOST_VARIABLES + 1 };
 
@@ -30,14 +41,10 @@ static void print_after_jump(const struct sheet *model, const struct silfoddra_o
     print_joint(model, &joint);
 }
 
-static struct silfoddra_obligation which_obligation(const struct sheet *model, const struct sheet *second, uint32_t number)
-{
-    return silfoddra_which_obligation(model->bytes, model->length, second->bytes, second->length, number);
-}
-
 void print_obligation(const struct sheet *model, const struct sheet *second, uint32_t number)
 {
-    struct silfoddra_obligation obligation = which_obligation(model, second, number);
+    struct silfoddra_obligation obligation =
+        silfoddra_which_obligation(model->bytes, model->length, second->bytes, second->length, number);
     if (obligation.number != 0)
         return;
     printf("Obligation %" PRIu32 ": ", number);
@@ -59,81 +66,88 @@ void print_obligation(const struct sheet *model, const struct sheet *second, uin
     }
 }
 
-/* A row that stands at an offset of a sheet. */
-static void print_row(const char *title, const struct sheet *sheet, size_t offset, size_t count, size_t variables)
+/* What a hypothesis is. */
+static void print_role(const struct silfoddra_row *row)
 {
-    int64_t numbers[MOST_NUMBERS];
-    printf("%s: %s, bytes %zu to %zu.\n ", title, sheet->name, offset, offset + 4 * count - 1);
-    for (size_t i = 0; i < 4 * count; i++)
-        printf(" %02x", sheet_byte(sheet, offset + i));
+    switch (row->role) {
+    case INITIAL:
+        printf("initial row of component %" PRIu32 ".\n", row->owner);
+        break;
+    case REGION:
+        printf("region row.\n");
+        break;
+    case INVARIANT:
+        printf("invariant row of component %" PRIu32 ".\n", row->owner);
+        break;
+    case UNSAFE:
+        printf("unsafe row.\n");
+        break;
+    case NEW_INVARIANT:
+        printf("invariant row of component %" PRIu32 ", on the new values.\n", row->owner);
+        break;
+    case FLOW:
+        printf("flow row of component %" PRIu32 ", on the rates.\n", row->owner);
+        break;
+    case TIME:
+        printf("the time of a flow.\n");
+        break;
+    case JUMP:
+        printf("jump row of component %" PRIu32 ".\n", row->owner);
+        break;
+    default:
+        printf("variable %c stays.\n", variable_letter(row->owner));
+        break;
+    }
+}
+
+/* A row that a sheet holds: where, its bytes, and what it says. */
+static void print_row(const struct sheet *sheet, const struct silfoddra_row *row, size_t variables)
+{
+    int64_t numbers[MOST_NUMBERS] = {0};
+    size_t before = row->role == NEW_INVARIANT ? variables : 0; /* coefficients that are 0, of the values before */
+    size_t count = row->size / 4;
+    printf("Place: %s, bytes %" PRIu32 " to %" PRIu32 ".\n ", sheet->name, row->place, row->place + row->size - 1);
+    for (size_t i = 0; i < row->size; i++)
+        printf(" %02x", sheet_byte(sheet, row->place + i));
     printf("\n");
     for (size_t i = 0; i < count; i++)
-        numbers[i] = sheet_signed(sheet, offset + 4 * i);
-    print_inequality(numbers, count, variables);
+        numbers[before + i] = sheet_signed(sheet, row->place + 4 * i);
+    print_inequality(numbers, before + count, variables);
 }
 
-static void print_model_row(const struct sheet *model, size_t offset)
+/* Whether a row of a variable that stays is the second of its two: then the first is the hypothesis before it. */
+static int is_second_of_two(const struct sheet *model, const struct sheet *second, uint32_t obligation, uint32_t hypothesis,
+                            const struct silfoddra_row *row)
 {
-    static const char *const titles[] = {
-        [INITIAL] = "Row of an initial condition",
-        [INVARIANT] = "Row of an invariant",
-        [FLOW] = "Row of a flow condition, on the rates",
-        [JUMP] = "Row of a jump condition",
-        [UNSAFE] = "Row of an unsafe condition",
-    };
-    enum condition condition = model_condition(model, offset);
-    print_row(titles[condition], model, offset, model_row_numbers(model, condition), model_variables(model));
+    if (hypothesis == 0)
+        return 0;
+    struct silfoddra_row before =
+        silfoddra_hypothesis(model->bytes, model->length, second->bytes, second->length, obligation, hypothesis - 1);
+    return before.role == STAYING && before.owner == row->owner;
 }
 
-/* How many hypotheses just before this one stand in no sheet either. */
-static uint32_t rows_of_no_sheet_before(const struct sheet *model, const struct sheet *second, uint32_t obligation, uint32_t hypothesis)
-{
-    for (uint32_t before = 0; before < hypothesis; before++) {
-        struct silfoddra_answer found = silfoddra_show_row(model->bytes, model->length, second->bytes, second->length, obligation,
-                                                           hypothesis - before - 1);
-        if (found.sheet != IN_NO_SHEET)
-            return before;
-    }
-    return hypothesis;
-}
-
-/* The staying rows of a joint switch, counted from 0: two for each variable that stays, x' - x <= 0, then x - x' <= 0. */
-static void print_staying_row(const struct sheet *model, const struct silfoddra_joint *joint, uint32_t row)
+/* The rows of a variable that stays: x' - x <= 0, then x - x' <= 0. */
+static void print_staying_row(const struct sheet *model, uint32_t variable, int is_second)
 {
     int64_t numbers[MOST_NUMBERS] = {0};
     size_t variables = model_variables(model);
-    uint32_t passed = 0;
-    for (size_t v = 0; v < variables; v++) {
-        if (joint->switches[model_owner(model, v)] != STAYS)
-            continue;
-        if (passed == row / 2) {
-            numbers[v] = row % 2 == 0 ? -1 : 1;
-            numbers[variables + v] = -numbers[v];
-        }
-        passed++;
-    }
-    printf("Row of no sheet: a variable that stays.\n");
+    numbers[variable] = is_second ? 1 : -1;
+    numbers[variables + variable] = -numbers[variable];
     print_inequality(numbers, 2 * variables + 1, variables);
 }
 
-static void print_row_of_no_sheet(const struct sheet *model, const struct sheet *second, uint32_t obligation, uint32_t hypothesis)
-{
-    struct silfoddra_obligation which = which_obligation(model, second, obligation);
-    struct silfoddra_joint joint;
-    if (which.kind == AFTER_FLOW)
-        printf("Row of no sheet: the time of a flow.\n  -time <= 0\n");
-    else if (model_joint(model, which.subject, &joint) == 0)
-        print_staying_row(model, &joint, rows_of_no_sheet_before(model, second, obligation, hypothesis));
-}
-
 void print_hypothesis(const struct sheet *model, const struct sheet *second, uint32_t obligation, uint32_t hypothesis,
-                      const struct silfoddra_answer *found)
+                      const struct silfoddra_row *row)
 {
-    size_t variables = model_variables(model);
-    if (found->sheet == IN_MODEL)
-        print_model_row(model, found->place);
-    else if (found->sheet == IN_CERTIFICATE)
-        print_row("Row of a region", second, found->place, variables + 1, variables);
+    printf("Hypothesis %" PRIu32 ": ", hypothesis);
+    print_role(row);
+    if (row->sheet != IN_NO_SHEET) {
+        print_row(row->sheet == IN_MODEL ? model : second, row, model_variables(model));
+        return;
+    }
+    printf("Place: no sheet.\n");
+    if (row->role == STAYING)
+        print_staying_row(model, row->owner, is_second_of_two(model, second, obligation, hypothesis, row));
     else
-        print_row_of_no_sheet(model, second, obligation, hypothesis);
+        printf("  -time <= 0\n");
 }

@@ -8,9 +8,9 @@
 /* Which obligation has a number, with its location and its joint switch. Says nothing if there is none. */
 void print_obligation(const struct sheet *model, const struct sheet *second, uint32_t number);
 
-/* The row of a hypothesis, as silfoddra_show_row has found it: its bytes, and what they say, as it is typed (type.h). A row that stands in
-   no sheet has no bytes. */
+/* A hypothesis whose row silfoddra_hypothesis has found: what it is, its place and bytes if a sheet holds it, and what it says, as it is
+   typed (type.h). */
 void print_hypothesis(const struct sheet *model, const struct sheet *second, uint32_t obligation, uint32_t hypothesis,
-                      const struct silfoddra_answer *found);
+                      const struct silfoddra_row *row);
 
 #endif

@@ -97,9 +97,10 @@ try desk examples/unsafe-plant.model event.run
 edit examples/unsafe-plant.run end.run 170 00 00 00 05
 try desk examples/unsafe-plant.model end.run
 
-echo '# Rows: initial, region, invariant, flow, time, unsafe, jump, two variables that stay; no such row'
+echo '# Rows: initial, region, invariant, the same on the new values, flow, time, unsafe, jump, two variables that stay; no such row'
 try desk --row 0 3 examples/plant.model examples/plant.certificate
 try desk --row 87 3 examples/plant.model examples/plant.certificate
+try desk --row 87 4 examples/plant.model examples/plant.certificate
 try desk --row 87 9 examples/plant.model examples/plant.certificate
 try desk --row 3 14 examples/plant.model examples/plant.certificate
 try desk --row 3 17 examples/plant.model examples/plant.certificate

@@ -5,8 +5,8 @@
 #include <stddef.h>
 #include <stdint.h>
 
-/* A row by its numbers, of which the last is its bound, such as 2*a - c <= 5. Typed again it gives the same numbers, unless it is the row
-   of a jump: there the second half of the coefficients is for the values after it, a' of a. */
+/* A row by its numbers, of which the last is its bound, such as 2*a - c <= 5. Typed again it gives the same numbers, unless it has
+   coefficients for the new values of a flow or a jump: these are its second half, for a' of a. */
 void print_inequality(const int64_t *numbers, size_t count, size_t variables);
 
 /* Reads a typed row on so many variables and says what it gives: the row's numbers, its bytes, and the row typed plainly; or why it is

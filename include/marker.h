@@ -52,6 +52,26 @@ struct silfoddra_obligation {
     uint32_t line;
 };
 
+/* The row of one hypothesis: what silfoddra_hypothesis hands back. */
+struct silfoddra_row {
+    /* 0, or why there is none: as in an answer, and 5 where there is no such obligation or hypothesis. */
+    uint32_t number;
+    /* The sheet that holds the row, 0 the model, 1 the second sheet; 2 for a row that no sheet holds. In a refusal as in an answer. */
+    uint32_t sheet;
+    /* The offset of the row's first byte in that sheet; 0 for a row that no sheet holds. In a refusal as in an answer. */
+    uint32_t place;
+    /* How many bytes the row has there: four for each coefficient and for the bound; 0 for a row that no sheet holds. This and the two
+       fields below are 0 in a refusal. */
+    uint32_t size;
+    /* What the hypothesis is; x are the values, x' those after a flow or a jump, d is the time of a flow:
+        0 an initial row, on x      1 a region row, on x            2 an invariant row, on x
+        3 an unsafe row, on x       4 an invariant row, on x'       5 a flow row, on the rates
+        6 -d <= 0                   7 a jump row, on x and x'       8 of a variable that stays: x' - x <= 0, then x - x' <= 0 */
+    uint32_t role;
+    /* The component whose row it is, for roles 0, 2, 4, 5 and 7; the variable that stays, for role 8; 0 for roles 1, 3 and 6. */
+    uint32_t owner;
+};
+
 /* The calls take sheets as they were handed in: the bytes, of any length, and how many there are. A null pointer with length 0 is an
    empty sheet; with any other length the pointer must not be null. The bytes are only read, and nothing of them is kept. */
 
@@ -91,6 +111,12 @@ struct silfoddra_answer silfoddra_joint_list(const uint8_t *model, size_t model_
 struct silfoddra_answer silfoddra_show_row(const uint8_t *model, size_t model_length,
                                            const uint8_t *second, size_t second_length,
                                            uint32_t obligation, uint32_t hypothesis);
+
+/* The same row with its length in bytes, and what it is: its role among the hypotheses, and the component or variable that it is of. Its
+   number, sheet and place are those of silfoddra_show_row, in a refusal too. */
+struct silfoddra_row silfoddra_hypothesis(const uint8_t *model, size_t model_length,
+                                          const uint8_t *second, size_t second_length,
+                                          uint32_t obligation, uint32_t hypothesis);
 
 /* Which obligation has a number: whether it is of a start, a flow, an unsafe condition or a jump, where, and which row. */
 struct silfoddra_obligation silfoddra_which_obligation(const uint8_t *model, size_t model_length,
@@ -139,6 +165,11 @@ SILFODDRA_STATIC_ASSERT(sizeof(struct silfoddra_obligation) == 24 && offsetof(st
                             offsetof(struct silfoddra_obligation, kind) == 12 && offsetof(struct silfoddra_obligation, subject) == 16 &&
                             offsetof(struct silfoddra_obligation, line) == 20,
                         "an obligation is six numbers of four bytes");
+SILFODDRA_STATIC_ASSERT(sizeof(struct silfoddra_row) == 24 && offsetof(struct silfoddra_row, number) == 0 &&
+                            offsetof(struct silfoddra_row, sheet) == 4 && offsetof(struct silfoddra_row, place) == 8 &&
+                            offsetof(struct silfoddra_row, size) == 12 && offsetof(struct silfoddra_row, role) == 16 &&
+                            offsetof(struct silfoddra_row, owner) == 20,
+                        "the row of a hypothesis is six numbers of four bytes");
 SILFODDRA_STATIC_ASSERT(sizeof(struct silfoddra_joint) == 7 && offsetof(struct silfoddra_joint, source) == 0 &&
                             offsetof(struct silfoddra_joint, event) == 1 && offsetof(struct silfoddra_joint, switches) == 2 &&
                             offsetof(struct silfoddra_joint, target) == 6,

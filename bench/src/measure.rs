@@ -66,10 +66,10 @@ pub fn measure(case: &Case, samples: usize) -> Figures {
     Figures { library: median(library), rust: median(rust) }
 }
 
-type Mark = Box<dyn Fn(&[u8], &[u8]) -> Answer>;
+pub type Mark = Box<dyn Fn(&[u8], &[u8]) -> Answer>;
 
 /// The library's call and the independent marker's.
-fn calls(call: Call) -> (Mark, Mark) {
+pub fn calls(call: Call) -> (Mark, Mark) {
     match call {
         Call::Certificate => (Box::new(library::mark_certificate), Box::new(marker::mark_certificate)),
         Call::Run => (Box::new(library::mark_run), Box::new(marker::mark_run)),

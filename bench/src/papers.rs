@@ -60,9 +60,27 @@ fn products(switches: &[usize]) -> Case {
     }
 }
 
+/// The same certificate with another multiplier in its first proof, whose coefficients are then unequal.
+fn refused_at_first(switches: &[usize]) -> Case {
+    /// The lowest byte of that multiplier: after the header, the number of locations, the one region with its row, the proof's k and its
+    /// count of entries, and the number of the hypothesis.
+    const MULTIPLIER: usize = 4 + 1 + (1 + 8) + (4 + 1) + 1 + 3;
+    let mut case = products(switches);
+    assert_eq!(case.second[MULTIPLIER], 1);
+    case.second[MULTIPLIER] = 2;
+    Case { name: format!("{} joint switches, the first proof fails", switches.iter().product::<usize>()), number: 10, ..case }
+}
+
+/// A model with so many joint switches.
+fn joints(call: Call, switches: &[usize]) -> Case {
+    let count: usize = switches.iter().product();
+    case(&format!("{count} joint switches"), call, 0, extremes::joint_switches(switches, 0))
+}
+
 /// Papers of doubling size.
 pub fn growing() -> Vec<(&'static str, Vec<Case>)> {
     let certificates = [[2, 4, 4], [4, 4, 4], [4, 4, 8], [4, 8, 8], [8, 8, 8], [8, 8, 16], [8, 16, 16]];
+    let models = [[2, 4, 4], [4, 4, 4], [4, 4, 8], [4, 8, 8], [8, 8, 8], [8, 8, 16], [8, 16, 16], [16, 16, 16]];
     let runs = [64, 128, 256, 512, 1_024, 2_048, 4_095];
     vec![
         ("Certificates of doubling size:", certificates.iter().map(|switches| products(switches)).collect()),
@@ -70,5 +88,20 @@ pub fn growing() -> Vec<(&'static str, Vec<Case>)> {
             "Runs of doubling length:",
             runs.iter().map(|&steps| case(&format!("{steps} steps"), Call::Run, 0, extremes::long_run(steps))).collect(),
         ),
+        (
+            "Certificates of doubling size that are refused at their first proof:",
+            certificates.iter().map(|switches| refused_at_first(switches)).collect(),
+        ),
+        (
+            "Models of doubling joint switches, a certificate without regions:",
+            models.iter().map(|switches| joints(Call::Certificate, switches)).collect(),
+        ),
+        ("The same models, the joint list:", models.iter().map(|switches| joints(Call::JointList, switches)).collect()),
     ]
+}
+
+/// All of them, in the order of the tables.
+pub fn every_case() -> Vec<Case> {
+    let grown = growing().into_iter().flat_map(|(_, cases)| cases);
+    cases().into_iter().chain(grown).collect()
 }

@@ -25,7 +25,8 @@ use Rattle.papers.specs.Paper.{GoodPaper}
 use Rattle.certificates.specs.Passed.{standsAt}
 use Rattle.rules.proofs.MarkedRanges.{Marks, proofs-mark}
 use Rattle.scores.proofs.CountGoals.{obligations-length, locations-few, jumps-few}
-use Rattle.certificates.proofs.MarkLaws.{stands-passed, stands-stopped}
+use Rattle.certificates.proofs.MarkLaws.{Goes, goes, mark-tasks, stands-passed, stands-stopped}
+use Rattle.hypotheses.specs.Listing.{tasks}
 use Rattle.papers.specs.Opening.{opened, Open}
 use Rattle.papers.proofs.OpenLaws.{open-refused, open-goes-on, opened-answer}
 
@@ -103,7 +104,7 @@ module _ (all : List Obligation) (s : List ℕ) (at : ℕ) (h : at ≤ length s)
       let k : Marked (Unit {0}) = markProofs all s at 0 in
       let none : standsAt k .number ≡ 0 = sym (ap (λ w. w .number) e) ∙ z in
       let same : k ≡ passed tt (marked .place) (marked .done) =
-      subst (λ (w : declared.Marking). k ≡ passed tt (w .place) (w .done)) (sym e) (stands-passed k s (length all) marks none) in
+      subst (λ (w : declared.Marking). k ≡ passed tt (w .place) (w .done)) (sym e) (stands-passed k s (subst (Goes s) (sym (mark-tasks all s at 0)) (goes (tasks all) s at 0 h (omega arith))) none) in
       let total : marked .done ≡ length all = ap (λ w. w .done) e ∙ stands-done k s (length all) marks none in
       ap₂ (λ (n : ℕ) (w : Marked (Unit {0})). closeCertificate n s w) total (sym same)
 

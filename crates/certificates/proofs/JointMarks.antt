@@ -1,33 +1,39 @@
 -- The loops over joint switches: what is still to come, and a part that was marked by itself. Assumes nothing.
 use mathlib.Core.Path.{_≡_, refl, sym, ap, ap₂, _∙_, subst}
 use mathlib.Core.List.{List, [], _∷_, _++_, map-append}
-use Prim.Native.Nat.{ℕ, suc, _+_, _≤_, _<_}
+use Prim.Native.Nat.{ℕ, suc, _+_, _*_, _≤_, _<_}
 use native.Mathlib.Numerals.{add-one}
 use native.Mathlib.Omega.{arith}
 use lib.ListN.{length, getD, drop, drop-of-length-le}
 use lib.Seq.{drop-cons}
-use Rattle.farkas.specs.Farkas.{Proof}
 use Rattle.fields.specs.declared.Next.the-variants as next
-use Rattle.formats.specs.Reading.{Got, got, refused}
 use Rattle.formats.specs.Rows.{Condition}
 use Rattle.formats.specs.Model.{Component, Model}
 use Rattle.formats.specs.Locations.{locationCount, modesAt, locationOf}
-use Rattle.formats.specs.Joint.{countUp, joinAll, switchesOf, modesAfter, JointSwitch, jointsOf, joints, jointFrom}
-use Rattle.models.specs.Index.{entry, componentsFrom, modelFrom}
+use Rattle.formats.specs.Joint.{countUp, joinAll, switchesOf, modesAfter, fourSwitches, JointSwitch, jointsOf, joints, jointFrom}
+use Rattle.models.specs.Index.{entry, componentsFrom, modelFrom, GoodIndex, Kept}
+use Rattle.models.specs.Counts.{perComponent, KnownSwitches}
+use Rattle.joint_switches.specs.declared.Landing.{Landing}
+use Rattle.joint_switches.specs.Slots.{landingOf}
+use Rattle.papers.proofs.FoundLaws.{found-first, found-switches, found-below}
+use Rattle.papers.proofs.JoinedLaws.{joinedOn, joined-first, joined-whole}
+use Rattle.hypotheses.proofs.TableLaws.{stacked-kept, lines-kept}
 use Rattle.second_sheets.specs.CertificateAnswers.{regionsFrom}
+use Rattle.formats.specs.JointTotals.{eventTotal}
 use Rattle.formats.proofs.JointCounts.{event-length}
+use Rattle.formats.proofs.JointProduct.{countable, event-none}
+use Rattle.models.proofs.GoodIndexLaws.{good-components}
 use Rattle.joint_switches.proofs.JointLoops.{record-at}
 use Rattle.certificates.specs.declared.Marking as declared
-use Rattle.rules.specs.Obligations.{Obligation, locationObligations, jumpObligations, jumpsObligations, obligationsOver, obligations, afterJump}
-use Rattle.rules.specs.Marking.{Marked, passed, stopped}
-use Rattle.papers.specs.Paper.{heldNext, regionsOf}
-use Rattle.hypotheses.specs.Listing.{Task, tasks, taskOf, locationTasks, jumpTasks, jointTasks, markTask, markTasks}
-use Rattle.certificates.specs.Passed.{standsAt}
+use Rattle.rules.specs.Obligations.{locationObligations, jumpObligations, jumpsObligations, obligationsOver, obligations, afterJump}
+use Rattle.rules.specs.Marking.{Marked, passed, stopped, markProofs}
+use Rattle.papers.specs.Paper.{regionsOf, obligationsFor}
+use Rattle.hypotheses.specs.Listing.{Task, tasks, taskOf, locationTasks, jumpTasks, jointTasks, markTasks, HereIn}
+use Rattle.certificates.specs.Passed.{standsAt, markedFrom, leavingTasks, Underway}
 use Rattle.rules.proofs.ListFacts.{joined-twice, joined-alike, joined-told}
 use Rattle.hypotheses.proofs.GroupLaws.{row-tasks}
-use Rattle.rules.proofs.MarkedRanges.{Marks, proofs-mark}
-use Rattle.certificates.proofs.MarkLaws.{mark-tasks, task-advances, parts-passed, parts-stopped, stands-passed, stands-stopped, placeWhere, doneWhere, not-passed}
-use Rattle.certificates.proofs.MarkLoops.{Comes}
+use Rattle.certificates.proofs.MarkLaws.{mark-tasks, Goes, goes, parts-passed, parts-stopped, stands-passed, stands-stopped}
+use Rattle.certificates.proofs.MarkLoops.{Comes, comes-same}
 
 -- one joint switch; its number and its event do not matter
 module _ (m : Model) (regionAt : ℕ → Condition) where
@@ -94,44 +100,34 @@ module _ (model index : List ℕ) (regionAt : ℕ → Condition) (location e : �
   jumps-end x h = ap (joinAll (jumpOf (modelFrom model index) regionAt)) (drop-of-length-le here {i = x} (omega (arith, h, event-length (componentsFrom model index) location e)))
 
 -- a part that was marked by itself: where it passed, the rest comes from there
-passes-at : (t : Task) (s : List ℕ) (p : ℕ) (x : Proof) (after : ℕ) → markTask t s p ≡ got x after → heldNext (markTask t s p) ≡ next.At after
-unfolding heldNext
-passes-at t s p x after k = ap heldNext k
-
-marked-later : (ts : List Task) (s : List ℕ) (p d q e : ℕ) → markTasks ts s p d ≡ passed tt q e → d ≤ p → e ≤ q
-unfolding markTasks
-marked-later [] s p d q e h l = omega (arith, l, ap placeWhere h, ap doneWhere h)
-marked-later (t ∷ ts) s p d q e h l = go (markTask t s p) refl h (λ after. marked-later ts s after (suc d) q e)
-  where
-    go : (g : Got Proof) → markTask t s p ≡ g → _≡_ {A = Marked (Unit {0})} (elim g [ got x after ↦ markTasks ts s after (suc d) | refused number at ↦ stopped number at d ]) (passed tt q e) → ((after : ℕ) → markTasks ts s after (suc d) ≡ passed tt q e → suc d ≤ after → e ≤ q) → e ≤ q
-    go (got x after) k h r = r after h (omega (arith, l, task-advances t s p after (passes-at t s p x after k) .0))
-    go (refused number at) k h r = absurd (not-passed h)
-
-module _ (s : List ℕ) (whole : Marked (Unit {0})) (os : List Obligation) (rest : List Task) (p d : ℕ) (r : declared.Marking) (told : r ≡ standsAt (markTasks (tasks os) s p d)) (within : p ≤ length s) where
-  marks : Marks s (d + length os) (markTasks (tasks os) s p d)
-  marks = subst (Marks s (d + length os)) (mark-tasks os s p d) (proofs-mark os s p d (d + length os) within refl)
-
-  part-passed : r .number ≡ 0 → markTasks (tasks os) s p d ≡ passed tt (r .place) (r .done)
+module _ (s : List ℕ) (ts : List Task) (p d : ℕ) (r : declared.Marking) (told : r ≡ standsAt (markTasks ts s p d)) (within : p ≤ length s) (few : d ≤ p) where
+  part-passed : r .number ≡ 0 → markTasks ts s p d ≡ passed tt (r .place) (r .done)
   part-passed z =
-      stands-passed (markTasks (tasks os) s p d) s (d + length os) marks (ap (λ (k : declared.Marking). k .number) (sym told) ∙ z)
+      stands-passed (markTasks ts s p d) s (goes ts s p d within few) (ap (λ (k : declared.Marking). k .number) (sym told) ∙ z)
       ∙ ap (λ (k : declared.Marking). passed tt (k .place) (k .done)) (sym told)
 
-  pub part-on : r .number ≡ 0 → Comes s whole (tasks os ++ rest) p d → Comes s whole rest (r .place) (r .done)
-  part-on z c = sym (parts-passed (tasks os) rest s p d (r .place) (r .done) (part-passed z)) ∙ c
+  pub part-underway : r .number ≡ 0 → Underway s r
+  part-underway z = let w = subst (Goes s) (part-passed z) (goes ts s p d within few) in record { number = z; within = w .0; few = w .1 }
 
-  pub part-within : r .number ≡ 0 → r .place ≤ length s
-  part-within z = subst (Marks s (d + length os)) (part-passed z) marks .0
+  module _ (whole : Marked (Unit {0})) (rest : List Task) where
+    pub part-on : r .number ≡ 0 → Comes s whole (ts ++ rest) p d → Comes s whole rest (r .place) (r .done)
+    part-on z c = sym (parts-passed ts rest s p d (r .place) (r .done) (part-passed z)) ∙ c
 
-  pub part-later : r .number ≡ 0 → d ≤ p → r .done ≤ r .place
-  part-later z l = marked-later (tasks os) s p d (r .place) (r .done) (part-passed z) l
+    pub part-stops : (r .number ≡ 0 → ⊥) → Comes s whole (ts ++ rest) p d → r ≡ standsAt whole
+    unfolding standsAt
+    part-stops f c =
+        let cut : markTasks ts s p d ≡ stopped (r .number) (r .place) (r .done) = stands-stopped (markTasks ts s p d) (λ z. f (ap (λ (k : declared.Marking). k .number) told ∙ z)) ∙ ap (λ (k : declared.Marking). stopped (k .number) (k .place) (k .done)) (sym told) in
+        ap standsAt (sym (parts-stopped ts rest s p d (r .number) (r .place) (r .done) cut) ∙ c)
 
-  pub part-stops : (r .number ≡ 0 → ⊥) → Comes s whole (tasks os ++ rest) p d → stopped (r .number) (r .place) (r .done) ≡ whole
-  part-stops f c =
-      sym
-      (parts-stopped (tasks os) rest s p d (r .number) (r .place) (r .done)
-      (stands-stopped (markTasks (tasks os) s p d) (λ z. f (ap (λ (k : declared.Marking). k .number) told ∙ z))
-      ∙ ap (λ (k : declared.Marking). stopped (k .number) (k .place) (k .done)) (sym told)))
-      ∙ c
+-- nothing to prove leaves marking where it stands, and so does coming to the end
+pub marked-none : (s : List ℕ) (m : declared.Marking) (ts : List Task) → m .number ≡ 0 → ts ≡ [] → m ≡ markedFrom ts s m
+unfolding standsAt markTasks
+marked-none s m ts z e =
+    ap (λ (n : ℕ). record { number = n; place = m .place; done = m .done }) z
+    ∙ ap (λ (xs : List Task). standsAt (markTasks xs s (m .place) (m .done))) (sym e)
+
+pub marked-end : (s : List ℕ) (whole : Marked (Unit {0})) (m : declared.Marking) (left : List Task) → m .number ≡ 0 → left ≡ [] → Comes s whole left (m .place) (m .done) → m ≡ standsAt whole
+marked-end s whole m left z e c = marked-none s m left z e ∙ ap standsAt c
 
 -- all obligations: those of the locations, then those of the joint switches
 pub all-parts :
@@ -147,6 +143,60 @@ all-parts model index second regions locations e =
     ∙ ap (λ (ts : List Task). ts ++ jointTasks m regionAt (joints components)) (joined-told taskOf (locationObligations m regionAt) (countUp 0 (locationCount components)))
     ∙ ap (λ (n : ℕ). joinAll (locationTasks m regionAt) (countUp 0 n) ++ jointTasks m regionAt (joints components)) (sym e)
 
-pub location-tasks : (m : Model) (regionAt : ℕ → Condition) (locations : ℕ) → tasks (joinAll (locationObligations m regionAt) (countUp 0 locations)) ≡ joinAll (locationTasks m regionAt) (countUp 0 locations)
-unfolding tasks locationTasks
-location-tasks m regionAt locations = joined-told taskOf (locationObligations m regionAt) (countUp 0 locations)
+-- a joint switch as a table tells it, by its number
+module _ {model index : List ℕ} (g : GoodIndex model index) (location e x : ℕ) (modes : List ℕ) (h : location < locationCount (componentsFrom model index)) (p : perComponent index modes ≡ modesAt (componentsFrom model index) location) (k : e ≤ 15) (l : x < length (switchesOf (componentsFrom model index) (modesAt (componentsFrom model index) location) e)) (r : Landing) (told : r ≡ landingOf (componentsFrom model index) (perComponent index modes) (getD (switchesOf (componentsFrom model index) (perComponent index modes) e) x [])) where
+  four : r .switches ≡ fourSwitches (getD (switchesOf (componentsFrom model index) (perComponent index modes) e) x [])
+  unfolding landingOf
+  four = ap (λ (k : Landing). k .switches) told
+
+  pub landing-known : KnownSwitches index (r .switches)
+  landing-known = found-switches g location e x modes h p k l (r .switches) four
+
+  landing-first : perComponent index (r .switches) ≡ foundAt model index location e x
+  landing-first = found-first g location e x modes h p k l (r .switches) four
+
+  landing-target : r .target ≡ locationOf (componentsFrom model index) (modesAfter (componentsFrom model index) (modesAt (componentsFrom model index) location) (foundAt model index location e x))
+  unfolding landingOf
+  landing-target =
+      ap (λ (k : Landing). k .target) told
+      ∙ ap (λ (ms : List ℕ). locationOf (componentsFrom model index) (modesAfter (componentsFrom model index) ms (getD (switchesOf (componentsFrom model index) ms e) x []))) p
+
+  pub landing-below : r .target < locationCount (componentsFrom model index)
+  landing-below = subst (λ (t : ℕ). t < locationCount (componentsFrom model index)) (sym landing-target) (found-below g location e x modes h p k l)
+
+  -- its proofs come first among those that are left
+  pub landing-next : (regionAt : ℕ → Condition) → jumpsLeft model index regionAt location e x ≡ jumpTasks (modelFrom model index) regionAt location (perComponent index (r .switches)) (r .target) ++ jumpsLeft model index regionAt location e (x + 1)
+  landing-next regionAt =
+      jumps-next model index regionAt location e x l
+      ∙ ap₂ (λ (switches : List ℕ) (target : ℕ). jumpTasks (modelFrom model index) regionAt location switches target ++ jumpsLeft model index regionAt location e (x + 1)) (sym landing-first) (sym landing-target)
+
+-- what stands in the table of a location stays, whatever is pushed after it
+pub here-kept : {model index regions before after : List ℕ} {location here : ℕ} → Kept (4 * here + 4) 96 before after → HereIn model index regions location here before → HereIn model index regions location here after
+here-kept {here = here} k h = record { below = h .below; few = h .few; stacked = stacked-kept k (h .stacked); told = lines-kept here (omega arith) k ∙ h .told }
+
+-- the first part of what a loop over numbers has still to do
+pub comes-first : (s : List ℕ) (whole : Marked (Unit {0})) (f : ℕ → List Task) (n i p d : ℕ) → i < n → Comes s whole (joinedOn f n i) p d → Comes s whole (f i ++ joinedOn f n (i + 1)) p d
+comes-first s whole f n i p d h c = comes-same s whole p d (joined-first f n i h) c
+
+-- an event without joint switches has nothing to prove
+pub joint-none : {model index : List ℕ} → GoodIndex model index → (m : Model) (regionAt : ℕ → Condition) (location e : ℕ) → location < locationCount (componentsFrom model index) → eventTotal (componentsFrom model index) e ≡ 0 → jointTasks m regionAt (jointsOf (componentsFrom model index) location e) ≡ []
+unfolding joinAll
+joint-none {model} {index} g m regionAt location e h none =
+    joint-jumps m regionAt (jointsOf (componentsFrom model index) location e)
+    ∙ ap (joinAll (jumpOf m regionAt)) (event-none (countable (good-components g)) e location none h)
+
+-- all joint switches, location by location
+pub joints-left : (model index second regions : List ℕ) (locations : ℕ) → locations ≡ locationCount (componentsFrom model index) → jointTasks (modelFrom model index) (regionsOf model index second regions) (joints (componentsFrom model index)) ≡ joinedOn (leavingTasks model index second regions) locations 0
+unfolding leavingTasks
+joints-left model index second regions locations e =
+    joints-parts (modelFrom model index) (regionsOf model index second regions) (componentsFrom model index)
+    ∙ ap (λ (n : ℕ). joinAll (leavingTasks model index second regions) (countUp 0 n)) (sym e)
+    ∙ sym (joined-whole (leavingTasks model index second regions) locations)
+
+-- the marking of all obligations comes from these two parts
+pub all-come :
+    (model index second regions : List ℕ) (locations at : ℕ) → locations ≡ locationCount (componentsFrom model index)
+    → Comes second (markProofs (obligationsFor model index second regions locations) second at 0) (joinAll (locationTasks (modelFrom model index) (regionsOf model index second regions)) (countUp 0 locations) ++ jointTasks (modelFrom model index) (regionsOf model index second regions) (joints (componentsFrom model index))) at 0
+all-come model index second regions locations at e =
+    ap (λ (ts : List Task). markTasks ts second at 0) (sym (all-parts model index second regions locations e))
+    ∙ sym (mark-tasks (obligationsFor model index second regions locations) second at 0)

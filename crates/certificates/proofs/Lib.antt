@@ -1,3 +1,5 @@
+pub mod FreshLaws
+pub mod RowlessLaws
 pub mod MarkLaws
 pub mod MarkLoops
 pub mod JointMarks

@@ -2,16 +2,14 @@
 use mathlib.Core.Path.{_≡_, refl, sym, ap, ap₂, _∙_, subst}
 use mathlib.Core.Bool.{Bool, true, false, cond}
 use mathlib.Core.List.{List, [], _∷_, _++_, map}
-use Prim.Native.Nat.{ℕ, zero, suc, _+_, _*_, _-_, _≤_, _<_}
+use Prim.Native.Nat.{ℕ, zero, suc, _+_, _*_, _≤_, _<_}
 use native.Mathlib.Numerals.{add-one}
 use native.Mathlib.Omega.{arith}
 use lib.Dec.{leb}
 use lib.ListN.{length, getD, drop, take, replicate, length-map, length-replicate}
 use borrow.Author.Tests.{leb-true}
-use Rattle.farkas.specs.declared.Row.{Row}
-use Rattle.farkas.specs.Rows.{zeroRow, noSums}
-use Rattle.farkas.specs.Farkas.{Proof, farkasTest, summed}
-use Rattle.farkas.proofs.Promise.{alike-refl, alike-padded, alike-test}
+use Rattle.farkas.specs.Rows.{Row, zeroRow}
+use Rattle.farkas.specs.Farkas.{Proof, farkasTest}
 use Rattle.fields.specs.declared.Next.{Next}
 use Rattle.fields.specs.declared.Next.the-variants as next
 use Rattle.formats.specs.Reading.{Got, got, refused, _>>=_, bigEndian, give, field, u8, u32, must, within}
@@ -19,32 +17,17 @@ use Rattle.formats.specs.Rows.{SheetRow}
 use Rattle.fields.specs.Places.{rowAt, rowsFrom}
 use Rattle.formats.specs.Certificate.{readEntries, readProof}
 use Rattle.formats.proofs.Gives.{passes, tested, got-next}
-use Rattle.formats.proofs.Placed.{Fine, Placed, placed-bind, placed-give, placed-within, placed-u8, placed-entries}
+use Rattle.formats.proofs.Placed.{Fine, Placed, placed-bind, placed-give, placed-within, placed-u8, placed-entries, placed-proof}
 use Rattle.rules.specs.Obligations.{Obligation, zeroOnly, onNext}
 use Rattle.rules.specs.Marking.{Marked, passed, stopped, testProof, markProof, markProofs}
-use Rattle.hypotheses.specs.Tables.{padded, hypothesesFrom, hypothesisRows, testWith, markWith}
+use Rattle.hypotheses.specs.Tables.{hypothesesFrom, hypothesisRows, testWith, markWith}
 use Rattle.papers.specs.Paper.{heldNext}
-use Rattle.hypotheses.specs.Listing.{Task, noTask, taskOf, tasks, tasksFrom, tasksOf, goalsOf, markTask, markTasks}
-use Rattle.certificates.specs.Passed.{standsAt}
+use Rattle.hypotheses.specs.Listing.{Task, noTask, taskOf, tasks, tasksFrom, tasksOf, goalsOf, GoodGroup, markTask, markTasks}
+use Rattle.sums.specs.Summing.{goalAt}
+use Rattle.certificates.specs.Passed.{standsAt, oneOf}
 use Rattle.hypotheses.specs.declared.Group.{Group}
 use Rattle.formats.proofs.JointCounts.{mapped-at}
 use Rattle.fields.proofs.ConditionLaws.{length-rows}
-use Rattle.rules.proofs.MarkedRanges.{Marks}
-
--- a goal as the code holds it
-padded-test : (rows : List Row) (goal : Row) (x : Proof) → farkasTest rows (padded goal) x ≡ farkasTest rows goal x
-unfolding farkasTest padded
-padded-test rows goal x =
-    alike-test (x .k) (alike-refl (summed rows (x .entries))) (alike-padded (17 - length (goal .coefficients)) (goal .coefficients) (goal .bound))
-
-padded-tested : (rows : List Row) (goal : Row) (p : ℕ) (g : Got Proof) → testWith rows (padded goal) p g ≡ testWith rows goal p g
-unfolding testWith
-padded-tested rows goal p (refused number at) = refl
-padded-tested rows goal p (got x after) = ap (λ (n : ℕ). elim n [ zero ↦ got x after | suc k ↦ refused (suc k) p ]) (padded-test rows goal x)
-
-pub mark-padded : (rows : List Row) (zeroK : Bool) (goal : Row) (s : List ℕ) (p : ℕ) → markWith rows zeroK (padded goal) s p ≡ markWith rows zeroK goal s p
-unfolding markWith
-mark-padded rows zeroK goal s p = padded-tested rows goal p (readProof (length rows) zeroK s p)
 
 -- obligations are marked as what they have to prove
 same-test : (o : Obligation) (p : ℕ) (g : Got Proof) → testProof o p g ≡ testWith (hypothesisRows (o .hypotheses)) (o .goal) p g
@@ -182,11 +165,44 @@ parts-stopped (t ∷ xs) ys s p d number at e h = go (markTask t s p) (λ after.
     go (got x after) r h = r after h
     go (refused n q) r h = h
 
+-- how far marking comes: what passed ends within the sheet, at least as many bytes on as proofs have passed; what failed has a number
+abbrev pub Goes : List ℕ → Marked (Unit {0}) → Type 0
+Goes s (passed u place done) = (place ≤ length s) × (done ≤ place)
+Goes s (stopped number place done) = 1 ≤ number
+
+pub refused-number : (t : Task) (s : List ℕ) (p number place : ℕ) → p ≤ length s → markTask t s p ≡ refused number place → 1 ≤ number
+unfolding markTask markWith testWith
+refused-number t s p number place h e = go (readProof (length (t .rows)) (t .zeroK) s p) (placed-proof {least = 0} (length (t .rows)) (t .zeroK) .fine s p (omega arith) h) e
+  where
+    numbered : Got Proof → ℕ
+    numbered (got x q) = 0
+    numbered (refused n q) = n
+
+    go : (g : Got Proof) → Fine s p g → testWith (t .rows) (t .goal) p g ≡ refused number place → 1 ≤ number
+    go (refused n q) w e = omega (arith, w .0, ap numbered e)
+    go (got x q) w e = by-test (farkasTest (t .rows) (t .goal) x) e
+      where
+        by-test : (k : ℕ) → _≡_ {A = Got Proof} (elim k [ zero ↦ got x q | suc n ↦ refused (suc n) p ]) (refused number place) → 1 ≤ number
+        by-test zero e = absurd (no-value (sym e))
+        by-test (suc k) e = let z : suc k ≡ number = ap numbered e in omega (arith, z)
+
+pub goes : (ts : List Task) (s : List ℕ) (p d : ℕ) → p ≤ length s → d ≤ p → Goes s (markTasks ts s p d)
+unfolding markTasks heldNext
+goes [] s p d h l = (h, l)
+goes (t ∷ ts) s p d h l = go (markTask t s p) refl (λ q a b. goes ts s q (suc d) a b)
+  where
+    at : (x : Proof) (q : ℕ) → markTask t s p ≡ got x q → heldNext (markTask t s p) ≡ next.At q
+    at x q e = ap heldNext e
+
+    go : (g : Got Proof) → markTask t s p ≡ g → ((q : ℕ) → q ≤ length s → suc d ≤ q → Goes s (markTasks ts s q (suc d))) → Goes s (elim g [ got x q ↦ markTasks ts s q (suc d) | refused number place ↦ stopped number place d ])
+    go (got x q) e r = let w = task-advances t s p q (at x q e) in r q (w .1) (omega (arith, w .0, l))
+    go (refused number place) e r = refused-number t s p number place h e
+
 -- where marking stands
-pub stands-passed : (k : Marked (Unit {0})) (s : List ℕ) (all : ℕ) → Marks s all k → standsAt k .number ≡ 0 → k ≡ passed tt (standsAt k .place) (standsAt k .done)
+pub stands-passed : (k : Marked (Unit {0})) (s : List ℕ) → Goes s k → standsAt k .number ≡ 0 → k ≡ passed tt (standsAt k .place) (standsAt k .done)
 unfolding standsAt
-stands-passed (passed tt place done) s all m e = refl
-stands-passed (stopped number place done) s all m e = absurd (omega (arith, m .0, e))
+stands-passed (passed tt place done) s m e = refl
+stands-passed (stopped number place done) s m e = absurd (omega (arith, m, e))
 
 pub stands-stopped : (k : Marked (Unit {0})) → (standsAt k .number ≡ 0 → ⊥) → k ≡ stopped (standsAt k .number) (standsAt k .place) (standsAt k .done)
 unfolding standsAt
@@ -211,18 +227,26 @@ row-at f s n p (suc count) (suc j) d h = row-at f s n (p + 4 * (n + 1)) count j 
     later : (p n j : ℕ) → p + 4 * (n + 1) + 4 * (n + 1) * j ≡ p + 4 * (n + 1) * suc j
     later p n j = omega arith
 
-pub no-goal : (second : List ℕ) (n : ℕ) (g : Group) (goal : ℕ) → g .zero ≡ true → noSums ≡ padded (getD (goalsOf second n g) goal zeroRow)
-unfolding goalsOf padded zeroRow noSums
-no-goal second n g goal e =
-    sym
-    (ap (λ (b : Bool). padded (getD (elim b [ true ↦ replicate (g .goals) zeroRow | false ↦ map (λ r. onNext (g .shift) (r .row)) (rowsFrom second n (g .from) (g .goals)) ]) goal zeroRow)) e
-    ∙ ap padded (all-zero (g .goals) goal))
-
-pub goal-at : (second : List ℕ) (n : ℕ) (g : Group) (goal : ℕ) → g .zero ≡ false → goal < g .goals → getD (goalsOf second n g) goal zeroRow ≡ onNext (g .shift) (rowAt second n (g .from + 4 * (n + 1) * goal) .row)
+no-goal : (second : List ℕ) (n : ℕ) (g : Group) (goal : ℕ) → g .zero ≡ true → getD (goalsOf second n g) goal zeroRow ≡ zeroRow
 unfolding goalsOf
-goal-at second n g goal e h =
+no-goal second n g goal e =
+    ap (λ (b : Bool). getD (elim b [ true ↦ replicate (g .goals) zeroRow | false ↦ map (λ r. onNext (g .shift) (r .row)) (rowsFrom second n (g .from) (g .goals)) ]) goal zeroRow) e
+    ∙ all-zero (g .goals) goal
+
+row-goal : (second : List ℕ) (n : ℕ) (g : Group) (goal : ℕ) → g .zero ≡ false → goal < g .goals → getD (goalsOf second n g) goal zeroRow ≡ onNext (g .shift) (rowAt second n (g .from + 4 * (n + 1) * goal) .row)
+unfolding goalsOf
+row-goal second n g goal e h =
     ap (λ (b : Bool). getD (elim b [ true ↦ replicate (g .goals) zeroRow | false ↦ map (λ r. onNext (g .shift) (r .row)) (rowsFrom second n (g .from) (g .goals)) ]) goal zeroRow) e
     ∙ row-at (λ r. onNext (g .shift) (r .row)) second n (g .from) (g .goals) goal zeroRow h
+
+-- each is the goal at its place
+pub goal-at : (second : List ℕ) (n : ℕ) (g : Group) (goal : ℕ) → goal < g .goals → getD (goalsOf second n g) goal zeroRow ≡ goalAt second n g (g .from + 4 * (n + 1) * goal)
+unfolding goalAt
+goal-at second n g goal h = go (g .zero) refl
+  where
+    go : (b : Bool) → g .zero ≡ b → getD (goalsOf second n g) goal zeroRow ≡ elim (g .zero) [ true ↦ zeroRow | false ↦ onNext (g .shift) (rowAt second n (g .from + 4 * (n + 1) * goal) .row) ]
+    go true e = no-goal second n g goal e ∙ sym (ap (λ (b : Bool). elim b [ true ↦ zeroRow | false ↦ onNext (g .shift) (rowAt second n (g .from + 4 * (n + 1) * goal) .row) ]) e)
+    go false e = row-goal second n g goal e h ∙ sym (ap (λ (b : Bool). elim b [ true ↦ zeroRow | false ↦ onNext (g .shift) (rowAt second n (g .from + 4 * (n + 1) * goal) .row) ]) e)
 
 -- the tasks of a group, by their numbers
 zero-length : (second : List ℕ) (n : ℕ) (g : Group) → g .zero ≡ true → length (goalsOf second n g) ≡ g .goals
@@ -249,6 +273,70 @@ pub tasks-length : (model second : List ℕ) (n : ℕ) (table : List ℕ) (g : G
 unfolding tasksOf tasksFrom
 tasks-length model second n table g = length-map (goalsOf second n g) _ ∙ goals-length second n g
 
-pub task-at : (model second : List ℕ) (n : ℕ) (table : List ℕ) (g : Group) (goal : ℕ) → goal < g .goals → getD (tasksOf model second n table g) goal noTask ≡ record { rows = hypothesisRows (hypothesesFrom model second n table (g .hypotheses)); zeroK = g .zero; goal = getD (goalsOf second n g) goal zeroRow }
+pub task-at : (model second : List ℕ) (n : ℕ) (table : List ℕ) (g : Group) (goal : ℕ) → goal < g .goals → getD (tasksOf model second n table g) goal noTask ≡ record { rows = hypothesisRows (hypothesesFrom model second n table (g .segments)); zeroK = g .zero; goal = getD (goalsOf second n g) goal zeroRow }
 unfolding tasksOf tasksFrom
 task-at model second n table g goal h = mapped-at _ (goalsOf second n g) goal zeroRow noTask (omega (arith, h, goals-length second n g))
+
+-- a proof marked by its place is the task of its number
+pub proof-task : (model second : List ℕ) (n : ℕ) (table : List ℕ) (g : Group) (goal : ℕ) (s : List ℕ) (p : ℕ) → goal < g .goals → markWith (hypothesisRows (hypothesesFrom model second n table (g .segments))) (g .zero) (goalAt second n g (g .from + 4 * (n + 1) * goal)) s p ≡ markTask (getD (tasksOf model second n table g) goal noTask) s p
+unfolding markTask
+proof-task model second n table g goal s p h =
+    ap (λ (r : Row). markWith (hypothesisRows (hypothesesFrom model second n table (g .segments))) (g .zero) r s p) (sym (goal-at second n g goal h))
+    ∙ ap (λ (t : Task). markTask t s p) (sym (task-at model second n table g goal h))
+
+-- a group with one goal alone has that goal's task
+pub one-task : (model second : List ℕ) (n : ℕ) (table : List ℕ) (g : Group) (goal : ℕ) → goal < g .goals → tasksOf model second n table (oneOf g n goal) ≡ getD (tasksOf model second n table g) goal noTask ∷ []
+unfolding tasksOf tasksFrom goalsOf oneOf rowsFrom
+one-task model second n table g goal h =
+    ap (λ (rows : List Row). tasksFrom (hypothesisRows (hypothesesFrom model second n table (g .segments))) (g .zero) rows) (one-goal (g .zero) refl)
+    ∙ ap (λ (t : Task). t ∷ []) (sym (task-at model second n table g goal h))
+  where
+    one-goal : (b : Bool) → g .zero ≡ b → goalsOf second n (oneOf g n goal) ≡ getD (goalsOf second n g) goal zeroRow ∷ []
+    one-goal true e =
+        ap (λ (b : Bool). elim b as (λ _. List Row) [ true ↦ zeroRow ∷ [] | false ↦ onNext (g .shift) (rowAt second n (g .from + 4 * (n + 1) * goal) .row) ∷ [] ]) e
+        ∙ ap (λ (r : Row). r ∷ []) (sym (no-goal second n g goal e))
+    one-goal false e =
+        ap (λ (b : Bool). elim b as (λ _. List Row) [ true ↦ zeroRow ∷ [] | false ↦ onNext (g .shift) (rowAt second n (g .from + 4 * (n + 1) * goal) .row) ∷ [] ]) e
+        ∙ ap (λ (r : Row). r ∷ []) (sym (row-goal second n g goal e h))
+
+pub one-good : {model second : List ℕ} {n : ℕ} {table : List ℕ} {g : Group} (goal : ℕ) → goal < g .goals → GoodGroup model second n table g → GoodGroup model second n table (oneOf g n goal)
+unfolding oneOf
+one-good {second = second} {n = n} {g = g} goal h good =
+    record {
+      stacked = good .stacked;
+      segments = good .segments;
+      hypotheses = good .hypotheses;
+      lines = good .lines;
+      goals = λ z j l. one-place z j l;
+      none = λ z. (first-goal goal (good .none z .0) (omega (arith, h, good .none z .1)), omega arith);
+      shift = good .shift;
+      width = good .width;
+      counted = omega arith;
+    }
+  where
+    first : (from n goal j : ℕ) → j < 1 → from + 4 * (n + 1) * goal + 4 * (n + 1) * (j + 1) ≡ from + 4 * (n + 1) * (goal + 1)
+    first from n goal zero l = omega arith
+    first from n goal (suc j) l = absurd (omega arith)
+
+    first-goal : (k : ℕ) → g .from ≡ 0 → k ≡ 0 → g .from + 4 * (n + 1) * k ≡ 0
+    first-goal k e z = ap₂ (λ (i j : ℕ). i + 4 * (n + 1) * j) e z ∙ nothing n
+      where
+        nothing : (n : ℕ) → 0 + 4 * (n + 1) * 0 ≡ 0
+        nothing n = omega arith
+
+    one-place : g .zero ≡ false → (j : ℕ) → j < 1 → g .from + 4 * (n + 1) * goal + 4 * (n + 1) * (j + 1) ≤ length second
+    one-place z j l = subst (λ (k : ℕ). k ≤ length second) (sym (first (g .from) n goal j l)) (good .goals z goal h)
+
+-- the rows of goals lie within the sheet, or are none
+pub goal-low : {model second : List ℕ} {n : ℕ} {table : List ℕ} {g : Group} (goal : ℕ) → n ≤ 8 → length second ≤ 32768 → goal < g .goals → GoodGroup model second n table g → g .from + 4 * (n + 1) * goal ≤ 32768
+goal-low {second = second} {n = n} {g = g} goal m s h good = go (g .zero) refl
+  where
+    less : (from n goal most : ℕ) → from + 4 * (n + 1) * (goal + 1) ≤ most → from + 4 * (n + 1) * goal ≤ most
+    less from n goal most l = omega (arith, l)
+
+    few : (from n goal : ℕ) → from ≡ 0 → goal ≡ 0 → from + 4 * (n + 1) * goal ≤ 32768
+    few from n goal e z = rw (e, z) (omega arith)
+
+    go : (b : Bool) → g .zero ≡ b → g .from + 4 * (n + 1) * goal ≤ 32768
+    go true z = few (g .from) n goal (good .none z .0) (omega (arith, h, good .none z .1))
+    go false z = less (g .from) n goal 32768 (omega (arith, good .goals z goal h, s))

@@ -2,7 +2,7 @@
 -- of what the levels around it have. Assumes nothing.
 use mathlib.Core.Path.{_≡_, refl, sym, ap, ap₂, _∙_}
 use mathlib.Core.Bool.{Bool, true, false}
-use mathlib.Core.List.{List, [], _∷_, _++_, map, append-assoc, map-append}
+use mathlib.Core.List.{List, [], _∷_, _++_, map, append-assoc, append-nil, map-append}
 use Prim.Native.Nat.{ℕ, zero, suc, _+_, _-_, _≤_, _<_}
 use native.Mathlib.Numerals.{add-one}
 use native.Mathlib.Omega.{arith}
@@ -21,6 +21,7 @@ use Rattle.rules.specs.Obligations.{Obligation, clearOfUnsafe, unsafeHypotheses
 use Rattle.rules.specs.Marking.{Marked, passed, stopped}
 use Rattle.papers.specs.Paper.{heldNext, regionsOf}
 use Rattle.hypotheses.specs.Listing.{Task, noTask, taskOf, tasks, groupTasks, noUnsafe, locationTasks, markTask, markTasks}
+use Rattle.certificates.specs.Passed.{standsAt}
 use Rattle.papers.proofs.JoinedLaws.{joinedOn, joined-first, joined-none}
 use Rattle.certificates.proofs.MarkLaws.{task-passed, task-failed}
 
@@ -108,6 +109,9 @@ module _ (s : List ℕ) (whole : Marked (Unit {0})) where
     here : drop goal part ≡ getD part goal noTask ∷ drop (goal + 1) part
     here = drop-cons part goal noTask h ∙ ap (λ (i : ℕ). getD part goal noTask ∷ drop i part) (sym (add-one goal))
 
+    pub goal-first : (p d : ℕ) → Comes (drop goal part ++ rest) p d → Comes ((getD part goal noTask ∷ []) ++ (drop (goal + 1) part ++ rest)) p d
+    goal-first p d c = comes-same p d (ap (λ (ts : List Task). ts ++ rest) here) c
+
     pub goal-passed : (p d q : ℕ) → heldNext (markTask (getD part goal noTask) s p) ≡ next.At q → Comes (drop goal part ++ rest) p d → Comes (drop (goal + 1) part ++ rest) q (d + 1)
     goal-passed p d q e c =
         sym (task-passed (getD part goal noTask) (drop (goal + 1) part ++ rest) s p d q e)
@@ -121,3 +125,33 @@ module _ (s : List ℕ) (whole : Marked (Unit {0})) where
   pub comes-end : (left : List Task) (p d : ℕ) → left ≡ [] → Comes left p d → passed tt p d ≡ whole
   unfolding markTasks
   comes-end left p d e c = comes-same p d e c
+
+-- the goals of a group that is marked alone
+pub goals-left : (s : List ℕ) (part : List Task) (p d : ℕ) → markTasks (drop 0 part) s p (d + 0) ≡ markTasks part s p d
+goals-left s part p d = ap (markTasks part s p) (none d)
+  where
+    none : (d : ℕ) → d + 0 ≡ d
+    none d = omega arith
+
+module _ (s : List ℕ) (whole : Marked (Unit {0})) (part : List Task) where
+  alone : (ts : List Task) (p d : ℕ) → Comes s whole ts p d → Comes s whole (ts ++ []) p d
+  alone ts p d c = comes-same s whole p d (sym (append-nil ts)) c
+
+  pub goals-over : (goal goals p d : ℕ) → length part ≡ goals → goal ≡ goals → Comes s whole (drop goal part) p (d + goal) → record { number = 0; place = p; done = d + goals } ≡ standsAt whole
+  unfolding standsAt
+  goals-over goal goals p d all e c =
+      ap (λ (n : ℕ). record { number = 0; place = p; done = d + n }) (sym e)
+      ∙ ap standsAt (comes-end s whole (drop goal part) p (d + goal) (drop-of-length-le part {i = goal} (omega (arith, all, e))) c)
+
+  module _ (goal : ℕ) (h : goal < length part) where
+    pub goal-on : (p d q : ℕ) → heldNext (markTask (getD part goal noTask) s p) ≡ next.At q → Comes s whole (drop goal part) p (d + goal) → Comes s whole (drop (goal + 1) part) q (d + (goal + 1))
+    goal-on p d q e c =
+        ap (markTasks (drop (goal + 1) part) s q) (more d goal)
+        ∙ comes-same s whole q (d + goal + 1) (append-nil (drop (goal + 1) part)) (goal-passed s whole part [] goal h p (d + goal) q e (alone (drop goal part) p (d + goal) c))
+      where
+        more : (d goal : ℕ) → d + (goal + 1) ≡ d + goal + 1
+        more d goal = omega arith
+
+    pub goal-stops : (p d number at : ℕ) → heldNext (markTask (getD part goal noTask) s p) ≡ next.Refused number at → Comes s whole (drop goal part) p d → record { number = number; place = at; done = d } ≡ standsAt whole
+    unfolding standsAt
+    goal-stops p d number at e c = ap standsAt (goal-failed s whole part [] goal h p d number at e (alone (drop goal part) p d c))

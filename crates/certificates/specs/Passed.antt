@@ -2,11 +2,19 @@
 -- Assumes nothing.
 use Rattle.rules.specs.Marking.{Marked, passed, stopped, answer, refusedScore, markProofs, closeCertificate, markRegions}
 use Rattle.certificates.specs.declared.Marking as declared
+use mathlib.Core.Path.{_≡_}
+use mathlib.Core.Bool.{Bool}
 use mathlib.Core.List.{List}
-use Prim.Native.Nat.{ℕ}
-use lib.ListN.{length}
+use Prim.Native.Nat.{ℕ, _+_, _*_, _≤_}
+use lib.Dec.{eqb}
+use lib.IntN.{ℤ, pos}
+use lib.ListN.{length, replicate}
+use Rattle.formats.specs.Joint.{countUp, joinAll, jointsOf}
+use Rattle.hypotheses.specs.declared.Group.{Group}
+use Rattle.hypotheses.specs.Listing.{Task, markTasks, HereIn, jointTasksFor}
+use Rattle.certificates.specs.declared.Leaving.{Leaving}
 use Rattle.formats.specs.Certificate.{readRegions}
-use Rattle.models.specs.Index.{modelFrom}
+use Rattle.models.specs.Index.{entry, componentsFrom, modelFrom}
 use Rattle.rules.specs.declared.Answer.{Answer}
 use Rattle.papers.specs.Paper.{obligationsFor}
 
@@ -14,6 +22,49 @@ use Rattle.papers.specs.Paper.{obligationsFor}
 unfoldable pub standsAt : Marked (Unit {0}) → declared.Marking
 standsAt (passed u place done) = record { number = 0; place = place; done = done }
 standsAt (stopped number place done) = record { number = number; place = place; done = done }
+
+-- what is still to prove, marked from where marking stands
+abbrev pub markedFrom : List Task → List ℕ → declared.Marking → declared.Marking
+markedFrom left second from = standsAt (markTasks left second (from .place) (from .done))
+
+-- marking goes on: nothing has failed, and no more proofs have passed than bytes were read
+pub record Underway (second : List ℕ) (m : declared.Marking) : Type 0 where
+  pub number : m .number ≡ 0
+  pub within : m .place ≤ length second
+  pub few : m .done ≤ m .place
+
+-- the sums of all unknowns are 0
+pub record Fresh (sums : List ℤ) : Type 0 where
+  pub zeros : sums ≡ replicate 17 (pos 0)
+
+-- a group with one of its goals alone
+unfoldable pub oneOf : Group → ℕ → ℕ → Group
+oneOf g n goal =
+    record {
+      segments = g .segments;
+      hypotheses = g .hypotheses;
+      goals = 1;
+      from = g .from + 4 * (n + 1) * goal;
+      shift = g .shift;
+      width = g .width;
+      zero = g .zero;
+    }
+
+-- a region without rows
+unfoldable pub rowless : List ℕ → ℕ → Bool
+rowless regions l = eqb (entry regions (2 * l + 1)) 0
+
+-- the proofs of joint switches from a location can go on: its own segments stand in the table
+pub record Ready (model index second regions : List ℕ) (from : Leaving) (table : List ℕ) (sums : List ℤ) : Type 0 where
+  pub long : 96 ≤ length table
+  pub here : HereIn model index regions (from .location) (from .here) table
+  pub underway : Underway second (from .marking)
+  pub fresh : Fresh sums
+
+-- what all joint switches from a location have to prove, event by event
+unfoldable pub leavingTasks : List ℕ → List ℕ → List ℕ → List ℕ → ℕ → List Task
+leavingTasks model index second regions location =
+    joinAll (λ e. jointTasksFor model index second regions (jointsOf (componentsFrom model index) location e)) (countUp 0 16)
 
 -- the answer where marking stopped, of so many obligations
 abbrev pub stoppedAnswer : declared.Marking → ℕ → Answer

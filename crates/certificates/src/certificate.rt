@@ -3,11 +3,11 @@ use crate::Marking;
 use crate::obligations::mark_obligations;
 use fields::Next;
 use fields::header::finished;
-use joint_switches::joints::location_count;
 use models::layout::INDEX_LENGTH;
 use models::layout::Index;
 use models::layout::VARIABLES_AT;
 use papers::answers::on_second;
+use papers::opening::locations_of;
 use papers::opening::open_paper;
 use rules::Answer;
 use scores::counting::obligation_count;
@@ -83,7 +83,7 @@ fn mark_body(model: &[u8], index: &Index, second: &[u8]) -> Answer
     requires { ⌜ (4 ≤ length (now second)) × (length (now second) ≤ 32768) ⌝ }
     ensures { λ r. ⌜ r ≡ markedBody (now (model .entry)) (now (index .entry)) (now (second .entry)) 4 ⌝ }
 {
-    let locations = location_count(model, index);
+    let locations = locations_of(model, index);
     let mut regions = [0u16; REGIONS_LENGTH];
     match read_regions(
         second,

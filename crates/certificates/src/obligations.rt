@@ -1,89 +1,98 @@
 // The proofs of a certificate, one per obligation, read and tested in order up to the first that fails.
 use crate::Marking;
-use farkas::Row;
-use farkas::no_sums;
+use crate::joint_marks::mark_joints;
 use fields::Next;
 use hypotheses::Group;
 use hypotheses::groups::group_at;
-use hypotheses::groups::jump_group;
+use hypotheses::groups::region_rows;
 use hypotheses::tables::TABLE_LENGTH;
-use hypotheses::tables::Table;
 use joint_switches::joints::modes_at;
-use joint_switches::joints::target_of;
-use joint_switches::tally::TallyTable;
-use joint_switches::tally::tallied;
-use joint_switches::tally::tally;
-use joint_switches::ways::WAYS_LENGTH;
-use joint_switches::ways::list_ways;
-use joint_switches::ways::way_at;
 use models::layout::CONDITIONS_AT;
 use models::layout::Index;
+use models::layout::JOINTS_AT;
 use models::layout::VARIABLES_AT;
 use second_sheets::ranges::Regions;
 use sums::proofs::mark_proof;
-use sums::proofs::row_on;
 ghost use mathlib.Core.Path.{_≡_};
 ghost use mathlib.Core.Bool.{false};
-ghost use Prim.Native.Nat.{_+_, _*_, _^_, _≤_, _<_};
-ghost use lib.ListN.{length, getD};
-ghost use Rattle.farkas.specs.Rows.{zeroRow};
-ghost use Rattle.farkas.specs.Sizes.{Within};
+ghost use Prim.Native.Nat.{_+_, _*_, _≤_, _<_};
+ghost use lib.ListN.{length};
+ghost use Rattle.farkas.specs.Lists.{every};
 ghost use Rattle.formats.specs.Locations.{locationCount};
-ghost use Rattle.formats.specs.Joint.{countUp, joinAll, switchesOf, jointsOf, joints};
-ghost use Rattle.models.specs.Index.{entry, componentsFrom};
-ghost use Rattle.models.specs.Counts.{perComponent};
-ghost use Rattle.joint_switches.specs.Tally.{Tallied};
-ghost use Rattle.joint_switches.specs.Ways.{Ways};
+ghost use Rattle.formats.specs.Joint.{countUp, joinAll};
+ghost use Rattle.models.specs.Index.{componentsFrom};
 ghost use Rattle.rules.specs.Marking.{markProofs};
-ghost use Rattle.hypotheses.specs.Tables.{padded};
-ghost use Rattle.papers.specs.Paper.{heldNext, GoodPaper, obligationsFor};
-ghost use Rattle.papers.specs.Standing.{Stands};
-ghost use Rattle.hypotheses.specs.Listing.{GoodGroup, goalsOf, tasksOf, noTask, markTask, markTasks, jointTasksFor, locationTasksFor};
-ghost use Rattle.certificates.specs.Passed.{standsAt};
+ghost use Rattle.papers.specs.Paper.{GoodPaper, obligationsFor};
+ghost use Rattle.hypotheses.specs.Tables.{Stacked};
+ghost use Rattle.hypotheses.specs.Listing.{GoodGroup, tasksOf, markTasks, locationTasksFor};
+ghost use Rattle.certificates.specs.Passed.{standsAt, markedFrom, oneOf, rowless, Fresh, Underway};
 
-// A goal of a group, by its number: a row of the certificate on x or x', or no row.
-fn goal_row(second: &[u8], n: usize, group: Group, goal: u32) -> Row
-    requires { ⌜ length (now second) ≤ 32768 ⌝ }
-    requires { ⌜ (n ≤ 8) × (((group .zero ≡ false) → group .from + 4 * (n + 1) * (goal + 1) ≤ length (now second)) × ((group .shift ≤ 8) × (goal < group .goals))) ⌝ }
-    ensures { λ r. ⌜ r ≡ padded (getD (goalsOf (now (second .entry)) n group) goal zeroRow) ⌝ }
-    ensures { λ r. ⌜ Within (2 ^ 31) r ⌝ }
+// Of a group's goals the one with a number, alone.
+fn one_of(group: Group, n: usize, goal: u32) -> Group
+    requires { ⌜ (n ≤ 8) × (group .from + 4 * (n + 1) * goal ≤ 32768) ⌝ }
+    ensures { λ r. ⌜ r ≡ oneOf group n goal ⌝ }
 {
-    if group.zero {
-        return no_sums();
+    Group {
+        segments: group.segments,
+        hypotheses: group.hypotheses,
+        goals: 1,
+        from: group.from + 4 * (n + 1) * (goal as usize),
+        shift: group.shift,
+        width: group.width,
+        zero: group.zero,
     }
-    row_on(
-        second,
-        group.from + 4 * (n + 1) * (goal as usize),
-        n,
-        group.shift,
-    )
 }
 
-// The proof of one of a group's goals, by its number, read from a place on and tested.
-fn mark_goal(
+// The proofs of a group's goals, from where marking stands, up to the first that fails. The sums must be 0 before, and are 0 again where
+// all have passed.
+pub fn mark_group(
     model: &[u8],
     second: &[u8],
     n: usize,
-    table: &Table,
+    table: &[u16],
     group: Group,
-    goal: u32,
-    at: usize,
-) -> Next
-    requires { ⌜ length (now second) ≤ 32768 ⌝ }
-    requires { ⌜ (n ≤ 8) × (GoodGroup (now model) (now second) n (now table) group × (goal < group .goals)) ⌝ }
-    ensures { λ r. ⌜ r ≡ heldNext (markTask (getD (tasksOf (now (model .entry)) (now (second .entry)) n (now (table .entry)) group) goal noTask) (now (second .entry)) at) ⌝ }
+    from: Marking,
+    sums: &mut [i64],
+) -> Marking
+    requires { ⌜ (length (now model) ≤ 32768) × ((length (now second) ≤ 32768) × ((n ≤ 8) × (96 ≤ length (now table)))) ⌝ }
+    requires { ⌜ GoodGroup (now model) (now second) n (now table) group × (Underway (now second) from × Fresh (now sums)) ⌝ }
+    ensures { λ r. ⌜ r ≡ markedFrom (tasksOf (now (model .entry)) (now (second .entry)) n (now (table .entry)) group) (now (second .entry)) from ⌝ }
+    ensures { λ r. ⌜ (r .number ≡ 0 → Fresh (now (sums .exit))) ⌝ }
 {
-    let row = goal_row(second, n, group, goal);
-    mark_proof(
-        model,
-        second,
-        n,
-        table,
-        group.hypotheses,
-        group.zero,
-        row,
-        at,
-    )
+    let goals = group.goals;
+    let width = group.width;
+    let mut place = from.place;
+    let mut goal: u32 = 0;
+    while goal < goals {
+        let row = group.from + 4 * (n + 1) * (goal as usize);
+        match mark_proof(
+            model,
+            second,
+            n,
+            table,
+            group,
+            row,
+            place,
+            &mut sums[..width],
+        ) {
+            Next::Refused(number, cut) => {
+                return Marking {
+                    number,
+                    place: cut,
+                    done: from.done + goal,
+                };
+            }
+            Next::At(next) => {
+                place = next;
+            }
+        }
+        goal += 1;
+    }
+    Marking {
+        number: 0,
+        place,
+        done: from.done + goals,
+    }
 }
 
 // The proofs of all locations, from a place on, up to the first that fails: of each location those of its start, of its flow and of each
@@ -95,11 +104,14 @@ fn mark_locations(
     regions: &Regions,
     locations: u32,
     at: usize,
-    table: &mut Table,
+    table: &mut [u16],
+    sums: &mut [i64],
 ) -> Marking
     requires { ⌜ GoodPaper (now model) (now index) (now second) (now regions) ⌝ }
     requires { ⌜ (locations ≡ locationCount (componentsFrom (now model) (now index))) × (at ≤ length (now second)) ⌝ }
+    requires { ⌜ (96 ≤ length (now table)) × (Stacked (now table) 0 × Fresh (now sums)) ⌝ }
     ensures { λ r. ⌜ r ≡ standsAt (markTasks (joinAll (locationTasksFor (now (model .entry)) (now (index .entry)) (now (second .entry)) (now (regions .entry))) (countUp 0 locations)) (now (second .entry)) at 0) ⌝ }
+    ensures { λ r. ⌜ (r .number ≡ 0 → Stacked (now (table .exit)) 0 × Fresh (now (sums .exit))) ⌝ }
 {
     let n = index[VARIABLES_AT] as usize;
     let groups = index[CONDITIONS_AT] as u32 + 2;
@@ -115,16 +127,25 @@ fn mark_locations(
             let goals = group.goals;
             let mut goal: u32 = 0;
             while goal < goals {
-                match mark_goal(model, second, n, table, group, goal, place) {
-                    Next::Refused(fault, cut) => {
-                        number = fault;
-                        place = cut;
-                        break 'marking;
-                    }
-                    Next::At(next) => {
-                        place = next;
-                        done += 1;
-                    }
+                let from = Marking {
+                    number,
+                    place,
+                    done,
+                };
+                let marked = mark_group(
+                    model,
+                    second,
+                    n,
+                    table,
+                    one_of(group, n, goal),
+                    from,
+                    sums,
+                );
+                number = marked.number;
+                place = marked.place;
+                done = marked.done;
+                if number != 0 {
+                    break 'marking;
                 }
                 goal += 1;
             }
@@ -139,172 +160,23 @@ fn mark_locations(
     }
 }
 
-// The proofs of the joint switches of one event from a location, by the table of their ways, from a place on and with so many passed
-// before, up to the first that fails: of each joint switch one for each row of its target's region.
-fn mark_switches(
-    model: &[u8],
-    index: &Index,
-    second: &[u8],
-    regions: &Regions,
-    location: u32,
-    modes: [u8; 4],
-    e: u32,
-    ways: &[u8],
-    counts: [u32; 4],
-    count: u32,
-    at: usize,
-    before: u32,
-    table: &mut Table,
-) -> Marking
-    requires { ⌜ GoodPaper (now model) (now index) (now second) (now regions) ⌝ }
-    requires { ⌜ Stands (now model) (now index) location modes × ((e ≤ 15) × ((at ≤ length (now second)) × (before ≤ at))) ⌝ }
-    requires { ⌜ (128 ≤ length (now ways)) × (Ways (now model) (now index) modes e (now ways) counts × (count ≡ length (switchesOf (componentsFrom (now model) (now index)) (perComponent (now index) modes) e))) ⌝ }
-    ensures { λ r. ⌜ r ≡ standsAt (markTasks (jointTasksFor (now (model .entry)) (now (index .entry)) (now (second .entry)) (now (regions .entry)) (jointsOf (componentsFrom (now (model .entry)) (now (index .entry))) location e)) (now (second .entry)) at before) ⌝ }
+// Whether no region has a row.
+fn no_rows(regions: &Regions, locations: u32) -> bool
+    requires { ⌜ locations ≤ 64 ⌝ }
+    ensures { λ r. ⌜ r ≡ every (rowless (now (regions .entry))) (countUp 0 locations) ⌝ }
 {
-    let n = index[VARIABLES_AT] as usize;
-    let mut number: u32 = 0;
-    let mut place = at;
-    let mut done = before;
-    let mut x: u32 = 0;
-    'marking: while x < count {
-        let switches = way_at(model, index, modes, e, ways, counts, x);
-        let target = target_of(model, index, modes, switches);
-        let group = jump_group(
-            model,
-            index,
-            second,
-            regions,
-            location,
-            modes,
-            switches,
-            target,
-            table,
-        );
-        let goals = group.goals;
-        let mut goal: u32 = 0;
-        while goal < goals {
-            match mark_goal(model, second, n, table, group, goal, place) {
-                Next::Refused(fault, cut) => {
-                    number = fault;
-                    place = cut;
-                    break 'marking;
-                }
-                Next::At(next) => {
-                    place = next;
-                    done += 1;
-                }
-            }
-            goal += 1;
+    let mut l: u32 = 0;
+    while l < locations {
+        if region_rows(regions, l) != 0 {
+            return false;
         }
-        x += 1;
+        l += 1;
     }
-    Marking {
-        number,
-        place,
-        done,
-    }
-}
-
-// The proofs of the joint switches of one event from a location. Where there are any, the components' ways are listed once for all.
-fn mark_event(
-    model: &[u8],
-    index: &Index,
-    second: &[u8],
-    regions: &Regions,
-    tallies: &TallyTable,
-    location: u32,
-    modes: [u8; 4],
-    e: u32,
-    at: usize,
-    before: u32,
-    table: &mut Table,
-) -> Marking
-    requires { ⌜ GoodPaper (now model) (now index) (now second) (now regions) ⌝ }
-    requires { ⌜ Stands (now model) (now index) location modes × ((e ≤ 15) × ((at ≤ length (now second)) × ((before ≤ at) × Tallied (now model) (now index) (now tallies)))) ⌝ }
-    ensures { λ r. ⌜ r ≡ standsAt (markTasks (jointTasksFor (now (model .entry)) (now (index .entry)) (now (second .entry)) (now (regions .entry)) (jointsOf (componentsFrom (now (model .entry)) (now (index .entry))) location e)) (now (second .entry)) at before) ⌝ }
-{
-    let count = tallied(model, index, tallies, modes, e);
-    if count == 0 {
-        return Marking {
-            number: 0,
-            place: at,
-            done: before,
-        };
-    }
-    let mut ways = [0u8; WAYS_LENGTH];
-    let counts = list_ways(model, index, modes, e, &mut ways);
-    mark_switches(
-        model,
-        index,
-        second,
-        regions,
-        location,
-        modes,
-        e,
-        &ways,
-        counts,
-        count,
-        at,
-        before,
-        table,
-    )
-}
-
-// The proofs of all joint switches, location by location and event by event.
-fn mark_joints(
-    model: &[u8],
-    index: &Index,
-    second: &[u8],
-    regions: &Regions,
-    tallies: &TallyTable,
-    locations: u32,
-    at: usize,
-    before: u32,
-    table: &mut Table,
-) -> Marking
-    requires { ⌜ GoodPaper (now model) (now index) (now second) (now regions) ⌝ }
-    requires { ⌜ (locations ≡ locationCount (componentsFrom (now model) (now index))) × ((at ≤ length (now second)) × ((before ≤ at) × Tallied (now model) (now index) (now tallies))) ⌝ }
-    ensures { λ r. ⌜ r ≡ standsAt (markTasks (jointTasksFor (now (model .entry)) (now (index .entry)) (now (second .entry)) (now (regions .entry)) (joints (componentsFrom (now (model .entry)) (now (index .entry))))) (now (second .entry)) at before) ⌝ }
-{
-    let mut number: u32 = 0;
-    let mut place = at;
-    let mut done = before;
-    let mut location: u32 = 0;
-    'marking: while location < locations {
-        let modes = modes_at(model, index, location);
-        let mut e: u32 = 0;
-        while e < 16 {
-            let marked = mark_event(
-                model,
-                index,
-                second,
-                regions,
-                tallies,
-                location,
-                modes,
-                e,
-                place,
-                done,
-                table,
-            );
-            number = marked.number;
-            place = marked.place;
-            done = marked.done;
-            if number != 0 {
-                break 'marking;
-            }
-            e += 1;
-        }
-        location += 1;
-    }
-    Marking {
-        number,
-        place,
-        done,
-    }
+    true
 }
 
 // The proofs of all obligations, from a place on, up to the first that fails: those of the locations, then those of the joint switches.
+// Where there is no joint switch or no region has a row, there is nothing more to prove.
 pub fn mark_obligations(
     model: &[u8],
     index: &Index,
@@ -318,20 +190,34 @@ pub fn mark_obligations(
     ensures { λ r. ⌜ r ≡ standsAt (markProofs (obligationsFor (now (model .entry)) (now (index .entry)) (now (second .entry)) (now (regions .entry)) locations) (now (second .entry)) at 0) ⌝ }
 {
     let mut table = [0u16; TABLE_LENGTH];
-    let marked = mark_locations(model, index, second, regions, locations, at, &mut table);
+    let mut sums: [i64; 17] = [0; 17];
+    let marked = mark_locations(
+        model,
+        index,
+        second,
+        regions,
+        locations,
+        at,
+        &mut table,
+        &mut sums,
+    );
     if marked.number != 0 {
         return marked;
     }
-    let tallies = tally(model, index);
+    if index[JOINTS_AT] == 0 {
+        return marked;
+    }
+    if no_rows(regions, locations) {
+        return marked;
+    }
     mark_joints(
         model,
         index,
         second,
         regions,
-        &tallies,
         locations,
-        marked.place,
-        marked.done,
+        marked,
         &mut table,
+        &mut sums,
     )
 }

@@ -6,45 +6,46 @@ use Prim.Native.Nat.{ℕ, zero, suc, _+_, _≤_, _<_}
 use native.Mathlib.Numerals.{add-one}
 use native.Mathlib.Omega.{arith}
 use lib.Dec.{leb}
-use lib.ListN.{length, take, drop, set, length-append, length-map, length-take, length-drop}
+use lib.ListN.{length, getD, take, drop, set, length-append, length-map, length-take, length-drop}
 use borrow.Author.Tests.{leb-true}
 use Rattle.formats.specs.Reading.{Got, got, refused}
 use Rattle.formats.specs.Model.{Model}
-use Rattle.formats.specs.Locations.{locationCount}
 use Rattle.formats.specs.Joint.{joints}
 use Rattle.formats.specs.ModelSheet.{examLimits, readModel}
-use Rattle.models.specs.Index.{componentsFrom, modelFrom, GoodIndex}
+use Rattle.models.specs.Index.{componentsFrom, modelFrom}
 use Rattle.rules.specs.declared.Answer.{Answer}
 use Rattle.rules.specs.declared.Joint.{Joint}
 use Rattle.rules.specs.Marking.{answer, withModel}
 use Rattle.rules.specs.Beside.{recordOf, listAnswer, filled, tableAfter}
-use Rattle.joint_lists.specs.Records.{recordsFrom, IndexOf}
-use Rattle.models.proofs.GoodIndexLaws.{index-good}
-use Rattle.papers.proofs.PaperLaws.{few-read}
+use Rattle.joint_lists.specs.declared.Batch.{Batch}
+use Rattle.joint_lists.specs.Records.{recordsFrom, SheetIndex}
+use Rattle.joint_lists.specs.Batches.{unpackedOf, recordsIn, Told}
+use Rattle.papers.specs.Paper.{Accepted}
+use Rattle.papers.proofs.PaperLaws.{accepted}
 use Rattle.joint_lists.proofs.RecordLaws.{whole-list, index-model}
+use Rattle.joint_lists.proofs.BatchLaws.{none-told, told-length, words-told}
 
 -- how many records are written, which, and what the table is afterwards
 pub record Plan (model index : List ℕ) (count : ℕ) (table : List Joint) : Type 0 where
   pub records : List Joint
   pub whole : length records ≡ count
   pub fits : count ≤ length table
-  pub good : 0 < count → GoodIndex model index
-  pub few : 0 < count → locationCount (componentsFrom model index) ≤ 64
+  pub usable : 0 < count → Accepted model index
   pub starts : 0 < count → recordsFrom model index 0 0 ≡ records
   pub after : tableAfter examLimits model table ≡ records ++ drop count table
 
-module _ (model index : List ℕ) (table : List Joint) (indexed : IndexOf model index) where
+module _ (model index : List ℕ) (table : List Joint) (indexed : SheetIndex model index) where
   nothing : tableAfter examLimits model table ≡ table → Plan model index 0 table
   nothing e =
-      record { records = []; whole = refl; fits = omega arith; good = λ h. absurd (omega arith); few = λ h. absurd (omega arith); starts = λ h. absurd (omega arith); after = e }
+      record { records = []; whole = refl; fits = omega arith; usable = λ h. absurd (omega arith); starts = λ h. absurd (omega arith); after = e }
 
   module _ (m : Model) (next : ℕ) (e : readModel examLimits model ≡ got m next) where
     same : m .components ≡ componentsFrom model index
     unfolding modelFrom
-    same = ap (λ (n : Model). n .components) (index-model model index (indexed .0) m next e)
+    same = ap (λ (n : Model). n .components) (index-model model index (indexed .same) m next e)
 
     read : readModel examLimits model ≡ got (modelFrom model index) next
-    read = e ∙ ap (λ (n : Model). got n next) (index-model model index (indexed .0) m next e)
+    read = e ∙ ap (λ (n : Model). got n next) (index-model model index (indexed .same) m next e)
 
     after-read : tableAfter examLimits model table ≡ filled (joints (m .components)) table
     unfolding tableAfter
@@ -66,8 +67,7 @@ module _ (model index : List ℕ) (table : List Joint) (indexed : IndexOf model 
           records = map recordOf (joints (m .components));
           whole = length-map (joints (m .components)) recordOf;
           fits = leb-true (length (joints (m .components))) (length table) t;
-          good = λ h. index-good examLimits model index next read;
-          few = λ h. few-read model index next read;
+          usable = λ h. accepted model index next read (indexed .counted m next e);
           starts = λ h. records-read;
           after = after-read ∙ ap (λ (b : Bool). elim b [ true ↦ map recordOf (joints (m .components)) ++ drop (length (joints (m .components))) table | false ↦ table ]) t;
         }
@@ -99,16 +99,25 @@ next-dropped (suc i) [] j js e = let z : _≡_ {A = ℕ} 0 1 = cc in absurd (ome
 next-dropped (suc i) (r ∷ rs) j js e = next-dropped i rs j js e
 
 module _ {model index : List ℕ} {count : ℕ} {table : List Joint} (p : Plan model index count table) where
-  -- i records are written; the list goes on at a slot and a number
-  pub record Written (i slot x : ℕ) (tab : List Joint) : Type 0 where
+  -- i records are written, and j of a batch's; the list goes on with the batch's others, then at the batch's place
+  pub record Written (i j : ℕ) (b : Batch) (tab : List Joint) : Type 0 where
     pub within : i ≤ count
     pub tab-is : tab ≡ take i (p .records) ++ drop i table
-    pub left : i < count → recordsFrom model index slot x ≡ drop i (p .records)
+    pub most : b .count ≤ 64
+    pub inside : j ≤ b .count
+    pub left : i < count → drop j (recordsIn (b .words) (b .count)) ++ recordsFrom model index (b .slot) (b .x) ≡ drop i (p .records)
 
-  pub written-none : (slot x : ℕ) → (slot ≡ 0) × (x ≡ 0) → Written 0 slot x table
-  written-none slot x e = record { within = omega arith; tab-is = refl; left = λ h. ap₂ (recordsFrom model index) (e .0) (e .1) ∙ p .starts h }
+  pub written-none : (b : Batch) → (b .count ≡ 0) × ((b .slot ≡ 0) × (b .x ≡ 0)) → Written 0 0 b table
+  written-none b e =
+      record {
+        within = omega arith;
+        tab-is = refl;
+        most = omega (arith, e .0);
+        inside = omega arith;
+        left = λ h. ap₂ (λ (rs ts : List Joint). rs ++ ts) (ap (recordsIn (b .words)) (e .0) ∙ none-told (b .words)) (ap₂ (recordsFrom model index) (e .1 .0) (e .1 .1)) ∙ p .starts h;
+      }
 
-  module _ {i slot x : ℕ} {tab : List Joint} (w : Written i slot x tab) where
+  module _ {i j : ℕ} {b : Batch} {tab : List Joint} (w : Written i j b tab) where
     pub written-length : length tab ≡ length table
     written-length =
         ap length (w .tab-is)
@@ -118,17 +127,34 @@ module _ {model index : List ℕ} {count : ℕ} {table : List Joint} (p : Plan m
         sums : length (take i (p .records)) + length (drop i table) ≡ length table
         sums = omega (arith, length-take i (p .records), length-drop i table, p .whole, p .fits, w .within)
 
-    pub written-more : i < count → 0 < length (recordsFrom model index slot x)
-    written-more h = omega (arith, ap (λ (rs : List Joint). length rs) (w .left h), length-drop i (p .records), p .whole)
+    module _ (long : length (b .words) ≡ 64) (h : i < count) where
+      -- a batch that is written whole, and the next
+      pub written-batch : j ≡ b .count → (next : Batch) → Told model index (b .slot) (b .x) next → Written i 0 next tab × (0 < next .count)
+      written-batch e next t =
+          let over : drop j (recordsIn (b .words) (b .count)) ≡ [] = dropped j (recordsIn (b .words) (b .count)) (omega (arith, told-length (b .words) (b .count) (omega (arith, w .most, long)), e)) in
+          let on : recordsFrom model index (b .slot) (b .x) ≡ drop i (p .records) = ap (λ (rs : List Joint). rs ++ recordsFrom model index (b .slot) (b .x)) (sym over) ∙ w .left h in (
+            record { within = w .within; tab-is = w .tab-is; most = t .1 .0; inside = omega arith; left = λ k. sym (t .0) ∙ on },
+            t .1 .1 (omega (arith, ap (λ (rs : List Joint). length rs) on, length-drop i (p .records), p .whole)),
+          )
+        where
+          dropped : (j : ℕ) (rs : List Joint) → length rs ≤ j → drop j rs ≡ []
+          dropped zero [] l = refl
+          dropped zero (r ∷ rs) l = absurd (omega arith)
+          dropped (suc j) [] l = refl
+          dropped (suc j) (r ∷ rs) l = dropped j rs (omega arith)
 
-    pub written-next : i < count → (j : Joint) (slot' x' : ℕ) → recordsFrom model index slot x ≡ j ∷ recordsFrom model index slot' x' → Written (i + 1) slot' x' (set tab i j)
-    written-next h j slot' x' e =
-        let first : drop i (p .records) ≡ j ∷ recordsFrom model index slot' x' = sym (w .left h) ∙ e in
-        record {
-          within = omega (arith, h);
-          tab-is = ap (λ (ts : List Joint). set ts i j) (w .tab-is) ∙ taken i (p .records) table j _ first (omega (arith, h, p .fits)) ∙ ap (λ (k : ℕ). take k (p .records) ++ drop k table) (sym (add-one i));
-          left = λ k. sym (next-dropped i (p .records) j _ first) ∙ ap (λ (k : ℕ). drop k (p .records)) (sym (add-one i));
-        }
+      -- one record more
+      pub written-next : j < b .count → (r : Joint) → r ≡ unpackedOf (getD (b .words) j 0) → Written (i + 1) (j + 1) b (set tab i r)
+      written-next l r e =
+          let rest = drop (suc j) (recordsIn (b .words) (b .count)) ++ recordsFrom model index (b .slot) (b .x) in
+          let first : drop i (p .records) ≡ r ∷ rest = sym (w .left h) ∙ ap (λ (rs : List Joint). rs ++ recordsFrom model index (b .slot) (b .x)) (words-told (b .words) (b .count) j l (omega (arith, w .most, long)) ∙ ap (λ (k : Joint). k ∷ drop (suc j) (recordsIn (b .words) (b .count))) (sym e)) in
+          record {
+            within = omega (arith, h);
+            tab-is = ap (λ (ts : List Joint). set ts i r) (w .tab-is) ∙ taken i (p .records) table r _ first (omega (arith, h, p .fits)) ∙ ap (λ (k : ℕ). take k (p .records) ++ drop k table) (sym (add-one i));
+            most = w .most;
+            inside = omega arith;
+            left = λ k. ap (λ (n : ℕ). drop n (recordsIn (b .words) (b .count)) ++ recordsFrom model index (b .slot) (b .x)) (add-one j) ∙ sym (next-dropped i (p .records) r _ first) ∙ ap (λ (k : ℕ). drop k (p .records)) (sym (add-one i));
+          }
 
     pub written-all : count ≤ i → tab ≡ tableAfter examLimits model table
     written-all h = w .tab-is ∙ ap₂ (λ (rs ts : List Joint). rs ++ ts) (all i (p .records) (omega (arith, p .whole, w .within))) (ap (λ (k : ℕ). drop k table) equal) ∙ sym (p .after)

@@ -1,9 +1,9 @@
 // The joint list, written record after record into a table that the exam desk lends.
-use joint_lists::joint_list::answer_for;
-use joint_lists::joint_list::list_index;
-use joint_lists::joint_list::list_start;
-use joint_lists::joint_list::next_record;
-use joint_lists::joint_list::record_count;
+use joint_lists::list::list_begin;
+use joint_lists::list::record_count;
+use joint_lists::records::list_start;
+use joint_lists::records::next_batch;
+use joint_lists::records::unpacked;
 use rules::Answer;
 use rules::Joint;
 ghost use mathlib.Core.Path.{_≡_};
@@ -16,14 +16,20 @@ ghost use Rattle.formats.specs.ModelSheet.{examLimits};
 pub extern "C" fn silfoddra_joint_list(model: &[u8], table: &mut [Joint]) -> Answer
     ensures { λ r. ⌜ (r ≡ listAnswer examLimits (now (model .entry)) (length (now (table .entry)))) × (now (table .exit) ≡ tableAfter examLimits (now (model .entry)) (now (table .entry))) ⌝ }
 {
-    let answer = answer_for(model, table.len());
+    let listing = list_begin(model, table.len());
+    let answer = listing.answer;
+    let index = listing.index;
     let count = record_count(answer);
-    let index = list_index(model);
     let mut at = list_start();
+    let mut j: usize = 0;
     let mut i: usize = 0;
     while i < count {
-        at = next_record(model, index, at);
-        table[i] = at.joint;
+        if j == at.count {
+            at = next_batch(model, index, at);
+            j = 0;
+        }
+        table[i] = unpacked(at.words[j]);
+        j += 1;
         i += 1;
     }
     answer

@@ -8,9 +8,7 @@ use Prim.Native.Nat.{ℕ, zero, suc}
 use lib.Dec.{T}
 use lib.IntN.{ℤ, pos, _+ℤ_, _*ℤ_}
 use lib.ListN.{getD, replicate}
-use lib.Signed.{leZ}
-use Rattle.farkas.specs.declared.Row.{Row}
-use Rattle.farkas.specs.Rows.{Alike, item, dot, rowHolds, zeroRow, noSums}
+use Rattle.farkas.specs.Rows.{Row, Alike, item, dot, zeroRow}
 use Rattle.farkas.specs.Farkas.{Entry, plus, addRow, addEntry, addEntries, coefficientsAgree, boundPasses, sumsTest}
 use Rattle.farkas.proofs.Order.{zero-plus-nothing}
 use Rattle.farkas.proofs.Test.{item-plus, agree-means}
@@ -20,9 +18,6 @@ alike-refl r = record { coefficient = λ i. refl; bound = refl }
 
 pub alike-sym : {r s : Row} → Alike r s → Alike s r
 alike-sym h = record { coefficient = λ i. sym (h .coefficient i); bound = sym (h .bound) }
-
-pub alike-trans : {r s t : Row} → Alike r s → Alike s t → Alike r t
-alike-trans h k = record { coefficient = λ i. h .coefficient i ∙ k .coefficient i; bound = h .bound ∙ k .bound }
 
 -- zeros at the end
 pub item-padded : (n : ℕ) (xs : List ℤ) (i : ℕ) → item (xs ++ replicate n (pos 0)) i ≡ item xs i
@@ -37,10 +32,6 @@ pub alike-padded :
     (n : ℕ) (xs : List ℤ) (b : ℤ)
     → Alike (record { coefficients = xs ++ replicate n (pos 0); bound = b }) (record { coefficients = xs; bound = b })
 alike-padded n xs b = record { coefficient = item-padded n xs; bound = refl }
-
-pub alike-no-sums : Alike noSums zeroRow
-unfolding noSums zeroRow
-alike-no-sums = alike-padded 17 [] (pos 0)
 
 -- the sums
 pub alike-add : {r s : Row} (m : ℕ) {x y : Row} → Alike r s → Alike x y → Alike (addRow r m x) (addRow s m y)
@@ -94,8 +85,3 @@ dot-items (a ∷ xs) [] (p ∷ ps) h =
     ap₂ (λ c d. c *ℤ p +ℤ d) (h zero) (dot-items xs [] ps (λ i. h (suc i))) ∙ sym (zero-plus-nothing p)
 dot-items (a ∷ xs) (b ∷ ys) [] h = refl
 dot-items (a ∷ xs) (b ∷ ys) (p ∷ ps) h = ap₂ (λ c d. c *ℤ p +ℤ d) (h zero) (dot-items xs ys ps (λ i. h (suc i)))
-
-pub alike-holds : (q : ℕ) (ps : List ℤ) {r s : Row} → Alike r s → rowHolds q ps r ≡ rowHolds q ps s
-unfolding rowHolds
-alike-holds q ps {r} {s} h =
-    ap₂ (λ a b. leZ a (b *ℤ pos q)) (dot-items (r .coefficients) (s .coefficients) ps (h .coefficient)) (h .bound)

@@ -4,6 +4,7 @@ pub mod WordLaws
 pub mod Fill
 pub mod Items
 pub mod Sizes
+pub mod ByteSizes
 pub mod Order
 pub mod All
 pub mod Test

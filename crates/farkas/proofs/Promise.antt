@@ -1,31 +1,44 @@
 -- What rows and proofs promise: all that the crates above may use of this crate, beside its definitions (specs/) and the general laws on
--- lists, whole numbers, bits, arrays and numbers in bytes (All, Integers, Order, Bits, Fill, WordLaws), which say nothing of rows.
+-- lists, whole numbers, bits and arrays (All, Integers, Order, Bits, Fill), which say nothing of rows.
 --
--- The functions (src/lib.rt), each an equation:
---   no_sums ()               ≡ noSums
---   add_row sums m row       ≡ addRow sums m row                  where Room sums m row
---   judge k sums goal        has the number sumsTest k sums goal  where Within (2 ^ 31) goal
---   multiply_add x m y       ≡ x +ℤ m *ℤ y                        where its size is below 2 ^ 63
--- Below: rows may be held with zeros at the end; the sums hold in 64 bits; the test gives 0 exactly when Farkas' condition holds; and what
--- meets the condition is sound. Each law is proved where its name stands after the sign =. Assumes nothing.
+-- The functions (src/lib.rt), each an equation. The sums are the row of what the lent slice holds and of the bound beside it:
+--   add_row sums b m shift words at n    leaves addRow sums m (onward shift (rowIn words at n))                   where Spare m sums
+--   add_rates sums m words at n          leaves addRow sums m (onChange (rowIn words at n)), the bound as it was
+--   add_one sums unknown m               leaves the sums with m more at one unknown
+--   judge sums b k shift words at n      has the number sumsTest k sums (onward shift (rowIn words at n)); passed, the sums are all 0
+--   judge_zero sums b                    has the number sumsTest 0 sums zeroRow; passed, the sums are all 0
+--   multiply_add x m y                   ≡ x +ℤ m *ℤ y                                                            where that fits 64 bits
+-- Below: numbers in bytes; rows may be held with zeros at the end; the sums hold in 64 bits; the test gives 0 exactly when Farkas' condition
+-- holds; and what meets the condition is sound. Each law is proved where its name stands after the sign =. Assumes nothing.
 use mathlib.Core.Path.{_≡_}
 use mathlib.Core.Logic.{_↔_, _≢_, _⊎_}
-use mathlib.Core.List.{List, _++_}
+use mathlib.Core.List.{List, [], _∷_, _++_}
 use Prim.Native.Nat.{ℕ, _+_, _*_, _^_, _≤_, _<_}
 use lib.Dec.{T}
-use lib.IntN.{ℤ, pos, natAbs, _*ℤ_}
-use lib.ListN.{getD, set, replicate}
-use Rattle.farkas.specs.declared.Row.{Row}
-use Rattle.farkas.specs.Rows.{Holds, Alike, item, zeroRow, noSums}
-use Rattle.farkas.specs.Farkas.{Entry, Proof, Agree, BoundMet, Meets, sameZ, addRow, addEntries, summed, sumsTest, farkasTest}
-use Rattle.farkas.specs.Sizes.{Within, Room, Bounded, SumsHold}
+use lib.IntN.{ℤ, pos, negsuc, negℤ, natAbs, _+ℤ_, _*ℤ_}
+use lib.ListN.{length, getD, set, drop, replicate}
+use Rattle.farkas.specs.Rows.{Row, Holds, Alike, item, rowOf, onward, onChange, zeroRow}
+use Rattle.farkas.specs.Farkas.{Entry, Proof, Agree, BoundMet, Meets, sameZ, plus, addRow, addEntries, summed, sumsTest, farkasTest}
+use Rattle.farkas.specs.Sizes.{Bytes, Small, Within, Bounded, SumsHold}
+use Rattle.farkas.specs.Sums.{plusFrom, RoomAt, Spare}
 use Rattle.farkas.specs.Lists.{All}
+use Rattle.farkas.specs.Words.{signed, rowIn}
+use Rattle.farkas.proofs.WordLaws as words
 use Rattle.farkas.proofs.Alike as alike
 use Rattle.farkas.proofs.Sizes as sizes
+use Rattle.farkas.proofs.ByteSizes as bytes
+use Rattle.farkas.proofs.SumLaws as sums
 use Rattle.farkas.proofs.Test as test
 use Rattle.farkas.proofs.Soundness as soundness
 
--- Rows alike serve alike. The code holds every row with 17 coefficients, the definitions hold it with as many as it has
+-- Numbers of four bytes: the first byte of what is left, and the size of a signed number
+pub first-byte : (s : List ℕ) (p : ℕ) → p < length s → drop p s ≡ getD s p 0 ∷ drop (p + 1) s
+first-byte = words.first-byte
+
+pub signed-small : (n : ℕ) → n < 2 ^ 32 → natAbs (signed n) ≤ 2 ^ 31
+signed-small = words.signed-small
+
+-- Rows alike serve alike. The code holds sums with a number for each unknown, the definitions hold a row with as many as it has
 pub alike-refl : (r : Row) → Alike r r
 alike-refl = alike.alike-refl
 
@@ -36,9 +49,6 @@ pub alike-padded :
     (n : ℕ) (xs : List ℤ) (b : ℤ)
     → Alike (record { coefficients = xs ++ replicate n (pos 0); bound = b }) (record { coefficients = xs; bound = b })
 alike-padded = alike.alike-padded
-
-pub alike-no-sums : Alike noSums zeroRow
-alike-no-sums = alike.alike-no-sums
 
 pub alike-entries :
     (hs ks : List Row) → ((i : ℕ) → Alike (getD hs i zeroRow) (getD ks i zeroRow))
@@ -52,12 +62,6 @@ alike-test = alike.alike-test
 pub sums-hold : (hypotheses : List Row) (es : List Entry) → Bounded hypotheses es → SumsHold hypotheses es
 sums-hold = sizes.sums-hold
 
-pub none-within : Within 0 noSums
-none-within = sizes.none-within
-
-pub room : (n m : ℕ) (s r : Row) → Within (n * 2 ^ 55) s → m < 2 ^ 24 → Within (2 ^ 31) r → n < 128 → Room s m r
-room = sizes.room
-
 pub grown : (n m : ℕ) (s r : Row) → Within (n * 2 ^ 55) s → m < 2 ^ 24 → Within (2 ^ 31) r → Within ((n + 1) * 2 ^ 55) (addRow s m r)
 grown = sizes.grown
 
@@ -69,6 +73,56 @@ zeros-within = sizes.zeros-within
 
 pub set-within : (size : ℕ) (xs : List ℤ) (k : ℕ) (a : ℤ) → ((i : ℕ) → natAbs (item xs i) ≤ size) → natAbs a ≤ size → (i : ℕ) → natAbs (item (set xs k a) i) ≤ size
 set-within = sizes.set-within
+
+-- Rows of coefficients that are no larger than a size, part by part; a row in bytes is within 2 ^ 31, on whichever unknowns it stands
+pub small-none : (size : ℕ) → Small size []
+small-none = bytes.small-none
+
+pub small-cons : (size : ℕ) (a : ℤ) (xs : List ℤ) → natAbs a ≤ size → Small size xs → Small size (a ∷ xs)
+small-cons = bytes.small-cons
+
+pub small-append : (size : ℕ) (xs ys : List ℤ) → Small size xs → Small size ys → Small size (xs ++ ys)
+small-append = bytes.small-append
+
+pub small-zeros : (size n : ℕ) → Small size (replicate n (pos 0))
+small-zeros = bytes.small-zeros
+
+pub size-negated : (z : ℤ) → natAbs (negℤ z) ≡ natAbs z
+size-negated = bytes.size-negated
+
+pub row-within : (s : List ℕ) (p shift n : ℕ) → Bytes s → Within (2 ^ 31) (onward shift (rowIn s p n))
+row-within = bytes.row-within
+
+pub rates-within : (s : List ℕ) (p n : ℕ) → Bytes s → Within (2 ^ 31) (onChange (rowIn s p n))
+rates-within = bytes.rates-within
+
+-- The same for sums in a lent slice: where all are 0, and with room for one more entry
+pub zero-sums : (n : ℕ) → Within 0 (rowOf (replicate n (pos 0)) (pos 0))
+zero-sums = sizes.zero-sums
+
+pub spare : (n m : ℕ) (s : Row) → Within (n * 2 ^ 55) s → m < 2 ^ 24 → n < 128 → Spare m s
+spare = sizes.spare
+
+-- room at some of the sums, and what is left of it once numbers were added past them
+pub room-all : {m : ℕ} {sums : List ℤ} {b : ℤ} (to count : ℕ) → Spare m (rowOf sums b) → RoomAt m to count sums
+room-all = sums.room-all
+
+pub room-before : {k at n : ℕ} {sums : List ℤ} (to : ℕ) (m : ℤ) (xs : List ℤ) → at + n ≤ to → RoomAt k at n sums → RoomAt k at n (plusFrom to m sums xs)
+room-before = sums.room-before
+
+-- Rows of few coefficients, added one coefficient after the other: one coefficient past zeros, and one at v of each half; −1 is 1 taken
+-- away, and a bound of 0 leaves the bound
+pub plus-onward : (to m : ℕ) (sums xs : List ℤ) → to + length xs ≤ length sums → plus m sums (replicate to (pos 0) ++ xs) ≡ plusFrom to (pos m) sums xs
+plus-onward = sums.plus-onward
+
+pub plus-pair : (n v m : ℕ) (a b : ℤ) (sums : List ℤ) → v < n → n + n ≤ length sums → plus m sums (set (replicate n (pos 0)) v a ++ set (replicate n (pos 0)) v b) ≡ plusFrom v (pos m) (plusFrom (n + v) (pos m) sums (b ∷ [])) (a ∷ [])
+plus-pair = sums.plus-pair
+
+pub less-one : (to m : ℕ) (sums : List ℤ) → plusFrom to (negℤ (pos m)) sums (pos 1 ∷ []) ≡ plusFrom to (pos m) sums (negsuc 0 ∷ [])
+less-one = sums.less-one
+
+pub no-bound : (b : ℤ) (m : ℕ) → b ≡ b +ℤ pos m *ℤ pos 0
+no-bound = sums.no-bound
 
 -- The test's numbers: 0 exactly where Farkas' condition is met, 11 exactly where all sums agree and the bound fails, and else 10
 pub same-means : (a b : ℤ) → T (sameZ a b) ↔ (a ≡ b)

@@ -10,9 +10,9 @@ use lib.Dec.{lit≤, lit<}
 use lib.IntN.{ℤ, natAbs, pos}
 use lib.ListN.{length, getD, take, set, replicate}
 use lib.Seq.{take-suc, take-length}
-use Rattle.farkas.specs.declared.Row.{Row}
-use Rattle.farkas.specs.Rows.{item, zeroRow, noSums}
+use Rattle.farkas.specs.Rows.{Row, item, rowOf, zeroRow}
 use Rattle.farkas.specs.Farkas.{Entry, addRow, addEntry, addEntries, summed}
+use Rattle.farkas.specs.Sums.{Spare}
 use Rattle.farkas.specs.Sizes.{Within, Room, noEntry, entryAt, Bounded, SumsHold}
 use Rattle.farkas.proofs.Bits.{size-+*}
 use Rattle.farkas.proofs.All.{all-at}
@@ -42,10 +42,6 @@ set-within size (x ∷ xs) zero a f h (suc i) = f (suc i)
 set-within size (x ∷ xs) (suc k) a f h zero = f 0
 set-within size (x ∷ xs) (suc k) a f h (suc i) = set-within size xs k a (λ j. f (suc j)) h i
 
-pub none-within : Within 0 noSums
-unfolding noSums
-none-within = record { coefficient = zeros-within 17; bound = lit≤ tt }
-
 -- one number of a row, multiplied, adds at most 2 ^ 55
 product : (m y : ℕ) → m < 2 ^ 24 → y ≤ 2 ^ 31 → m * y ≤ 2 ^ 55
 product m y h k = mul-le-mul (le-of-lt h) k
@@ -67,6 +63,15 @@ module _ (n m : ℕ) (s r : Row) (sums : Within (n * 2 ^ 55) s) (small : m < 2 ^
         coefficient = λ i. rw (item-plus m (s .coefficients) (r .coefficients) i) (omega (arith, size-+* (item (s .coefficients) i) (pos m) (item (r .coefficients) i), sums .coefficient i, product m (natAbs (item (r .coefficients) i)) small (row .coefficient i)));
         bound = omega (arith, size-+* (s .bound) (pos m) (r .bound), product m (natAbs (r .bound)) small (row .bound));
       }
+
+-- below 128 entries there is room for any number of 32 bits, m times
+pub spare : (n m : ℕ) (s : Row) → Within (n * 2 ^ 55) s → m < 2 ^ 24 → n < 128 → Spare m s
+spare n m s sums small h =
+    record { coefficient = λ i. omega (arith, sums .coefficient i, product m (2 ^ 31) small (lit≤ tt)); bound = omega (arith, sums .bound, product m (2 ^ 31) small (lit≤ tt)) }
+
+-- sums of which each is 0
+pub zero-sums : (n : ℕ) → Within 0 (rowOf (replicate n (pos 0)) (pos 0))
+zero-sums n = record { coefficient = zeros-within n; bound = lit≤ tt }
 
 -- entries in two parts are summed one part after the other
 pub entries-append : (hs : List Row) (s : Row) (es fs : List Entry) → addEntries hs s (es ++ fs) ≡ addEntries hs (addEntries hs s es) fs

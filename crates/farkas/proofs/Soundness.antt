@@ -9,8 +9,7 @@ use native.Mathlib.Omega.{arith}
 use lib.IntN.{ℤ, pos, _+ℤ_, _*ℤ_, +ℤ-idl, zero-*ℤ}
 use lib.ListN.{getD}
 use lib.Signed.{_≤ℤ_, ≤ℤ-refl, clashℤ}
-use Rattle.farkas.specs.declared.Row.{Row}
-use Rattle.farkas.specs.Rows.{Holds, item, dot, rowHolds, zeroRow}
+use Rattle.farkas.specs.Rows.{Row, Holds, item, dot, rowHolds, zeroRow}
 use Rattle.farkas.specs.Farkas.{Entry, Proof, Agree, plus, addRow, addEntry, addEntries, summed, SumsMeet, Meets}
 use Rattle.farkas.proofs.Integers.{split, by-parts, *-assoc, +-*, ≤-trans, ≤-+, ≤-*}
 use Rattle.farkas.proofs.Order.{plus-nothing, ≤-times, ≤-cancel, <-times}

@@ -5,8 +5,8 @@ use Prim.Native.Nat.{ℕ, zero, suc, _+_, _*_, _-_, _^_, _≤_, _<_}
 use native.Mathlib.Nat.{mul-le-mul-left}
 use native.Mathlib.Numerals.{add-one}
 use native.Mathlib.Omega.{arith}
-use lib.IntN.{ℤ, pos, negℤ, natAbs, _+ℤ_, _-ℤ_, _*ℤ_, +ℤ-idl}
-use lib.ListN.{length, getD, set, replicate, length-append, length-map}
+use lib.IntN.{ℤ, pos, negsuc, negℤ, natAbs, _+ℤ_, _-ℤ_, _*ℤ_, +ℤ-idl}
+use lib.ListN.{length, getD, set, replicate, length-append, length-map, length-set, length-replicate}
 use mir.Syntax.{w64}
 use mir.Val.{SFits, toZ, ofZ}
 use mir.Facts.{toZ-ofZ}
@@ -173,6 +173,10 @@ pub room-past : {k at n : ℕ} {sums : List ℤ} (to : ℕ) (m : ℤ) (xs : List
 unfolding item
 room-past {k} {at} {n} {sums} to m xs h r = record { room = λ i l. rw (plus-past to m sums xs (at + i) (omega arith)) (r .room i l) }
 
+pub room-before : {k at n : ℕ} {sums : List ℤ} (to : ℕ) (m : ℤ) (xs : List ℤ) → at + n ≤ to → RoomAt k at n sums → RoomAt k at n (plusFrom to m sums xs)
+unfolding item
+room-before {k} {at} {n} {sums} to m xs h r = record { room = λ i l. rw (plus-before to m sums xs (at + i) (omega arith)) (r .room i l) }
+
 pub room-all : {m : ℕ} {sums : List ℤ} {b : ℤ} (to count : ℕ) → Spare m (rowOf sums b) → RoomAt m to count sums
 room-all to count s = record { room = λ i h. s .coefficient (to + i) }
 
@@ -198,5 +202,43 @@ module _ (m n : ℕ) (y z : ℤ) (sums xs : List ℤ) (e : length xs ≡ n) (wid
     room-past n z xs (omega (arith, e)) (room-past 0 y xs (omega (arith, e)) (room-part (n + n) 1 (omega arith) (omega arith) room)),
   )
 
-pub bound-stays : (m : ℕ) → pos 0 ≡ pos 0 +ℤ pos m *ℤ pos 0
-bound-stays m = sym (nothing (pos 0) m)
+-- a row with one coefficient a at v of its first n, and then others
+zeros-add : (m n : ℕ) (sums : List ℤ) → plusFrom 0 (pos m) sums (replicate n (pos 0)) ≡ sums
+unfolding plusFrom
+zeros-add m n [] = refl
+zeros-add m zero (s ∷ sums) = refl
+zeros-add m (suc n) (s ∷ sums) = ap₂ (λ (t : ℤ) (ys : List ℤ). t ∷ ys) (nothing s m) (zeros-add m n sums)
+
+plus-single : (n v m : ℕ) (a : ℤ) (sums ys : List ℤ) → v < n → n + length ys ≤ length sums → plus m sums (set (replicate n (pos 0)) v a ++ ys) ≡ plusFrom v (pos m) (plusFrom n (pos m) sums ys) (a ∷ [])
+unfolding plus plusFrom
+plus-single zero v m a sums ys h l = absurd (omega arith)
+plus-single (suc n) v m a [] ys h l = absurd (omega arith)
+plus-single (suc n) zero m a (s ∷ sums) ys h l =
+    ap (λ (xs : List ℤ). (s +ℤ pos m *ℤ a) ∷ xs) (plus-onward n m sums ys (omega arith) ∙ plus-none 0 (pos m) (plusFrom n (pos m) sums ys))
+plus-single (suc n) (suc v) m a (s ∷ sums) ys h l =
+    ap₂ (λ (t : ℤ) (xs : List ℤ). t ∷ xs) (nothing s m) (plus-single n v m a sums ys (omega arith) (omega arith))
+
+single-at : (to n v at m : ℕ) (b : ℤ) (sums : List ℤ) → v < n → at ≡ to + v → plusFrom to (pos m) sums (set (replicate n (pos 0)) v b) ≡ plusFrom at (pos m) sums (b ∷ [])
+unfolding plusFrom
+single-at to n v at m b [] h e = refl
+single-at zero zero v at m b (s ∷ sums) h e = absurd (omega arith)
+single-at zero (suc n) zero zero m b (s ∷ sums) h e = ap (λ (xs : List ℤ). (s +ℤ pos m *ℤ b) ∷ xs) (zeros-add m n sums ∙ plus-none 0 (pos m) sums)
+single-at zero (suc n) zero (suc at) m b (s ∷ sums) h e = absurd (omega arith)
+single-at zero (suc n) (suc v) zero m b (s ∷ sums) h e = absurd (omega arith)
+single-at zero (suc n) (suc v) (suc at) m b (s ∷ sums) h e = ap₂ (λ (t : ℤ) (xs : List ℤ). t ∷ xs) (nothing s m) (single-at zero n v at m b sums (omega arith) (omega arith))
+single-at (suc to) n v zero m b (s ∷ sums) h e = absurd (omega arith)
+single-at (suc to) n v (suc at) m b (s ∷ sums) h e = ap (λ (xs : List ℤ). s ∷ xs) (single-at to n v at m b sums h (omega arith))
+
+pub plus-pair : (n v m : ℕ) (a b : ℤ) (sums : List ℤ) → v < n → n + n ≤ length sums → plus m sums (set (replicate n (pos 0)) v a ++ set (replicate n (pos 0)) v b) ≡ plusFrom v (pos m) (plusFrom (n + v) (pos m) sums (b ∷ [])) (a ∷ [])
+plus-pair n v m a b sums h l =
+    let wide : length (set (replicate n (pos 0)) v b) ≡ n = length-set (replicate n (pos 0)) v b ∙ length-replicate n (pos 0) in
+    plus-single n v m a sums (set (replicate n (pos 0)) v b) h (omega (arith, wide))
+    ∙ ap (λ (ys : List ℤ). plusFrom v (pos m) ys (a ∷ [])) (single-at n n v (n + v) m b sums h refl)
+
+-- 1 taken away is −1 added
+pub less-one : (to m : ℕ) (sums : List ℤ) → plusFrom to (negℤ (pos m)) sums (pos 1 ∷ []) ≡ plusFrom to (pos m) sums (negsuc 0 ∷ [])
+less-one to m sums = sym (plus-negative to (pos m) sums (pos 1 ∷ []))
+
+-- a row whose bound is 0 leaves the bound
+pub no-bound : (b : ℤ) (m : ℕ) → b ≡ b +ℤ pos m *ℤ pos 0
+no-bound b m = sym (nothing b m)

@@ -12,8 +12,7 @@ use lib.IntN.{ℤ, pos, _+ℤ_, _*ℤ_, +ℤ-idl, *ℤ-zero}
 use lib.ListN.{getD}
 use lib.Signed.{leZ}
 use mir.Facts.{and-yes, yes-and}
-use Rattle.farkas.specs.declared.Row.{Row}
-use Rattle.farkas.specs.Rows.{item}
+use Rattle.farkas.specs.Rows.{Row, item}
 use Rattle.farkas.specs.Lists.{every}
 use Rattle.farkas.specs.Farkas.{Proof, Agree, BoundMet, plus, sameZ, coefficientsAgree, boundPasses, sumsTest, farkasTest, summed, SumsMeet, Meets}
 use Rattle.farkas.proofs.Order.{≤-antisym, ≤-of-≡, plus-nothing}

@@ -7,11 +7,10 @@ use Prim.Native.Nat.{ℕ, zero, suc, _≤_}
 use lib.IntN.{ℤ, pos, _+ℤ_, _*ℤ_}
 use lib.ListN.{getD}
 use lib.Signed.{leZ, ltZ, _≤ℤ_, _<ℤ_}
-use Rattle.farkas.specs.declared.Row.{Row}
 use Rattle.farkas.specs.declared.Verdict.{Verdict}
 use Rattle.farkas.specs.declared.Verdict.the-variants.{Holds, CoefficientsDiffer, BoundFails}
 use Rattle.farkas.specs.Lists.{every}
-use Rattle.farkas.specs.Rows.{item, zeroRow}
+use Rattle.farkas.specs.Rows.{Row, item, zeroRow}
 
 -- "per entry a u8 hypothesis .. and a u32 multiplier": hypotheses are numbered from 0
 pub record Entry : Type 0 where

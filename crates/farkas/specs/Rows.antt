@@ -1,6 +1,6 @@
 -- Rows, and where they hold (01, Sheet and Runs).
--- A row is the declared struct `Row`: coefficients a and a bound b, whole numbers of either sign; it means a·x ≤ b. The unknowns
--- are counted from 0, and a coefficient or a value that a list does not reach counts as 0. Assumes nothing.
+-- A row has coefficients a and a bound b, whole numbers of either sign; it means a·x ≤ b. The unknowns are counted from 0, and a
+-- coefficient or a value that a list does not reach counts as 0. Assumes nothing.
 use mathlib.Core.Bool.{Bool}
 use mathlib.Core.List.{List, [], _∷_, _++_, map}
 use mathlib.Core.Path.{_≡_}
@@ -9,7 +9,11 @@ use lib.Dec.{T}
 use lib.IntN.{ℤ, pos, negℤ, _+ℤ_, _*ℤ_}
 use lib.ListN.{getD, replicate}
 use lib.Signed.{leZ}
-use Rattle.farkas.specs.declared.Row.{Row}
+
+-- "A row is n coefficients a and a bound b, all s32, and means a·x ≤ b"
+pub record Row : Type 0 where
+  pub coefficients : List ℤ
+  pub bound : ℤ
 
 -- the i-th coefficient of a row, or the i-th value of a point
 unfoldable pub item : List ℤ → ℕ → ℤ
@@ -48,10 +52,6 @@ onChange r =
 -- the row 0 ≤ 0, which holds everywhere
 unfoldable pub zeroRow : Row
 zeroRow = record { coefficients = []; bound = pos 0 }
-
--- the sums of no entries, as the code holds them: 0 at each of the 17 unknowns
-unfoldable pub noSums : Row
-noSums = record { coefficients = replicate 17 (pos 0); bound = pos 0 }
 
 -- rows of which each coefficient and the bound are the same: they differ only in zeros at the end
 pub record Alike (r s : Row) : Type 0 where

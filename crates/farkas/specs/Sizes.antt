@@ -2,12 +2,19 @@
 -- 01, Certificate). Assumes nothing.
 use mathlib.Core.List.{List}
 use Prim.Native.Nat.{ℕ, _+_, _*_, _^_, _≤_, _<_}
-use lib.IntN.{natAbs}
+use lib.IntN.{ℤ, natAbs}
 use lib.ListN.{length, getD, take}
-use Rattle.farkas.specs.declared.Row.{Row}
-use Rattle.farkas.specs.Rows.{item, zeroRow}
+use Rattle.farkas.specs.Rows.{Row, item, zeroRow}
 use Rattle.farkas.specs.Lists.{All}
 use Rattle.farkas.specs.Farkas.{Entry, summed}
+
+-- every number of a sheet is a byte
+abbrev pub Bytes : List ℕ → Type 0
+Bytes s = (i : ℕ) → getD s i 0 < 256
+
+-- no coefficient is larger than the size
+abbrev pub Small : ℕ → List ℤ → Type 0
+Small size xs = (i : ℕ) → natAbs (item xs i) ≤ size
 
 -- no number of the row is larger than the size
 pub record Within (size : ℕ) (r : Row) : Type 0 where

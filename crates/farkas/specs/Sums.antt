@@ -5,8 +5,7 @@ use mathlib.Core.List.{List, [], _∷_}
 use Prim.Native.Nat.{ℕ, zero, suc, _+_, _*_, _^_, _<_}
 use lib.IntN.{ℤ, pos, natAbs, _+ℤ_, _*ℤ_}
 use lib.ListN.{length, take, drop}
-use Rattle.farkas.specs.declared.Row.{Row}
-use Rattle.farkas.specs.Rows.{item}
+use Rattle.farkas.specs.Rows.{Row, item}
 use Rattle.farkas.specs.Farkas.{sameZ, coefficientsAgree}
 
 -- numbers, m times, added to those of a list from one on; past the end of the list nothing is added

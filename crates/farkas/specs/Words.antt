@@ -5,7 +5,7 @@ use Prim.Native.Nat.{ℕ, zero, suc, _+_, _*_, _-_, _^_}
 use lib.Dec.{ltb}
 use lib.IntN.{ℤ, pos, negsuc}
 use lib.ListN.{length, take, drop}
-use Rattle.farkas.specs.declared.Row.{Row}
+use Rattle.farkas.specs.Rows.{Row}
 
 -- "all big-endian"
 unfoldable pub bigEndian : List ℕ → ℕ

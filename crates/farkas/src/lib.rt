@@ -1,21 +1,22 @@
-// Rows and proofs: linear rows a·x ≤ b over up to 17 unknowns, and Farkas' test of a proof from them.
-// A caller starts from `no_sums`, adds each entry's row with `add_row`, and asks `judge` whether the sums meet Farkas' condition.
+// Rows and proofs: sums of linear rows a·x ≤ b over up to 17 unknowns, and Farkas' test of them.
+// A caller lends a slice with a number for each unknown, all 0, and keeps the summed bound beside it. It adds each entry's row straight from
+// its bytes (`add_row`, `add_rates`, `add_one`) and asks `judge` whether the sums meet Farkas' condition against a goal that stands in bytes
+// too. Where the test passes the sums are 0 again, ready for the next proof.
 // Nothing here knows of sheets or models. Sizes are the caller's to bound: see specs/Sizes.antt.
-pub mod sums;
 pub mod words;
 
+use crate::words::signed_word;
 ghost use mathlib.Core.Path.{_≡_};
-ghost use Prim.Native.Nat.{_+_, _*_, _^_, _≤_, _<_};
-ghost use lib.IntN.{natAbs, _+ℤ_, _*ℤ_};
-ghost use Rattle.farkas.specs.Rows.{noSums};
+ghost use mathlib.Core.Bool.{true};
+ghost use mathlib.Core.List.{[], _∷_, _++_};
+ghost use Prim.Native.Nat.{_+_, _*_, _-_, _^_, _≤_, _<_};
+ghost use lib.IntN.{pos, negℤ, natAbs, _+ℤ_, _*ℤ_};
+ghost use lib.ListN.{length, take, drop, replicate};
+ghost use Rattle.farkas.specs.Lists.{every};
+ghost use Rattle.farkas.specs.Rows.{rowOf, zeroRow, onward, onChange};
+ghost use Rattle.farkas.specs.Words.{numbersAt, rowIn};
 ghost use Rattle.farkas.specs.Farkas.{addRow, coefficientsAgree, boundPasses, sumsTest, numberOf};
-ghost use Rattle.farkas.specs.Sizes.{Within, Room};
-
-// Coefficients a and a bound b: a·x ≤ b. Where there are fewer unknowns the rest are 0.
-pub struct Row {
-    pub coefficients: [i64; 17],
-    pub bound: i64,
-}
+ghost use Rattle.farkas.specs.Sums.{plusFrom, RoomAt, Spare, isZero, agreesAt, cleared};
 
 // What the test of a proof finds.
 pub enum Verdict {
@@ -32,52 +33,119 @@ pub fn multiply_add(x: i64, m: i64, y: i64) -> i64
     x + m * y
 }
 
-// The sums of no entries: 0 at every unknown, and the bound 0.
-pub fn no_sums() -> Row
-    ensures { λ r. ⌜ r ≡ noSums ⌝ }
+// So many numbers, m times, added to the sums from one on.
+fn add_numbers(sums: &mut [i64], to: usize, words: &[u8], at: usize, count: usize, m: i64)
+    requires { ⌜ (to + count ≤ length (now sums)) × (RoomAt (natAbs m) to count (now sums)) ⌝ }
+    requires { ⌜ (at + 4 * count ≤ length (now words)) × (length (now words) < 2 ^ 20) ⌝ }
+    ensures { λ _. ⌜ now (sums .exit) ≡ plusFrom to m (now (sums .entry)) (numbersAt (now (words .entry)) at count) ⌝ }
 {
-    Row {
-        coefficients: [0; 17],
-        bound: 0,
-    }
-}
-
-// The sums with a row added m times.
-pub fn add_row(sums: Row, m: u32, row: Row) -> Row
-    requires { ⌜ Room sums m row ⌝ }
-    ensures { λ r. ⌜ r ≡ addRow sums m row ⌝ }
-{
-    let mut coefficients = sums.coefficients;
-    let from = row.coefficients;
-    let by = m as i64;
     let mut i: usize = 0;
-    while i < 17 {
-        coefficients[i] = multiply_add(coefficients[i], by, from[i]);
+    while i < count {
+        sums[to + i] = multiply_add(sums[to + i], m, signed_word(words, at + 4 * i));
         i += 1;
     }
-    let bound = multiply_add(sums.bound, by, row.bound);
-    Row {
-        coefficients,
-        bound,
-    }
 }
 
-// Whether the sums are k times the goal's coefficients, at every unknown.
-fn agree(k: u32, sums: Row, goal: Row) -> bool
-    requires { ⌜ Within (2 ^ 31) goal ⌝ }
-    ensures { λ r. ⌜ r ≡ coefficientsAgree k (sums .coefficients) (goal .coefficients) ⌝ }
+// A number of times, and its opposite, with a sign.
+pub fn times(m: u32) -> i64
+    ensures { λ r. ⌜ (r ≡ pos m) × (natAbs r ≡ m) ⌝ }
 {
-    let left = sums.coefficients;
-    let right = goal.coefficients;
-    let by = k as i64;
-    let mut unknown: usize = 0;
-    while unknown < 17 {
-        if left[unknown] != multiply_add(0, by, right[unknown]) {
+    m as i64
+}
+
+pub fn opposite(m: u32) -> i64
+    ensures { λ r. ⌜ (r ≡ negℤ (pos m)) × (natAbs r ≡ m) ⌝ }
+{
+    0 - m as i64
+}
+
+// The sums with a row added m times, its coefficients on the unknowns from `shift` on; the bound is told.
+pub fn add_row(
+    sums: &mut [i64],
+    bound: i64,
+    m: u32,
+    shift: usize,
+    words: &[u8],
+    at: usize,
+    count: usize,
+) -> i64
+    requires { ⌜ (shift + count ≤ length (now sums)) × Spare m (rowOf (now sums) bound) ⌝ }
+    requires { ⌜ (at + 4 * (count + 1) ≤ length (now words)) × (length (now words) < 2 ^ 20) ⌝ }
+    ensures { λ r. ⌜ rowOf (now (sums .exit)) r ≡ addRow (rowOf (now (sums .entry)) bound) m (onward shift (rowIn (now (words .entry)) at count)) ⌝ }
+{
+    let by = times(m);
+    add_numbers(sums, shift, words, at, count, by);
+    multiply_add(bound, by, signed_word(words, at + 4 * count))
+}
+
+// The sums with a row on rates added m times: −a on x, a on x', −b on d, bound 0. The bound stays.
+pub fn add_rates(sums: &mut [i64], m: u32, words: &[u8], at: usize, count: usize)
+    requires { ⌜ (count + count + 1 ≤ length (now sums)) × (RoomAt m 0 (count + count + 1) (now sums)) ⌝ }
+    requires { ⌜ (at + 4 * (count + 1) ≤ length (now words)) × (length (now words) < 2 ^ 20) ⌝ }
+    ensures { λ _. ⌜ rowOf (now (sums .exit)) (pos 0) ≡ addRow (rowOf (now (sums .entry)) (pos 0)) m (onChange (rowIn (now (words .entry)) at count)) ⌝ }
+{
+    let less = opposite(m);
+    add_numbers(sums, 0, words, at, count, less);
+    add_numbers(sums, count, words, at, count, times(m));
+    add_numbers(sums, count + count, words, at + 4 * count, 1, less);
+}
+
+// The sums with m added at one unknown.
+pub fn add_one(sums: &mut [i64], unknown: usize, m: i64)
+    requires { ⌜ (unknown < length (now sums)) × (RoomAt (natAbs m) unknown 1 (now sums)) ⌝ }
+    ensures { λ _. ⌜ now (sums .exit) ≡ plusFrom unknown m (now (sums .entry)) (pos 1 ∷ []) ⌝ }
+{
+    sums[unknown] = multiply_add(sums[unknown], m, 1);
+}
+
+// Whether the sums from one up to another are 0.
+fn all_zero(sums: &[i64], from: usize, to: usize) -> bool
+    requires { ⌜ (from ≤ to) × (to ≤ length (now sums)) ⌝ }
+    ensures { λ r. ⌜ r ≡ every isZero (take (to - from) (drop from (now (sums .entry)))) ⌝ }
+{
+    let mut i = from;
+    while i < to {
+        if sums[i] != 0 {
             return false;
         }
-        unknown += 1;
+        i += 1;
     }
     true
+}
+
+// Whether the sums from one on are k times so many numbers; where they are, they are set to 0 again.
+fn take_goal(sums: &mut [i64], from: usize, words: &[u8], at: usize, count: usize, k: u32) -> bool
+    requires { ⌜ from + count ≤ length (now sums) ⌝ }
+    requires { ⌜ (at + 4 * count ≤ length (now words)) × (length (now words) < 2 ^ 20) ⌝ }
+    ensures { λ r. ⌜ r ≡ agreesAt k from (now (sums .entry)) (numbersAt (now (words .entry)) at count) ⌝ }
+    ensures { λ r. ⌜ (r ≡ true → now (sums .exit) ≡ cleared from count (now (sums .entry))) ⌝ }
+{
+    let by = k as i64;
+    let mut i: usize = 0;
+    while i < count {
+        if sums[from + i] != multiply_add(0, by, signed_word(words, at + 4 * i)) {
+            return false;
+        }
+        sums[from + i] = 0;
+        i += 1;
+    }
+    true
+}
+
+// Whether the sums are k times the coefficients of a row on the unknowns from `shift` on, and 0 at every other unknown.
+fn agree(sums: &mut [i64], k: u32, shift: usize, words: &[u8], at: usize, count: usize) -> bool
+    requires { ⌜ shift + count ≤ length (now sums) ⌝ }
+    requires { ⌜ (at + 4 * count ≤ length (now words)) × (length (now words) < 2 ^ 20) ⌝ }
+    ensures { λ r. ⌜ r ≡ coefficientsAgree k (now (sums .entry)) (replicate shift (pos 0) ++ numbersAt (now (words .entry)) at count) ⌝ }
+    ensures { λ r. ⌜ (r ≡ true → now (sums .exit) ≡ replicate (length (now (sums .entry))) (pos 0)) ⌝ }
+{
+    if !all_zero(sums, 0, shift) {
+        return false;
+    }
+    if !take_goal(sums, shift, words, at, count, k) {
+        return false;
+    }
+    all_zero(sums, shift + count, sums.len())
 }
 
 // Whether the summed bound is at most k times the goal's, or, at k = 0, below 0.
@@ -91,15 +159,41 @@ fn bound_passes(k: u32, sum: i64, goal: i64) -> bool
     sum <= multiply_add(0, k as i64, goal)
 }
 
-// Farkas' test of the sums of a proof with this k: numbers 0, 10 and 11 of document 01.
-pub fn judge(k: u32, sums: Row, goal: Row) -> Verdict
-    requires { ⌜ Within (2 ^ 31) goal ⌝ }
-    ensures { λ r. ⌜ numberOf r ≡ sumsTest k sums goal ⌝ }
+// Farkas' test of the sums of a proof with this k, whose goal is a row on the unknowns from `shift` on: numbers 0, 10 and 11 of document
+// 01. Where it passes, the sums are 0 again; else they are of no use.
+pub fn judge(
+    sums: &mut [i64],
+    bound: i64,
+    k: u32,
+    shift: usize,
+    words: &[u8],
+    at: usize,
+    count: usize,
+) -> Verdict
+    requires { ⌜ shift + count ≤ length (now sums) ⌝ }
+    requires { ⌜ (at + 4 * (count + 1) ≤ length (now words)) × (length (now words) < 2 ^ 20) ⌝ }
+    ensures { λ r. ⌜ numberOf r ≡ sumsTest k (rowOf (now (sums .entry)) bound) (onward shift (rowIn (now (words .entry)) at count)) ⌝ }
+    ensures { λ r. ⌜ (r ≡ Verdict.Holds → now (sums .exit) ≡ replicate (length (now (sums .entry))) (pos 0)) ⌝ }
 {
-    if !agree(k, sums, goal) {
+    if !agree(sums, k, shift, words, at, count) {
         return Verdict::CoefficientsDiffer;
     }
-    if bound_passes(k, sums.bound, goal.bound) {
+    if bound_passes(k, bound, signed_word(words, at + 4 * count)) {
+        Verdict::Holds
+    } else {
+        Verdict::BoundFails
+    }
+}
+
+// The same where the goal is 0 ≤ 0 and k is 0: all sums must be 0 and the bound below 0.
+pub fn judge_zero(sums: &[i64], bound: i64) -> Verdict
+    ensures { λ r. ⌜ numberOf r ≡ sumsTest 0 (rowOf (now (sums .entry)) bound) zeroRow ⌝ }
+    ensures { λ r. ⌜ (r ≡ Verdict.Holds → now (sums .entry) ≡ replicate (length (now (sums .entry))) (pos 0)) ⌝ }
+{
+    if !all_zero(sums, 0, sums.len()) {
+        return Verdict::CoefficientsDiffer;
+    }
+    if bound < 0 {
         Verdict::Holds
     } else {
         Verdict::BoundFails

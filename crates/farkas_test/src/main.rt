@@ -1,82 +1,93 @@
-// Tries Farkas' test on the three proofs of document 01's certificate C, and at the ends of its ranges. A line for each: the sums, the
-// goal, k, and the number that the test finds.
-// T has one unknown x: start x ≤ 5 and −x ≤ −5, invariant x ≤ 10, rates 0 to 2, unsafe −x ≤ −11. C's region is x ≤ 10.
-use farkas::Row;
+// Tries Farkas' test on the three proofs of document 01's certificate C, on a flow with time, and at the ends of its ranges. A line for
+// each: the sums, the goal, k, and the number that the test finds.
+// T has one unknown x: start x ≤ 5 and −x ≤ −5, invariant x ≤ 10, rates 0 to 2, unsafe −x ≤ −11. C's region is x ≤ 10. A flow has the
+// unknowns x, x' and d. Rows stand in bytes as in a sheet, four to a number, the bound last.
 use farkas::Verdict;
+use farkas::words::signed_word;
 use libc::STDOUT_FILENO;
 ghost use mathlib.Core.Path.{_≡_};
 ghost use Prim.Native.Nat.{_+_, _*_, _^_, _≤_, _<_};
-ghost use lib.IntN.{natAbs};
-ghost use Rattle.farkas.specs.Rows.{noSums};
+ghost use lib.IntN.{pos, natAbs};
+ghost use lib.ListN.{length, replicate};
+ghost use Rattle.farkas.specs.Rows.{rowOf};
 ghost use Rattle.farkas.specs.Farkas.{numberOf};
 ghost use Rattle.farkas.specs.Sizes.{Within};
+
+// Rows of one coefficient: the region x ≤ 10, which is the invariant too; the unsafe row −x ≤ −11; 0 ≤ 0; −x ≤ −5; −x ≤ −1; and the row
+// with the lowest numbers, −2^31.
+const REGION: [u8; 8] = [0, 0, 0, 1, 0, 0, 0, 10];
+
+const UNSAFE: [u8; 8] = [255, 255, 255, 255, 255, 255, 255, 245];
+
+const ZEROS: [u8; 8] = [0; 8];
+
+const FROM_FIVE: [u8; 8] = [255, 255, 255, 255, 255, 255, 255, 251];
+
+const FROM_ONE: [u8; 8] = [255; 8];
+
+const LOWEST: [u8; 8] = [128, 0, 0, 0, 128, 0, 0, 0];
 
 // The largest multiplier and the largest k, 2^24 − 1.
 const LARGEST: u32 = 16777215;
 
-// A row's number, of size up to 2^31; any other counts as 0.
-fn sized(x: i64) -> i64
-    ensures { λ r. ⌜ natAbs r ≤ 2 ^ 31 ⌝ }
+// The sums with a row on the unknowns from `shift` on, m times, added by each of so many entries; so many were added before. The bound is
+// told. Sums of 128 entries fit.
+fn entries(
+    sums: &mut [i64],
+    bound: i64,
+    before: u32,
+    count: u32,
+    m: u32,
+    shift: usize,
+    words: &[u8],
+    n: usize,
+) -> i64
+    requires { ⌜ Within (before * 2 ^ 55) (rowOf (now sums) bound) ⌝ }
+    requires { ⌜ (before + count ≤ 128) × (m < 2 ^ 24) ⌝ }
+    requires { ⌜ (shift + n ≤ length (now sums)) × ((4 * (n + 1) ≤ length (now words)) × (length (now words) < 2 ^ 20)) ⌝ }
+    ensures { λ r. ⌜ Within ((before + count) * 2 ^ 55) (rowOf (now (sums .exit)) r) ⌝ }
 {
-    if x < -2147483648 {
-        return 0;
-    }
-    if x > 2147483648 {
-        return 0;
-    }
-    x
-}
-
-// The row with these coefficients of the first three unknowns.
-fn row(a: i64, b: i64, c: i64, bound: i64) -> Row
-    ensures { λ r. ⌜ Within (2 ^ 31) r ⌝ }
-{
-    let mut coefficients = [0i64; 17];
-    coefficients[0] = sized(a);
-    coefficients[1] = sized(b);
-    coefficients[2] = sized(c);
-    let bound = sized(bound);
-    Row {
-        coefficients,
-        bound,
-    }
-}
-
-// The row with this coefficient of the last unknown, and the bound 0.
-fn last(a: i64) -> Row
-    ensures { λ r. ⌜ Within (2 ^ 31) r ⌝ }
-{
-    let mut coefficients = [0i64; 17];
-    coefficients[16] = sized(a);
-    Row {
-        coefficients,
-        bound: 0,
-    }
-}
-
-// The sums of no entries.
-fn none() -> Row
-    ensures { λ r. ⌜ r ≡ noSums ⌝ }
-    ensures { λ r. ⌜ Within 0 r ⌝ }
-{
-    farkas::no_sums()
-}
-
-// The sums with a row added, m times, by each of so many entries.
-fn entries(sums: Row, before: u32, count: u32, m: u32, row: Row) -> Row
-    requires { ⌜ Within (before * 2 ^ 55) sums ⌝ }
-    requires { ⌜ before + count ≤ 128 ⌝ }
-    requires { ⌜ m < 2 ^ 24 ⌝ }
-    requires { ⌜ Within (2 ^ 31) row ⌝ }
-    ensures { λ r. ⌜ Within ((before + count) * 2 ^ 55) r ⌝ }
-{
-    let mut sum = sums;
-    let mut n: u32 = 0;
-    while n < count {
-        sum = farkas::add_row(sum, m, row);
-        n += 1;
+    let mut sum = bound;
+    let mut i: u32 = 0;
+    while i < count {
+        sum = farkas::add_row(sums, sum, m, shift, words, 0, n);
+        i += 1;
     }
     sum
+}
+
+// The same where nothing was added before, so that all sums are 0.
+fn first_entries(sums: &mut [i64], count: u32, m: u32, shift: usize, words: &[u8], n: usize) -> i64
+    requires { ⌜ now sums ≡ replicate (length (now sums)) (pos 0) ⌝ }
+    requires { ⌜ (count ≤ 128) × (m < 2 ^ 24) ⌝ }
+    requires { ⌜ (shift + n ≤ length (now sums)) × ((4 * (n + 1) ≤ length (now words)) × (length (now words) < 2 ^ 20)) ⌝ }
+    ensures { λ r. ⌜ Within (count * 2 ^ 55) (rowOf (now (sums .exit)) r) ⌝ }
+{
+    entries(sums, 0, 0, count, m, shift, words, n)
+}
+
+// The sums of two entries of rows on x: one m times, and one more.
+fn two_entries(sums: &mut [i64], m: u32, words: &[u8], more: &[u8]) -> i64
+    requires { ⌜ (now sums ≡ replicate (length (now sums)) (pos 0)) × ((1 ≤ length (now sums)) × (m < 2 ^ 24)) ⌝ }
+    requires { ⌜ (8 ≤ length (now words)) × (length (now words) < 2 ^ 20) ⌝ }
+    requires { ⌜ (8 ≤ length (now more)) × (length (now more) < 2 ^ 20) ⌝ }
+{
+    let bound = first_entries(sums, 1, m, 0, words, 1);
+    entries(sums, bound, 1, 1, 1, 0, more, 1)
+}
+
+// The sums of so many entries, m times each, of a row on the rates of n unknowns. The bound is 0.
+fn entries_on_rates(sums: &mut [i64], count: u32, m: u32, words: &[u8], n: usize)
+    requires { ⌜ now sums ≡ replicate (length (now sums)) (pos 0) ⌝ }
+    requires { ⌜ (count ≤ 128) × (m < 2 ^ 24) ⌝ }
+    requires { ⌜ (n + n + 1 ≤ length (now sums)) × ((4 * (n + 1) ≤ length (now words)) × (length (now words) < 2 ^ 20)) ⌝ }
+    ensures { λ _. ⌜ Within (count * 2 ^ 55) (rowOf (now (sums .exit)) (pos 0)) ⌝ }
+{
+    let mut i: u32 = 0;
+    while i < count {
+        farkas::add_rates(sums, m, words, 0, n);
+        i += 1;
+    }
 }
 
 // The size of a number.
@@ -104,18 +115,43 @@ fn print_number(x: i64) {
     io::print_decimal(STDOUT_FILENO, size(x));
 }
 
-// Writes the coefficients of the first unknowns, and the bound.
-fn print_row(unknowns: usize, row: Row)
-    requires { ⌜ unknowns ≤ 17 ⌝ }
-{
-    let coefficients = row.coefficients;
+// Writes the sums and the bound.
+fn print_sums(sums: &[i64], bound: i64) {
+    print(b": sums");
     let mut i: usize = 0;
-    while i < unknowns {
-        print_number(coefficients[i]);
+    while i < sums.len() {
+        print_number(sums[i]);
         i += 1;
     }
     print(b" bound");
-    print_number(row.bound);
+    print_number(bound);
+}
+
+// The coefficient of an unknown in a row that stands on the unknowns from `shift` on.
+fn coefficient(unknown: usize, shift: usize, words: &[u8], n: usize) -> i64
+    requires { ⌜ (4 * (n + 1) ≤ length (now words)) × (length (now words) < 2 ^ 20) ⌝ }
+{
+    if unknown < shift {
+        return 0;
+    }
+    if unknown - shift < n {
+        return signed_word(words, 4 * (unknown - shift));
+    }
+    0
+}
+
+// Writes the goal: its coefficients at so many unknowns, and its bound.
+fn print_goal(width: usize, shift: usize, words: &[u8], n: usize)
+    requires { ⌜ (4 * (n + 1) ≤ length (now words)) × (length (now words) < 2 ^ 20) ⌝ }
+{
+    print(b", goal");
+    let mut i: usize = 0;
+    while i < width {
+        print_number(coefficient(i, shift, words, n));
+        i += 1;
+    }
+    print(b" bound");
+    print_number(signed_word(words, 4 * n));
 }
 
 // The number of a verdict.
@@ -129,94 +165,199 @@ fn number(v: Verdict) -> u64
     }
 }
 
-// Tests sums with this k against a goal, and writes the line.
-fn try_sums(name: &[u8], unknowns: usize, k: u32, sums: Row, goal: Row)
-    requires { ⌜ unknowns ≤ 17 ⌝ }
-    requires { ⌜ Within (2 ^ 31) goal ⌝ }
-{
-    print(name);
-    print(b": sums");
-    print_row(unknowns, sums);
-    print(b", goal");
-    print_row(unknowns, goal);
-    print(b", k ");
-    io::print_decimal(STDOUT_FILENO, k as u64);
+// Writes the number of a verdict, and ends the line.
+fn print_verdict(v: Verdict) {
     print(b": ");
-    io::print_decimal(STDOUT_FILENO, number(farkas::judge(k, sums, goal)));
+    io::print_decimal(STDOUT_FILENO, number(v));
     print(b"\n");
 }
 
-// C's first proof: k 1, entry 2:1. Hypotheses: the start rows, the invariant. Goal: the region.
+// Tests sums with this k against a goal on the unknowns from `shift` on, and writes the line.
+fn try_sums(name: &[u8], sums: &mut [i64], bound: i64, k: u32, shift: usize, words: &[u8], n: usize)
+    requires { ⌜ (shift + n ≤ length (now sums)) × ((4 * (n + 1) ≤ length (now words)) × (length (now words) < 2 ^ 20)) ⌝ }
+{
+    print(name);
+    print_sums(sums, bound);
+    print_goal(sums.len(), shift, words, n);
+    print(b", k ");
+    io::print_decimal(STDOUT_FILENO, k as u64);
+    print_verdict(farkas::judge(sums, bound, k, shift, words, 0, n));
+}
+
+// The same where the goal is 0 ≤ 0 and k is 0.
+fn try_zero(name: &[u8], sums: &[i64], bound: i64) {
+    print(name);
+    print_sums(sums, bound);
+    print(b", goal 0 bound 0, k 0");
+    print_verdict(farkas::judge_zero(sums, bound));
+}
+
+// C's first proof: k 1, entry 2:1. Hypotheses: the start rows, the invariant. Goal: the region. The test passes, so all sums are 0 again;
+// the second line shows it, by a test at k 0 with a bound below 0.
 fn start_proof() {
-    let hypotheses = [row(1, 0, 0, 5), row(-1, 0, 0, -5), row(1, 0, 0, 10)];
-    let sums = entries(none(), 0, 1, 1, hypotheses[2]);
-    try_sums(b"start", 1, 1, sums, row(1, 0, 0, 10));
+    let mut sums = [0i64; 1];
+    let bound = first_entries(&mut sums, 1, 1, 0, &REGION, 1);
+    try_sums(b"start", &mut sums, bound, 1, 0, &REGION, 1);
+    try_zero(b"sums after the start", &sums, -1);
 }
 
-// C's second proof: k 1, entry 2:1. The unknowns are x, x' and d. Hypotheses: the region and the invariant on x, the invariant on
-// x', the two flow rows, −d ≤ 0. Goal: the region on x'.
+// C's second proof: k 1, entry 2:1. Hypotheses: the region and the invariant on x, the invariant on x', the two flow rows, −d ≤ 0. Goal:
+// the region on x'.
 fn flow_proof() {
-    let hypotheses = [
-        row(1, 0, 0, 10),
-        row(1, 0, 0, 10),
-        row(0, 1, 0, 10),
-        row(-1, 1, -2, 0),
-        row(1, -1, 0, 0),
-        row(0, 0, -1, 0),
-    ];
-    let sums = entries(none(), 0, 1, 1, hypotheses[2]);
-    try_sums(b"flow", 3, 1, sums, row(0, 1, 0, 10));
+    let mut sums = [0i64; 3];
+    let bound = first_entries(&mut sums, 1, 1, 1, &REGION, 1);
+    try_sums(b"flow", &mut sums, bound, 1, 1, &REGION, 1);
+    try_zero(b"sums after the flow", &sums, -1);
 }
 
-// C's third proof: k 0, entries 0:1 and 2:1. Hypotheses: the region, the invariant, the unsafe row. The goal is 0 ≤ 0.
+// The same with the entry 1:1: the sums are those of the goal, but on x, and the goal stands on x'.
+fn flow_from() {
+    let mut sums = [0i64; 3];
+    let bound = first_entries(&mut sums, 1, 1, 0, &REGION, 1);
+    try_sums(b"flow, the sums on x", &mut sums, bound, 1, 1, &REGION, 1);
+}
+
+// C's third proof: k 0, entries 0:1 and 2:1. Hypotheses: the region, the invariant, the unsafe row. The goal is 0 ≤ 0. With the first
+// entry alone x is left.
 fn unsafe_proof() {
-    let hypotheses = [row(1, 0, 0, 10), row(1, 0, 0, 10), row(-1, 0, 0, -11)];
-    let first = entries(none(), 0, 1, 1, hypotheses[0]);
-    let sums = entries(first, 1, 1, 1, hypotheses[2]);
-    try_sums(b"unsafe", 1, 0, sums, row(0, 0, 0, 0));
+    let mut sums = [0i64; 1];
+    let bound = two_entries(&mut sums, 1, &REGION, &UNSAFE);
+    try_zero(b"unsafe", &sums, bound);
+    let mut one = [0i64; 1];
+    let bound = first_entries(&mut one, 1, 1, 0, &REGION, 1);
+    try_zero(b"unsafe, first entry alone", &one, bound);
 }
 
 // No entries with k 0: the sum 0 is not below 0. That the number is 11 is proved, not only tried.
-fn no_entries() {
-    let zeros = none();
-    check::expect(number(farkas::judge(0, zeros, zeros)) == 11);
-    try_sums(b"no entries", 1, 0, zeros, zeros);
+fn none_refused() {
+    let mut sums = [0i64; 1];
+    check::expect(number(farkas::judge_zero(&sums, 0)) == 11);
+    check::expect(number(farkas::judge(&mut sums, 0, 0, 0, &ZEROS, 0, 1)) == 11);
 }
 
-// Bounds: that of C's first proof against a region x ≤ 9; three times 10 against k 3, and one above it.
+// The same, tried.
+fn no_entries() {
+    none_refused();
+    let mut sums = [0i64; 1];
+    try_zero(b"no entries", &sums, 0);
+    try_sums(b"no entries, a row of zeros", &mut sums, 0, 0, 0, &ZEROS, 1);
+}
+
+// Three times the region and a row more, against the region with k 3.
+fn try_bound(name: &[u8], more: &[u8])
+    requires { ⌜ (8 ≤ length (now more)) × (length (now more) < 2 ^ 20) ⌝ }
+{
+    let mut sums = [0i64; 1];
+    let bound = two_entries(&mut sums, 3, &REGION, more);
+    try_sums(name, &mut sums, bound, 3, 0, &REGION, 1);
+}
+
+// Bounds: that of C's first proof against a region x ≤ 9; and with 0 ≤ 0, 0 ≤ 1 and 0 ≤ −1 added.
 fn bounds() {
-    let once = entries(none(), 0, 1, 1, row(1, 0, 0, 10));
-    try_sums(b"region bound 9", 1, 1, once, row(1, 0, 0, 9));
-    let sums = entries(none(), 0, 1, 3, row(1, 0, 0, 10));
-    try_sums(b"bound equal", 1, 3, sums, row(1, 0, 0, 10));
-    let above = entries(sums, 1, 1, 1, row(0, 0, 0, 1));
-    try_sums(b"bound one above", 1, 3, above, row(1, 0, 0, 10));
+    let mut sums = [0i64; 1];
+    let bound = first_entries(&mut sums, 1, 1, 0, &REGION, 1);
+    try_sums(
+        b"region bound 9",
+        &mut sums,
+        bound,
+        1,
+        0,
+        b"\0\0\0\x01\0\0\0\x09",
+        1,
+    );
+    try_bound(b"bound equal", &ZEROS);
+    try_bound(b"bound one above", b"\0\0\0\0\0\0\0\x01");
+    try_bound(b"bound one below", b"\0\0\0\0\xff\xff\xff\xff");
+}
+
+// A row of 17 coefficients, 1 at the last, twice, against itself with this k.
+fn try_last(name: &[u8], k: u32) {
+    let mut row = [0u8; 72];
+    row[67] = 1;
+    let mut sums = [0i64; 17];
+    let bound = first_entries(&mut sums, 1, 2, 0, &row, 17);
+    try_sums(name, &mut sums, bound, k, 0, &row, 17);
 }
 
 // Coefficients that differ: at the first unknown, where C's first multiplier is 2, and at the last.
 fn coefficients() {
-    let twice = entries(none(), 0, 1, 2, row(1, 0, 0, 10));
-    try_sums(b"first differs", 1, 1, twice, row(1, 0, 0, 10));
-    let sums = entries(none(), 0, 1, 2, last(1));
-    try_sums(b"last differs", 17, 1, sums, last(1));
-    try_sums(b"last agrees", 17, 2, sums, last(1));
+    let mut sums = [0i64; 1];
+    let bound = first_entries(&mut sums, 1, 2, 0, &REGION, 1);
+    try_sums(b"first differs", &mut sums, bound, 1, 0, &REGION, 1);
+    try_last(b"last differs", 1);
+    try_last(b"last agrees", 2);
 }
 
-// The largest numbers: 128 entries with the largest multiplier, and the largest k.
+// So many entries with the largest multiplier of the row with the lowest numbers, −2^31, against that row with the largest k.
+fn try_lowest(name: &[u8], count: u32)
+    requires { ⌜ count ≤ 128 ⌝ }
+{
+    let mut sums = [0i64; 1];
+    let bound = first_entries(&mut sums, count, LARGEST, 0, &LOWEST, 1);
+    try_sums(name, &mut sums, bound, LARGEST, 0, &LOWEST, 1);
+}
+
+// The largest numbers: 128 entries with the largest multiplier, and the largest k. On rates the lowest row has 2^31 on x and on d.
 fn extremes() {
-    let largest = row(-2147483648, 2147483648, 0, -2147483648);
-    let sums = entries(none(), 0, 128, LARGEST, largest);
-    try_sums(b"128 entries", 3, LARGEST, sums, largest);
-    let one = entries(none(), 0, 1, LARGEST, largest);
-    try_sums(b"largest k", 3, LARGEST, one, largest);
+    try_lowest(b"128 entries", 128);
+    try_lowest(b"largest k", 1);
+    let mut sums = [0i64; 3];
+    entries_on_rates(&mut sums, 128, LARGEST, &LOWEST, 1);
+    try_sums(
+        b"128 entries on rates",
+        &mut sums,
+        0,
+        LARGEST,
+        1,
+        &LOWEST,
+        1,
+    );
+}
+
+// The sums of two entries: that the rates are from 1 on, which is x − x' + d ≤ 0, and −x ≤ −5. All sums are 0 before.
+fn rising(sums: &mut [i64]) -> i64
+    requires { ⌜ (now sums ≡ replicate (length (now sums)) (pos 0)) × (3 ≤ length (now sums)) ⌝ }
+    ensures { λ r. ⌜ Within (2 * 2 ^ 55) (rowOf (now (sums .exit)) r) ⌝ }
+{
+    entries_on_rates(sums, 1, 1, &FROM_ONE, 1);
+    entries(sums, 0, 1, 1, 1, 0, &FROM_FIVE, 1)
+}
+
+// The same with −d ≤ 0 added.
+fn rising_in_time(sums: &mut [i64]) -> i64
+    requires { ⌜ (now sums ≡ replicate (length (now sums)) (pos 0)) × (3 ≤ length (now sums)) ⌝ }
+{
+    let bound = rising(sums);
+    farkas::add_one(sums, 2, -1);
+    bound
+}
+
+// Where the rates are from 1 on, x from 5 on stays there: the sums show −x' ≤ −5, and without −d ≤ 0 they do not.
+fn time() {
+    let mut sums = [0i64; 3];
+    let bound = rising_in_time(&mut sums);
+    try_sums(b"rising", &mut sums, bound, 1, 1, &FROM_FIVE, 1);
+    let mut without = [0i64; 3];
+    let bound = rising(&mut without);
+    try_sums(
+        b"rising, time left out",
+        &mut without,
+        bound,
+        1,
+        1,
+        &FROM_FIVE,
+        1,
+    );
 }
 
 fn main() {
     start_proof();
     flow_proof();
+    flow_from();
     unsafe_proof();
     no_entries();
     bounds();
     coefficients();
     extremes();
+    time();
 }

@@ -1,4 +1,3 @@
-pub mod SignedLaws
 pub mod Skipping
 pub mod ChainLaws
 pub mod AnswerLaws

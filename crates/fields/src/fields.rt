@@ -4,21 +4,11 @@ use crate::Field;
 use farkas::words::number;
 ghost use mathlib.Core.Path.{_≡_};
 ghost use mathlib.Core.Bool.{_&&_, _||_};
-ghost use Prim.Native.Nat.{_+_, _^_, _≤_};
+ghost use Prim.Native.Nat.{_+_};
 ghost use lib.Dec.{leb, ltb, eqb};
-ghost use lib.IntN.{natAbs};
 ghost use lib.ListN.{length};
-ghost use Rattle.formats.specs.Reading as reading;
 ghost use Rattle.formats.specs.Reading.{u8, u16, u32, passing, must, within, below};
-ghost use Rattle.fields.specs.Places.{signedAt};
 ghost use Rattle.fields.specs.Answers.{gotField};
-
-// 2^31 and 2^32: signed numbers of 32 bits lie from −2^31 to 2^31 − 1.
-const TWO_TO_31: u64 = 2147483648;
-
-const TWO_TO_32: u64 = 4294967296;
-
-const SIGNED_FROM: i64 = 2147483648;
 
 // One byte.
 pub fn byte(s: &[u8], at: usize) -> Field
@@ -57,23 +47,6 @@ pub fn word(s: &[u8], at: usize) -> Field
         }
     }
     Field::Refused(4, at)
-}
-
-// A number of 32 bits as a signed one. It is written without a test: compiled, it is one instruction.
-pub fn signed(number: u32) -> i64
-    ensures { λ r. ⌜ r ≡ reading.signed number ⌝ }
-{
-    let turned = (number as u64 + TWO_TO_31) % TWO_TO_32;
-    turned as i64 - SIGNED_FROM
-}
-
-// The four bytes at a place that has them, as a signed number.
-pub fn signed_at(s: &[u8], at: usize) -> i64
-    requires { ⌜ at + 4 ≤ length (now s) ⌝ }
-    ensures { λ r. ⌜ r ≡ signedAt (now (s .entry)) at ⌝ }
-    ensures { λ r. ⌜ natAbs r ≤ 2 ^ 31 ⌝ }
-{
-    signed(number(s, at))
 }
 
 // A field whose value must lie in a range, read at this place.

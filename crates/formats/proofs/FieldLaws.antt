@@ -8,7 +8,7 @@ use lib.Dec.{leb, ltb, eqb, leb→le, ltb→lt}
 use lib.ListN.{length, getD, take, drop}
 use borrow.Author.Tests.{le-leb, lt-leb, lt-ltb, le-ltb, eq-eqb, ne-eqb, leb-true}
 use Rattle.formats.specs.Reading.{got, refused, Reader, bigEndian, field, u8, passing, must, within, below}
-use Rattle.farkas.proofs.WordLaws.{first-byte}
+use Rattle.farkas.proofs.Promise.{first-byte}
 use Rattle.formats.proofs.Gives.{got-value, got-next, tested, and-left, and-right}
 
 pub field-got : (size : ℕ) (s : List ℕ) (p : ℕ) → p + size ≤ length s → field size s p ≡ got (bigEndian (take size (drop p s))) (p + size)

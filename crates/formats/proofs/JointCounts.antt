@@ -10,8 +10,6 @@ use native.Mathlib.Numerals.{add-one}
 use native.Mathlib.Omega.{arith}
 use lib.Arith.{mod-mul, digits-div, digits-mod}
 use lib.Count.{ones, ones-cat}
-use lib.Dec.{eqb}
-use borrow.Author.Tests.{eq-eqb, ne-eqb}
 use lib.ListN.{length, getD, drop, length-append, length-map, drop-of-length-le, List·getD-append}
 use lib.Seq.{drop-cons, getD-append-add}
 use Rattle.farkas.specs.Lists.{All, none, more}
@@ -130,10 +128,6 @@ parts-member c mode e p q = ap (λ b. cond b (leaving c mode e) (stays ∷ [])) 
 pub parts-other : (c : Component) (mode e : ℕ) {b : Bool} → b ≡ hasEvent (c .alphabet) e → b ≡ false → parts c mode e ≡ stays ∷ []
 unfolding parts
 parts-other c mode e p q = ap (λ b. cond b (leaving c mode e) (stays ∷ [])) (sym p ∙ q)
-
-pub stays-only : (d : ℕ) → stays ≡ getD (stays ∷ []) d stays
-stays-only zero = refl
-stays-only (suc d) = refl
 
 together-front : (c : Component) (components : List Component) (mode : ℕ) (modes : List ℕ) (e : ℕ) → together (c ∷ components) (mode ∷ modes) e ≡ inFront (parts c mode e) (together components modes e)
 unfolding together parts
@@ -261,26 +255,9 @@ pub switches-silent : (components : List Component) (modes : List ℕ) (e : ℕ)
 unfolding switchesOf
 switches-silent components modes e h = rw h refl
 
-pub switches-none : (components : List Component) (modes : List ℕ) (e mask : ℕ) → (e ≡ 0 → ⊥) → mask ≡ scopeMask components e → ones mask ≡ 0 → switchesOf components modes e ≡ []
-unfolding switchesOf moverCount
-switches-none components modes zero mask h p q = absurd (h refl)
-switches-none components modes (suc e) mask h p q =
-    ap (λ b. cond b [] (together components modes (suc e))) (eq-eqb (ones (scopeMask components (suc e))) 0 (sym (ap ones p) ∙ q))
-
-pub switches-together : (components : List Component) (modes : List ℕ) (e mask : ℕ) → (e ≡ 0 → ⊥) → mask ≡ scopeMask components e → (ones mask ≡ 0 → ⊥) → switchesOf components modes e ≡ together components modes e
-unfolding switchesOf moverCount
-switches-together components modes zero mask h p q = absurd (h refl)
-switches-together components modes (suc e) mask h p q =
-    ap (λ b. cond b [] (together components modes (suc e))) (ne-eqb (ones (scopeMask components (suc e))) 0 (λ r. q (ap ones p ∙ r)))
-
 some-or-none : (b : Bool) (xs : List (List ℕ)) (x : ℕ) → x < length (cond b [] xs) → cond b [] xs ≡ xs
 some-or-none true xs x h = absurd (omega arith)
 some-or-none false xs x h = refl
-
-pub switches-some : (components : List Component) (modes : List ℕ) (e x : ℕ) → (e ≡ 0 → ⊥) → x < length (switchesOf components modes e) → switchesOf components modes e ≡ together components modes e
-unfolding switchesOf
-switches-some components modes zero x h l = absurd (h refl)
-switches-some components modes (suc e) x h l = some-or-none (eqb (moverCount components (suc e)) 0) (together components modes (suc e)) x l
 
 -- lists that are joined: their length is told by the lengths of their parts
 pub joined-same : {A B C : Type 0} (f : A → List B) (g : A → List C) (xs : List A) → ((a : A) → length (f a) ≡ length (g a)) → length (joinAll f xs) ≡ length (joinAll g xs)
@@ -303,20 +280,6 @@ location-length components location =
 -- of the numbers from one on, up to another: the first, then the rest
 one-less : (i n : ℕ) → i < n → n - i ≡ suc (n - (i + 1))
 one-less i n h = omega arith
-
-pub joined-next : {B : Type 0} (f : ℕ → List B) (i n : ℕ) → i < n → length (joinAll f (countUp i (n - i))) ≡ length (f i) + length (joinAll f (countUp (i + 1) (n - (i + 1))))
-unfolding joinAll countUp
-joined-next f i n h =
-    ap (λ (k : ℕ). length (joinAll f (countUp i k))) (one-less i n h)
-    ∙ length-append (f i) (joinAll f (countUp (suc i) (n - (i + 1))))
-    ∙ ap (λ (k : ℕ). length (f i) + length (joinAll f (countUp k (n - (i + 1))))) (sym (add-one i))
-
-pub joined-end : {B : Type 0} (f : ℕ → List B) (i n : ℕ) → n ≤ i → length (joinAll f (countUp i (n - i))) ≡ 0
-unfolding joinAll countUp
-joined-end f i n h = ap (λ (k : ℕ). length (joinAll f (countUp i k))) (none-left i n h)
-  where
-    none-left : (i n : ℕ) → n ≤ i → n - i ≡ zero
-    none-left i n h = omega arith
 
 -- the switches of a component that leave a mode, from one switch on
 module _ (c : Component) (mode e : ℕ) where

@@ -1,7 +1,7 @@
 -- Rows and conditions in a sheet (01, Sheet). Assumes nothing.
 use mathlib.Core.List.{List}
 use Prim.Native.Nat.{ℕ}
-use Rattle.farkas.specs.declared.Row.{Row}
+use Rattle.farkas.specs.Rows.{Row}
 use Rattle.formats.specs.Reading.{Reader, _>>=_, _>>_, give, here, u8, s32, within, many}
 
 -- "A row is n coefficients a and a bound b, all s32", with the place of its first byte

@@ -1,12 +1,12 @@
--- Lines whose rows lie within their sheets, and how many lines a table has. Assumes nothing.
-use mathlib.Core.Path.{_≡_, refl, sym, ap, subst}
+-- Hypotheses whose rows lie within their sheets and among the unknowns, table by table. Assumes nothing.
+use mathlib.Core.Path.{_≡_, refl, sym, subst}
 use mathlib.Core.Bool.{Bool, true, false}
-use mathlib.Core.List.{List, _++_}
+use mathlib.Core.List.{List, map}
 use Prim.Native.Nat.{ℕ, zero, suc, _+_, _*_, _≤_, _<_}
 use native.Mathlib.Nat.{zero-add}
 use native.Mathlib.Omega.{arith}
 use lib.Dec.{eqb}
-use lib.ListN.{length, getD, length-append}
+use lib.ListN.{length, getD}
 use Rattle.farkas.specs.Lists.{All, none, more}
 use Rattle.farkas.proofs.All.{all-append}
 use Rattle.formats.specs.Locations.{locationCount}
@@ -14,249 +14,219 @@ use Rattle.formats.specs.Joint.{stays, countUp, joinAll}
 use Rattle.models.specs.Index.{entry, ownerPlace, componentPlace, modePlace, switchPlace, unsafePlace, componentsFrom, GoodSpan, GoodIndex}
 use Rattle.models.specs.Counts.{perComponent, KnownSwitches}
 use Rattle.second_sheets.specs.CertificateAnswers.{GoodRegions}
-use Rattle.hypotheses.specs.Tables.{TableLine, GoodLine}
-use Rattle.hypotheses.specs.Listing.{line, spanLines, keptLines, modeLines, switchLine, stayingLine, stayingLines, rowSize, hereLines, startLines, flowLines, unsafeLines, jumpLines}
+use Rattle.hypotheses.specs.Tables.{TableLine, line, segment, rowPlace, GoodLine}
+use Rattle.hypotheses.specs.Listing.{keptLines, modeLines, switchLine, stayingLine, stayingLines, hereLines, startLines, flowLines, unsafeLines, landingLines, jumpLines}
 use Rattle.papers.specs.Standing.{GoodModes, KnownModes}
 use Rattle.papers.specs.Paper.{GoodPaper}
-use Rattle.hypotheses.proofs.ModeLines.{kept-length, modesOn, modes-next, modes-end, switchesOn, switches-next, switches-end, switch-stays, switch-moves, switch-few, variable-stays, variable-moves, variable-few}
+use Rattle.hypotheses.proofs.ModeLines.{modesOn, modes-next, modes-end, switchesOn, switches-next, switches-end, switch-stays, switch-moves, variable-stays, variable-moves}
 use Rattle.papers.proofs.StandingLaws.{initial-good, invariant-good, flow-good}
 
--- a property of every line of a span
-module _ (P : TableLine → Type 0) (form size : ℕ) where
-  pub span-all : (place count : ℕ) → ((j : ℕ) → j < count → P (line form (place + size * j))) → All P (spanLines form size place count)
-  unfolding spanLines
-  span-all place zero h = none
-  span-all place (suc count) h =
-      more (subst (λ (p : ℕ). P (line form p)) (first place size) (h 0 (omega arith)))
-      (span-all (place + size) count (λ j l. subst (λ (p : ℕ). P (line form p)) (later place size j) (h (suc j) (omega arith))))
-    where
-      first : (place size : ℕ) → place + size * 0 ≡ place
-      first place size = omega arith
+-- a property of every hypothesis of a segment
+module _ (P : TableLine → Type 0) (form place owner : ℕ) where
+  all-from : (first count : ℕ) → ((j : ℕ) → j < first + count → P (line form place owner j)) → All P (map (line form place owner) (countUp first count))
+  unfolding countUp
+  all-from first zero h = none
+  all-from first (suc count) h = more (h first (omega arith)) (all-from (suc first) count (λ j l. h j (omega arith)))
 
-      later : (place size j : ℕ) → place + size * suc j ≡ place + size + size * j
-      later place size j = omega arith
+  pub segment-all : (count : ℕ) → ((j : ℕ) → j < count → P (line form place owner j)) → All P (segment form place owner count)
+  unfolding segment
+  segment-all count h = all-from 0 count (λ j l. h j (omega arith))
 
-module _ (model second : List ℕ) (n : ℕ) where
-  -- forms 0, 2 and 3
-  model-line : (form p : ℕ) → form < 4 → (form ≡ 1 → ⊥) → p + 4 * (n + 1) ≤ length model → GoodLine model second n (line form p)
+-- a hypothesis of a form: what it asks of the unknowns
+pub record Fits (n width form : ℕ) : Type 0 where
+  pub before : n ≤ width
+  pub after : 4 ≤ form → n + n ≤ width
+  pub timed : 5 ≤ form → form ≤ 6 → n + n + 1 ≤ width
+
+module _ (model second : List ℕ) (n width : ℕ) where
+  -- rows of the model
+  model-line : (form place owner row : ℕ) → Fits n width form → form < 6 → (form ≡ 1 → ⊥) → rowPlace n place row + 4 * (n + 1) ≤ length model → GoodLine model second n width (line form place owner row)
   unfolding line
-  model-line form p h f l =
+  model-line form place owner row w h f l =
       record {
         inModel = λ a b. l;
         inSecond = λ e. absurd (f e);
         jump = λ e. absurd (omega (arith, e, h));
         staying = λ m. absurd (omega (arith, m, h));
+        before = w .before;
+        after = w .after;
+        timed = w .timed;
       }
 
-  second-line : (p : ℕ) → p + 4 * (n + 1) ≤ length second → GoodLine model second n (line 1 p)
+  second-line : (place owner row : ℕ) → Fits n width 1 → rowPlace n place row + 4 * (n + 1) ≤ length second → GoodLine model second n width (line 1 place owner row)
   unfolding line
-  second-line p l =
+  second-line place owner row w l =
       record {
         inModel = λ a b. absurd (b refl);
         inSecond = λ e. l;
         jump = λ e. absurd (omega (arith, e));
         staying = λ m. absurd (omega (arith, m));
+        before = w .before;
+        after = w .after;
+        timed = w .timed;
       }
 
-  pub time-line : GoodLine model second n (line 4 0)
+  time-line : (row : ℕ) → Fits n width 6 → GoodLine model second n width (line 6 0 0 row)
   unfolding line
-  time-line =
+  time-line row w =
       record {
         inModel = λ a b. absurd (omega (arith, a));
         inSecond = λ e. absurd (omega (arith, e));
         jump = λ e. absurd (omega (arith, e));
         staying = λ m. absurd (omega (arith, m));
+        before = w .before;
+        after = w .after;
+        timed = w .timed;
       }
 
-  jump-line : (p : ℕ) → p + 4 * (2 * n + 1) ≤ length model → GoodLine model second n (line 5 p)
+  jump-line : (place owner row : ℕ) → Fits n width 7 → rowPlace (2 * n) place row + 4 * (2 * n + 1) ≤ length model → GoodLine model second n width (line 7 place owner row)
   unfolding line
-  jump-line p l =
+  jump-line place owner row w l =
       record {
         inModel = λ a b. absurd (omega (arith, a));
         inSecond = λ e. absurd (omega (arith, e));
         jump = λ e. l;
         staying = λ m. absurd (omega (arith, m));
+        before = w .before;
+        after = w .after;
+        timed = w .timed;
       }
 
-  staying-line : (form v : ℕ) → 6 ≤ form → v < n → GoodLine model second n (line form v)
+  staying-line : (v row : ℕ) → Fits n width 8 → v < n → GoodLine model second n width (line 8 v v row)
   unfolding line
-  staying-line form v h l =
+  staying-line v row w l =
       record {
-        inModel = λ a b. absurd (omega (arith, a, h));
-        inSecond = λ e. absurd (omega (arith, e, h));
-        jump = λ e. absurd (omega (arith, e, h));
+        inModel = λ a b. absurd (omega (arith, a));
+        inSecond = λ e. absurd (omega (arith, e));
+        jump = λ e. absurd (omega (arith, e));
         staying = λ m. l;
+        before = w .before;
+        after = w .after;
+        timed = w .timed;
       }
 
-  pub model-span : (form : ℕ) (index : List ℕ) (i : ℕ) → form < 4 → (form ≡ 1 → ⊥) → GoodSpan model n index i → All (GoodLine model second n) (keptLines form (4 * (n + 1)) index i)
-  unfolding keptLines
-  model-span form index i h f g =
-      span-all (GoodLine model second n) form (4 * (n + 1)) (entry index i) (entry index (i + 1))
-      (λ j l. model-line form (entry index i + 4 * (n + 1) * j) h f (omega (arith, g .within j l)))
+  model-span : (form owner : ℕ) (index : List ℕ) (i : ℕ) → Fits n width form → form < 6 → (form ≡ 1 → ⊥) → GoodSpan model n index i → All (GoodLine model second n width) (keptLines form owner index i)
+  unfolding keptLines rowPlace
+  model-span form owner index i w h f g =
+      segment-all (GoodLine model second n width) form (entry index i) owner (entry index (i + 1)) (λ j l. model-line form (entry index i) owner j w h f (omega (arith, g .within j l)))
 
-  jump-span : (index : List ℕ) (i : ℕ) → GoodSpan model (2 * n) index i → All (GoodLine model second n) (keptLines 5 (4 * (2 * n + 1)) index i)
-  unfolding keptLines
-  jump-span index i g =
-      span-all (GoodLine model second n) 5 (4 * (2 * n + 1)) (entry index i) (entry index (i + 1))
-      (λ j l. jump-line (entry index i + 4 * (2 * n + 1) * j) (omega (arith, g .within j l)))
+  jump-span : (owner : ℕ) (index : List ℕ) (i : ℕ) → Fits n width 7 → GoodSpan model (2 * n) index i → All (GoodLine model second n width) (keptLines 7 owner index i)
+  unfolding keptLines rowPlace
+  jump-span owner index i w g =
+      segment-all (GoodLine model second n width) 7 (entry index i) owner (entry index (i + 1)) (λ j l. jump-line (entry index i) owner j w (omega (arith, g .within j l)))
 
-  region-span : (regions : List ℕ) (count location : ℕ) → location < count → GoodRegions second n count regions → All (GoodLine model second n) (keptLines 1 (4 * (n + 1)) regions (2 * location))
-  unfolding keptLines
-  region-span regions count location h g =
-      span-all (GoodLine model second n) 1 (4 * (n + 1)) (entry regions (2 * location)) (entry regions (2 * location + 1))
-      (λ j l. second-line (entry regions (2 * location) + 4 * (n + 1) * j) (omega (arith, g .within location h j l)))
-
-both-few : (xs ys : List TableLine) {a b c : ℕ} → length xs ≤ a → length ys ≤ b → a + b ≤ c → length (xs ++ ys) ≤ c
-both-few xs ys h k l = omega (arith, length-append xs ys, h, k, l)
+  region-span : (regions : List ℕ) (count location : ℕ) → Fits n width 1 → location < count → GoodRegions second n count regions → All (GoodLine model second n width) (keptLines 1 0 regions (2 * location))
+  unfolding keptLines rowPlace
+  region-span regions count location w h g =
+      segment-all (GoodLine model second n width) 1 (entry regions (2 * location)) 0 (entry regions (2 * location + 1))
+      (λ j l. second-line (entry regions (2 * location)) 0 j w (omega (arith, g .within location h j l)))
 
 -- lines of modes
-module _ (model second index modes : List ℕ) (long : entry index 1 ≤ length modes) (form offset : ℕ) (h : form < 4) (f : form ≡ 1 → ⊥) (good : GoodModes model index modes offset) where
-  modes-good-from : (d k : ℕ) → k + d ≡ entry index 1 → All (GoodLine model second (entry index 0)) (modesOn form (4 * (entry index 0 + 1)) offset index modes k)
-  modes-good-from zero k e = subst (All (GoodLine model second (entry index 0))) (sym (modes-end form (4 * (entry index 0 + 1)) offset index modes long k (omega (arith, e)))) none
+module _ (model second index modes : List ℕ) (width : ℕ) (long : entry index 1 ≤ length modes) (form offset : ℕ) (w : Fits (entry index 0) width form) (h : form < 6) (f : form ≡ 1 → ⊥) (good : GoodModes model index modes offset) where
+  modes-good-from : (d k : ℕ) → k + d ≡ entry index 1 → All (GoodLine model second (entry index 0) width) (modesOn form offset index modes k)
+  modes-good-from zero k e = subst (All (GoodLine model second (entry index 0) width)) (sym (modes-end form offset index modes long k (omega (arith, e)))) none
   modes-good-from (suc d) k e =
       let l : k < entry index 1 = omega (arith, e) in
-      subst (All (GoodLine model second (entry index 0))) (sym (modes-next form (4 * (entry index 0 + 1)) offset index modes long k l))
-      (all-append (model-span model second (entry index 0) form index (modePlace (componentPlace k) (getD modes k 0) + offset) h f (good .spans k l)) (modes-good-from d (k + 1) (omega (arith, e))))
+      subst (All (GoodLine model second (entry index 0) width)) (sym (modes-next form offset index modes long k l))
+      (all-append (model-span model second (entry index 0) width form k index (modePlace (componentPlace k) (getD modes k 0) + offset) w h f (good .spans k l)) (modes-good-from d (k + 1) (omega (arith, e))))
 
-  modes-few-from : (d k : ℕ) → k + d ≡ entry index 1 → length (modesOn form (4 * (entry index 0 + 1)) offset index modes k) ≤ 8 * d
-  modes-few-from zero k e = omega (arith, ap length (modes-end form (4 * (entry index 0 + 1)) offset index modes long k (omega (arith, e))))
-  modes-few-from (suc d) k e =
-      let l : k < entry index 1 = omega (arith, e) in
-      let size = 4 * (entry index 0 + 1) in
-      let kept = keptLines form size index (modePlace (componentPlace k) (getD modes k 0) + offset) in
-      let rest = modesOn form size offset index modes (k + 1) in
-      omega (arith, ap length (modes-next form size offset index modes long k l), length-append kept rest, kept-length form size index (modePlace (componentPlace k) (getD modes k 0) + offset), good .spans k l .few, modes-few-from d (k + 1) (omega (arith, e)))
-
-  pub modes-good : All (GoodLine model second (entry index 0)) (modesOn form (4 * (entry index 0 + 1)) offset index modes 0)
+  pub modes-good : All (GoodLine model second (entry index 0) width) (modesOn form offset index modes 0)
   modes-good = modes-good-from (entry index 1) 0 (zero-add (entry index 1))
 
-  pub modes-few : length (modesOn form (4 * (entry index 0 + 1)) offset index modes 0) ≤ 8 * entry index 1
-  modes-few = modes-few-from (entry index 1) 0 (zero-add (entry index 1))
-
 -- lines of switches
-module _ (model second index switches : List ℕ) (long : entry index 1 ≤ length switches) (g : GoodIndex model index) (known : KnownSwitches index switches) where
-  switch-good : (k : ℕ) → k < entry index 1 → All (GoodLine model second (entry index 0)) (switchLine (4 * (2 * entry index 0 + 1)) index k (getD switches k 0))
+module _ (model second index switches : List ℕ) (width : ℕ) (w : Fits (entry index 0) width 7) (long : entry index 1 ≤ length switches) (g : GoodIndex model index) (known : KnownSwitches index switches) where
+  switch-good : (k : ℕ) → k < entry index 1 → All (GoodLine model second (entry index 0) width) (switchLine index k (getD switches k 0))
   switch-good k h = go (eqb (getD switches k 0) stays) refl
     where
-      go : (b : Bool) → eqb (getD switches k 0) stays ≡ b → All (GoodLine model second (entry index 0)) (switchLine (4 * (2 * entry index 0 + 1)) index k (getD switches k 0))
-      go true e = subst (All (GoodLine model second (entry index 0))) (sym (switch-stays (4 * (2 * entry index 0 + 1)) index k (getD switches k 0) e)) none
+      go : (b : Bool) → eqb (getD switches k 0) stays ≡ b → All (GoodLine model second (entry index 0) width) (switchLine index k (getD switches k 0))
+      go true e = subst (All (GoodLine model second (entry index 0) width)) (sym (switch-stays index k (getD switches k 0) e)) none
       go false e =
-          subst (All (GoodLine model second (entry index 0))) (sym (switch-moves (4 * (2 * entry index 0 + 1)) index k (getD switches k 0) e))
-          (jump-span model second (entry index 0) index (switchPlace (componentPlace k) (getD switches k 0) + 3) (g .blocks k h .switches (getD switches k 0) (known .known k h e) .jump))
+          subst (All (GoodLine model second (entry index 0) width)) (sym (switch-moves index k (getD switches k 0) e))
+          (jump-span model second (entry index 0) width k index (switchPlace (componentPlace k) (getD switches k 0) + 3) w (g .blocks k h .switches (getD switches k 0) (known .known k h e) .jump))
 
-  switches-good-from : (d k : ℕ) → k + d ≡ entry index 1 → All (GoodLine model second (entry index 0)) (switchesOn (4 * (2 * entry index 0 + 1)) index switches k)
-  switches-good-from zero k e = subst (All (GoodLine model second (entry index 0))) (sym (switches-end (4 * (2 * entry index 0 + 1)) index switches long k (omega (arith, e)))) none
+  switches-good-from : (d k : ℕ) → k + d ≡ entry index 1 → All (GoodLine model second (entry index 0) width) (switchesOn index switches k)
+  switches-good-from zero k e = subst (All (GoodLine model second (entry index 0) width)) (sym (switches-end index switches long k (omega (arith, e)))) none
   switches-good-from (suc d) k e =
       let l : k < entry index 1 = omega (arith, e) in
-      subst (All (GoodLine model second (entry index 0))) (sym (switches-next (4 * (2 * entry index 0 + 1)) index switches long k l))
-      (all-append (switch-good k l) (switches-good-from d (k + 1) (omega (arith, e))))
+      subst (All (GoodLine model second (entry index 0) width)) (sym (switches-next index switches long k l)) (all-append (switch-good k l) (switches-good-from d (k + 1) (omega (arith, e))))
 
-  switches-few-from : (d k : ℕ) → k + d ≡ entry index 1 → length (switchesOn (4 * (2 * entry index 0 + 1)) index switches k) ≤ 8 * d
-  switches-few-from zero k e = omega (arith, ap length (switches-end (4 * (2 * entry index 0 + 1)) index switches long k (omega (arith, e))))
-  switches-few-from (suc d) k e =
-      let l : k < entry index 1 = omega (arith, e) in
-      let size = 4 * (2 * entry index 0 + 1) in
-      let one = switchLine size index k (getD switches k 0) in
-      let few = switch-few size index k (getD switches k 0) (λ moves. g .blocks k l .switches (getD switches k 0) (known .known k l moves) .jump .few) in
-      omega (arith, ap length (switches-next size index switches long k l), length-append one (switchesOn size index switches (k + 1)), few, switches-few-from d (k + 1) (omega (arith, e)))
-
-  pub switches-good : All (GoodLine model second (entry index 0)) (switchesOn (4 * (2 * entry index 0 + 1)) index switches 0)
+  pub switches-good : All (GoodLine model second (entry index 0) width) (switchesOn index switches 0)
   switches-good = switches-good-from (entry index 1) 0 (zero-add (entry index 1))
 
-  pub switches-few : length (switchesOn (4 * (2 * entry index 0 + 1)) index switches 0) ≤ 8 * entry index 1
-  switches-few = switches-few-from (entry index 1) 0 (zero-add (entry index 1))
-
 -- lines of staying variables
-module _ (model second index switches : List ℕ) where
-  variable-good : (v : ℕ) → v < entry index 0 → All (GoodLine model second (entry index 0)) (stayingLine index switches v)
+module _ (model second index switches : List ℕ) (width : ℕ) (w : Fits (entry index 0) width 8) where
+  variable-good : (v : ℕ) → v < entry index 0 → All (GoodLine model second (entry index 0) width) (stayingLine index switches v)
   variable-good v h = go (eqb (getD switches (entry index (ownerPlace v)) stays) stays) refl
     where
-      go : (b : Bool) → eqb (getD switches (entry index (ownerPlace v)) stays) stays ≡ b → All (GoodLine model second (entry index 0)) (stayingLine index switches v)
+      go : (b : Bool) → eqb (getD switches (entry index (ownerPlace v)) stays) stays ≡ b → All (GoodLine model second (entry index 0) width) (stayingLine index switches v)
       go true e =
-          subst (All (GoodLine model second (entry index 0))) (sym (variable-stays index switches v e))
-          (more (staying-line model second (entry index 0) 6 v (omega arith) h) (more (staying-line model second (entry index 0) 7 v (omega arith) h) none))
-      go false e = subst (All (GoodLine model second (entry index 0))) (sym (variable-moves index switches v e)) none
+          subst (All (GoodLine model second (entry index 0) width)) (sym (variable-stays index switches v e))
+          (segment-all (GoodLine model second (entry index 0) width) 8 v v 2 (λ j l. staying-line model second (entry index 0) width v j w h))
+      go false e = subst (All (GoodLine model second (entry index 0) width)) (sym (variable-moves index switches v e)) none
 
-  staying-good-from : (v d : ℕ) → v + d ≤ entry index 0 → All (GoodLine model second (entry index 0)) (joinAll (stayingLine index switches) (countUp v d))
+  staying-good-from : (v d : ℕ) → v + d ≤ entry index 0 → All (GoodLine model second (entry index 0) width) (joinAll (stayingLine index switches) (countUp v d))
   unfolding joinAll countUp
   staying-good-from v zero h = none
   staying-good-from v (suc d) h = all-append (variable-good v (omega arith)) (staying-good-from (suc v) d (omega arith))
 
-  staying-few-from : (v d : ℕ) → length (joinAll (stayingLine index switches) (countUp v d)) ≤ 2 * d
-  unfolding joinAll countUp
-  staying-few-from v zero = omega arith
-  staying-few-from v (suc d) = omega (arith, length-append (stayingLine index switches v) (joinAll (stayingLine index switches) (countUp (suc v) d)), variable-few index switches v, staying-few-from (suc v) d)
-
-  pub staying-good : All (GoodLine model second (entry index 0)) (stayingLines index switches)
+  pub staying-good : All (GoodLine model second (entry index 0) width) (stayingLines index switches)
   unfolding stayingLines
   staying-good = staying-good-from 0 (entry index 0) (omega (arith, zero-add (entry index 0)))
 
-  pub staying-few : length (stayingLines index switches) ≤ 2 * entry index 0
-  unfolding stayingLines
-  staying-few = staying-few-from 0 (entry index 0)
+-- The tables: on x, on x and x', and on x, x' and d
+on-x : (n width form : ℕ) → n ≤ width → form < 4 → Fits n width form
+on-x n width form l h = record { before = l; after = λ m. absurd (omega arith); timed = λ m k. absurd (omega arith) }
 
--- The tables
-pub record FineLines (model second : List ℕ) (n : ℕ) (lines : List TableLine) (most : ℕ) : Type 0 where
-  pub good : All (GoodLine model second n) lines
-  pub few : length lines ≤ most
+on-both : (n width form : ℕ) → n + n ≤ width → (5 ≤ form → form ≤ 6 → ⊥) → Fits n width form
+on-both n width form l f = record { before = omega arith; after = λ m. l; timed = λ m k. absurd (f m k) }
 
-fine-both : {model second : List ℕ} {n : ℕ} {xs ys : List TableLine} {a b : ℕ} → FineLines model second n xs a → FineLines model second n ys b → FineLines model second n (xs ++ ys) (a + b)
-fine-both {xs = xs} {ys = ys} {a = a} {b = b} p q = record { good = all-append (p .good) (q .good); few = both-few xs ys (p .few) (q .few) (omega arith) }
+on-all : (n width form : ℕ) → n + n + 1 ≤ width → Fits n width form
+on-all n width form l = record { before = omega arith; after = λ m. omega arith; timed = λ m k. l }
 
 module _ (model index second regions modes : List ℕ) (location : ℕ) (long : entry index 1 ≤ length modes) (known : KnownModes index modes) (paper : GoodPaper model index second regions) where
-  abbrev Table : List TableLine → ℕ → Type 0
-  Table lines most = FineLines model second (entry index 0) lines most
+  abbrev Table : ℕ → List TableLine → Type 0
+  Table width lines = All (GoodLine model second (entry index 0) width) lines
 
-  of-modes : (ms : List ℕ) → entry index 1 ≤ length ms → (form offset : ℕ) → form < 4 → (form ≡ 1 → ⊥) → GoodModes model index ms offset → Table (modeLines form (rowSize index) offset index 0 (perComponent index ms)) 32
-  unfolding rowSize
-  of-modes ms l form offset h f g =
-      record {
-        good = modes-good model second index ms l form offset h f g;
-        few = omega (arith, modes-few model second index ms l form offset h f g, paper .good .few);
-      }
+  invariants : (width form : ℕ) → Fits (entry index 0) width form → form < 6 → (form ≡ 1 → ⊥) → Table width (modeLines form 3 index 0 (perComponent index modes))
+  invariants width form w h f = modes-good model second index modes width long form 3 w h f (invariant-good model index modes (paper .good) known)
 
-  of-region : location < locationCount (componentsFrom model index) → Table (keptLines 1 (rowSize index) regions (2 * location)) 16
-  unfolding rowSize
-  of-region h =
-      record {
-        good = region-span model second (entry index 0) regions (locationCount (componentsFrom model index)) location h (paper .placed);
-        few = omega (arith, kept-length 1 (rowSize index) regions (2 * location), paper .placed .few location h);
-      }
-
-  of-unsafe : (u : ℕ) → u < entry index 2 → Table (keptLines 0 (rowSize index) index (unsafePlace u + 4)) 8
-  unfolding rowSize
-  of-unsafe u l =
-      record {
-        good = model-span model second (entry index 0) 0 index (unsafePlace u + 4) (omega arith) (λ e. omega (arith, e)) (paper .good .unsafe u l);
-        few = omega (arith, kept-length 0 (rowSize index) index (unsafePlace u + 4), paper .good .unsafe u l .few);
-      }
-
-  pub start-fine : Table (startLines index (perComponent index modes)) 64
+  pub start-fine : Table (entry index 0) (startLines index (perComponent index modes))
   unfolding startLines
-  start-fine = fine-both (of-modes modes long 0 1 (omega arith) (λ e. omega (arith, e)) (initial-good model index modes (paper .good) known)) (of-modes modes long 0 3 (omega arith) (λ e. omega (arith, e)) (invariant-good model index modes (paper .good) known))
+  start-fine =
+      all-append
+      (modes-good model second index modes (entry index 0) long 0 1 (on-x (entry index 0) (entry index 0) 0 (omega arith) (omega arith)) (omega arith) (λ e. omega (arith, e)) (initial-good model index modes (paper .good) known))
+      (invariants (entry index 0) 2 (on-x (entry index 0) (entry index 0) 2 (omega arith) (omega arith)) (omega arith) (λ e. omega (arith, e)))
 
   module _ (h : location < locationCount (componentsFrom model index)) where
-    pub here-fine : Table (hereLines index regions location (perComponent index modes)) 48
+    pub here-fine : (width : ℕ) → entry index 0 ≤ width → Table width (hereLines index regions location (perComponent index modes))
     unfolding hereLines
-    here-fine = fine-both (of-region h) (of-modes modes long 0 3 (omega arith) (λ e. omega (arith, e)) (invariant-good model index modes (paper .good) known))
+    here-fine width l =
+        all-append
+        (region-span model second (entry index 0) width regions (locationCount (componentsFrom model index)) location (on-x (entry index 0) width 1 l (omega arith)) h (paper .placed))
+        (invariants width 2 (on-x (entry index 0) width 2 l (omega arith)) (omega arith) (λ e. omega (arith, e)))
 
-    pub flow-fine : Table (flowLines index regions location (perComponent index modes)) 113
+    pub flow-fine : Table (entry index 0 + entry index 0 + 1) (flowLines index regions location (perComponent index modes))
     unfolding flowLines
     flow-fine =
-        fine-both {a = 48} {b = 65} here-fine
-        (fine-both {a = 32} {b = 33} (of-modes modes long 2 3 (omega arith) (λ e. omega (arith, e)) (invariant-good model index modes (paper .good) known))
-        (fine-both {a = 32} {b = 1} (of-modes modes long 3 5 (omega arith) (λ e. omega (arith, e)) (flow-good model index modes (paper .good) known))
-        (record { good = more (time-line model second (entry index 0)) none; few = omega arith })))
+        let n = entry index 0 in
+        let width = n + n + 1 in
+        all-append (here-fine width (omega arith))
+        (all-append (invariants width 4 (on-all n width 4 (omega arith)) (omega arith) (λ e. omega (arith, e)))
+        (all-append (modes-good model second index modes width long 5 5 (on-all n width 5 (omega arith)) (omega arith) (λ e. omega (arith, e)) (flow-good model index modes (paper .good) known))
+        (segment-all (GoodLine model second n width) 6 0 0 1 (λ j l. time-line model second n width j (on-all n width 6 (omega arith))))))
 
-    pub unsafe-fine : (u : ℕ) → u < entry index 2 → Table (unsafeLines index regions location (perComponent index modes) u) 56
+    pub unsafe-fine : (u : ℕ) → u < entry index 2 → Table (entry index 0) (unsafeLines index regions location (perComponent index modes) u)
     unfolding unsafeLines
-    unsafe-fine u l = fine-both here-fine (of-unsafe u l)
+    unsafe-fine u l =
+        all-append (here-fine (entry index 0) (omega arith))
+        (model-span model second (entry index 0) (entry index 0) 3 0 index (unsafePlace u + 4) (on-x (entry index 0) (entry index 0) 3 (omega arith) (omega arith)) (omega arith) (λ e. omega (arith, e)) (paper .good .unsafe u l))
 
-    pub jump-fine : (targets switches : List ℕ) → entry index 1 ≤ length targets → KnownModes index targets → entry index 1 ≤ length switches → KnownSwitches index switches → Table (jumpLines index regions location (perComponent index modes) (perComponent index targets) switches) 128
-    unfolding jumpLines perComponent
+    pub jump-fine : (targets switches : List ℕ) → entry index 1 ≤ length targets → KnownModes index targets → entry index 1 ≤ length switches → KnownSwitches index switches → Table (entry index 0 + entry index 0) (jumpLines index regions location (perComponent index modes) (perComponent index targets) switches)
+    unfolding jumpLines landingLines perComponent
     jump-fine targets switches l k w s =
-        fine-both {a = 48} {b = 80} here-fine
-        (fine-both {a = 32} {b = 48} (of-modes targets l 2 3 (omega arith) (λ e. omega (arith, e)) (invariant-good model index targets (paper .good) k))
-        (fine-both {a = 32} {b = 16}
-        (record { good = switches-good model second index switches w (paper .good) s; few = omega (arith, switches-few model second index switches w (paper .good) s, paper .good .few) })
-        (record { good = staying-good model second index switches; few = omega (arith, staying-few model second index switches, paper .good .most) })))
+        let n = entry index 0 in
+        let width = n + n in
+        all-append (here-fine width (omega arith))
+        (all-append (modes-good model second index targets width l 4 3 (on-both n width 4 (omega arith) (λ a b. omega arith)) (omega arith) (λ e. omega (arith, e)) (invariant-good model index targets (paper .good) k))
+        (all-append (switches-good model second index switches width (on-both n width 7 (omega arith) (λ a b. omega arith)) w (paper .good) s)
+        (staying-good model second index switches width (on-both n width 8 (omega arith) (λ a b. omega arith)))))

@@ -1,46 +1,40 @@
 -- Groups of proofs: where their tables' rows stand, and what they have to prove. Assumes nothing.
 use mathlib.Core.Path.{_≡_, refl, sym, ap, ap₂, _∙_, subst}
 use mathlib.Core.Bool.{Bool, true, false, cond}
-use mathlib.Core.List.{List, [], _∷_, _++_, map, append-assoc}
+use mathlib.Core.List.{List, [], _∷_, map}
 use Prim.Native.Nat.{ℕ, zero, suc, _+_, _*_, _≤_, _<_}
 use native.Mathlib.Omega.{arith}
 use lib.Dec.{eqb}
 use lib.ListN.{length}
-use Rattle.farkas.specs.declared.Row.{Row}
 use Rattle.farkas.specs.Lists.{every, All, none}
-use Rattle.farkas.specs.Rows.{zeroRow}
+use Rattle.farkas.specs.Rows.{Row, zeroRow}
 use Rattle.formats.specs.Rows.{Condition}
 use Rattle.fields.specs.Places.{rowsFrom}
 use Rattle.formats.specs.Model.{Mode, Unsafe, Model}
 use Rattle.formats.specs.Locations.{locationCount, modesAt}
-use Rattle.formats.specs.Joint.{countUp}
 use Rattle.models.specs.Index.{entry, spanRows, unsafePlace, unsafeFrom, componentsFrom, modelFrom, GoodIndex}
 use Rattle.models.specs.Counts.{perComponent, KnownSwitches}
-use Rattle.second_sheets.specs.CertificateAnswers.{GoodRegions}
 use Rattle.models.proofs.GoodIndexLaws.{counted-at}
 use Rattle.hypotheses.specs.declared.Group.{Group}
 use Rattle.rules.specs.Runs.{present, modesIn, modesFit, movers, stayingVariables}
 use Rattle.rules.specs.Obligations.{Hypothesis, Kind, atStart, afterFlow, clearOfUnsafe, afterJump, zeroOnly, onX, onNext, perRow, startHypotheses, flowHypotheses, unsafeHypotheses, jumpHypotheses, startObligations, flowObligations, unsafeObligations, jumpObligations}
-use Rattle.hypotheses.specs.Tables.{TableLine, linesIn, hypothesesFrom, hypothesisRows, GoodLine}
-use Rattle.hypotheses.specs.Listing.{Spaced, rowSize, Task, taskOf, tasks, tasksFrom, tasksOf, goalsOf, groupTasks, jumpTasks, noUnsafe, emptyGroup, regionGroup, unsafeGroup, GoodGroup, startLines, flowLines, unsafeLines, jumpLines}
+use Rattle.hypotheses.specs.Tables.{TableLine, linesIn, Stacked, hypothesesFrom, hypothesisRows, GoodLine}
+use Rattle.hypotheses.specs.Listing.{Task, taskOf, tasks, tasksFrom, tasksOf, goalsOf, groupTasks, jumpTasks, noUnsafe, emptyGroup, regionGroup, unsafeGroup, GoodGroup, startLines, flowLines, unsafeLines, jumpLines}
 use Rattle.papers.specs.Standing.{Stands}
 use Rattle.papers.specs.Paper.{regionsOf, GoodPaper}
 use Rattle.papers.proofs.RegionLaws.{region-at}
-use Rattle.hypotheses.proofs.TableLaws.{lines-most}
-use Rattle.hypotheses.proofs.GoodLines.{FineLines}
 use Rattle.hypotheses.proofs.HypothesisLines.{told, start-told, flow-told, unsafe-told, jump-lines-told}
 
-pub region-spaced :
-    (second index regions : List ℕ) (location size : ℕ) {count : ℕ} → GoodRegions second (entry index 0) count regions → location < count → length second ≤ 32768 → size ≡ rowSize index
-    → Spaced (entry regions (2 * location)) size (entry regions (2 * location + 1))
-unfolding rowSize
-region-spaced second index regions location size g h short e = record { ends = λ j l. rw e (omega (arith, g .within location h j l)) }
-
--- parts pushed one after the other, put together from the end
-pub nested : {A : Type 0} (a b c d : List A) → ((a ++ b) ++ c) ++ d ≡ a ++ (b ++ (c ++ d))
-nested a b c d = append-assoc (a ++ b) c d ∙ append-assoc a b (c ++ d)
-
 -- one task per row of a region
+no-region : (model index second regions : List ℕ) (location : ℕ) → location < locationCount (componentsFrom model index) → entry regions (2 * location + 1) ≡ 0 → regionsOf model index second regions location ≡ []
+unfolding spanRows rowsFrom
+no-region model index second regions location h e = region-at model index second regions location h ∙ ap (rowsFrom second (entry index 0) (entry regions (2 * location))) e
+
+either : (b : Bool) (hs : List Hypothesis) (location : ℕ) → tasks (elim b [ true ↦ perRow atStart location hs onX 0 [] | false ↦ [] ]) ≡ []
+unfolding tasks perRow
+either true hs location = refl
+either false hs location = refl
+
 pub row-tasks :
     (kind : Kind) (subject : ℕ) (hypotheses : List Hypothesis) (put : Row → Row) (from : ℕ) (region : Condition)
     → tasks (perRow kind subject hypotheses put from region) ≡ tasksFrom (hypothesisRows hypotheses) (zeroOnly kind) (map (λ r. put (r .row)) region)
@@ -57,25 +51,25 @@ module _ (model index second regions : List ℕ) where
   regionAt = regionsOf model index second regions
 
   -- the goals of a region's group
-  region-goals : (location hypotheses shift : ℕ) → location < locationCount (componentsFrom model index) → goalsOf second (entry index 0) (regionGroup regions location hypotheses shift) ≡ map (λ r. onNext shift (r .row)) (regionAt location)
+  region-goals : (table : List ℕ) (location segments shift width : ℕ) → location < locationCount (componentsFrom model index) → goalsOf second (entry index 0) (regionGroup regions location table segments shift width) ≡ map (λ r. onNext shift (r .row)) (regionAt location)
   unfolding goalsOf regionGroup spanRows
-  region-goals location hypotheses shift h = ap (map (λ r. onNext shift (r .row))) (sym (region-at model index second regions location h))
+  region-goals table location segments shift width h = ap (map (λ r. onNext shift (r .row))) (sym (region-at model index second regions location h))
 
   -- the tasks of a table's lines
-  pub line-tasks : (table : List ℕ) (g : Group) (lines : List TableLine) → linesIn table (g .hypotheses) ≡ lines → tasksOf model second (entry index 0) table g ≡ tasksFrom (hypothesisRows (told model second (entry index 0) lines)) (g .zero) (goalsOf second (entry index 0) g)
+  pub line-tasks : (table : List ℕ) (g : Group) (lines : List TableLine) → linesIn table (g .segments) ≡ lines → tasksOf model second (entry index 0) table g ≡ tasksFrom (hypothesisRows (told model second (entry index 0) lines)) (g .zero) (goalsOf second (entry index 0) g)
   unfolding tasksOf hypothesesFrom
   line-tasks table g lines e = ap (λ (ls : List TableLine). tasksFrom (hypothesisRows (told model second (entry index 0) ls)) (g .zero) (goalsOf second (entry index 0) g)) e
 
   -- a group that proves a region's rows
   region-tasks :
-      (table : List ℕ) (location hypotheses shift : ℕ) (lines : List TableLine) (hs : List Hypothesis) (kind : Kind) (subject : ℕ)
+      (table : List ℕ) (location segments shift width : ℕ) (lines : List TableLine) (hs : List Hypothesis) (kind : Kind) (subject : ℕ)
       → location < locationCount (componentsFrom model index) → zeroOnly kind ≡ false
-      → linesIn table hypotheses ≡ lines → told model second (entry index 0) lines ≡ hs
-      → tasksOf model second (entry index 0) table (regionGroup regions location hypotheses shift) ≡ tasks (perRow kind subject hs (onNext shift) 0 (regionAt location))
+      → linesIn table segments ≡ lines → told model second (entry index 0) lines ≡ hs
+      → tasksOf model second (entry index 0) table (regionGroup regions location table segments shift width) ≡ tasks (perRow kind subject hs (onNext shift) 0 (regionAt location))
   unfolding regionGroup
-  region-tasks table location hypotheses shift lines hs kind subject h z e t =
-      line-tasks table (regionGroup regions location hypotheses shift) lines e
-      ∙ ap₂ (λ (ks : List Hypothesis) (goals : List Row). tasksFrom (hypothesisRows ks) false goals) t (region-goals location hypotheses shift h)
+  region-tasks table location segments shift width lines hs kind subject h z e t =
+      line-tasks table (regionGroup regions location table segments shift width) lines e
+      ∙ ap₂ (λ (ks : List Hypothesis) (goals : List Row). tasksFrom (hypothesisRows ks) false goals) t (region-goals table location segments shift width h)
       ∙ ap (λ (b : Bool). tasksFrom (hypothesisRows hs) b (map (λ r. onNext shift (r .row)) (regionAt location))) (sym z)
       ∙ sym (row-tasks kind subject hs (onNext shift) 0 (regionAt location))
 
@@ -87,10 +81,10 @@ module _ (model index second regions : List ℕ) where
     present-here : present (componentsFrom model index) (perComponent index modes) ≡ modesIn m location
     present-here = present-there location modes stands
 
-    pub start-tasks : (table : List ℕ) (hypotheses : ℕ) → linesIn table hypotheses ≡ startLines index (perComponent index modes) → every (λ mode. eqb (mode .start) 1) (present (componentsFrom model index) (perComponent index modes)) ≡ true → tasksOf model second (entry index 0) table (regionGroup regions location hypotheses 0) ≡ groupTasks m regionAt location 0
+    pub start-tasks : (table : List ℕ) (segments width : ℕ) → linesIn table segments ≡ startLines index (perComponent index modes) → every (λ mode. eqb (mode .start) 1) (present (componentsFrom model index) (perComponent index modes)) ≡ true → tasksOf model second (entry index 0) table (regionGroup regions location table segments 0 width) ≡ groupTasks m regionAt location 0
     unfolding groupTasks startObligations zeroOnly onX onNext
-    start-tasks table hypotheses e all =
-        region-tasks table location hypotheses 0 _ (startHypotheses (modesIn m location)) atStart location (stands .below) refl e
+    start-tasks table segments width e all =
+        region-tasks table location segments 0 width _ (startHypotheses (modesIn m location)) atStart location (stands .below) refl e
         (start-told model second index regions modes location long (stands .known) ∙ ap startHypotheses present-here)
         ∙ sym
         (ap
@@ -105,10 +99,10 @@ module _ (model index second regions : List ℕ) where
         (λ (b : Bool). tasks (elim b [ true ↦ perRow atStart location (startHypotheses (modesIn m location)) onX 0 (regionAt location) | false ↦ [] ]))
         (ap (every (λ mode. eqb (mode .start) 1)) (sym present-here) ∙ not-all))
 
-    pub flow-tasks : (table : List ℕ) (hypotheses : ℕ) → linesIn table hypotheses ≡ flowLines index regions location (perComponent index modes) → tasksOf model second (entry index 0) table (regionGroup regions location hypotheses (entry index 0)) ≡ groupTasks m regionAt location 1
+    pub flow-tasks : (table : List ℕ) (segments width : ℕ) → linesIn table segments ≡ flowLines index regions location (perComponent index modes) → tasksOf model second (entry index 0) table (regionGroup regions location table segments (entry index 0) width) ≡ groupTasks m regionAt location 1
     unfolding groupTasks flowObligations zeroOnly modelFrom
-    flow-tasks table hypotheses e =
-        region-tasks table location hypotheses (entry index 0) _ (flowHypotheses (entry index 0) (regionAt location) (modesIn m location)) afterFlow location (stands .below) refl e
+    flow-tasks table segments width e =
+        region-tasks table location segments (entry index 0) width _ (flowHypotheses (entry index 0) (regionAt location) (modesIn m location)) afterFlow location (stands .below) refl e
         (flow-told model second index regions modes location long (stands .known) ∙ ap₂ (flowHypotheses (entry index 0)) (sym (region-at model index second regions location (stands .below))) present-here)
 
     -- unsafe conditions
@@ -131,10 +125,10 @@ module _ (model index second regions : List ℕ) where
     one-unsafe x true e = ap (λ (b : Bool). tasks (elim b [ true ↦ record { kind = clearOfUnsafe; subject = location; line = 0; hypotheses = unsafeHypotheses (regionAt location) (modesIn m location) (x .rows); goal = zeroRow } ∷ [] | false ↦ [] ])) (sym (fits-here x) ∙ e)
     one-unsafe x false e = ap (λ (b : Bool). tasks (elim b [ true ↦ record { kind = clearOfUnsafe; subject = location; line = 0; hypotheses = unsafeHypotheses (regionAt location) (modesIn m location) (x .rows); goal = zeroRow } ∷ [] | false ↦ [] ])) (sym (fits-here x) ∙ e)
 
-    pub unsafe-tasks : (table : List ℕ) (hypotheses u : ℕ) → u < entry index 2 → linesIn table hypotheses ≡ unsafeLines index regions location (perComponent index modes) u → modesFit (unsafeFrom model (entry index 0) (entry index 1) index (unsafePlace u) .modes) (perComponent index modes) ≡ true → tasksOf model second (entry index 0) table (unsafeGroup hypotheses) ≡ groupTasks m regionAt location (2 + u)
+    pub unsafe-tasks : (table : List ℕ) (segments width u : ℕ) → u < entry index 2 → linesIn table segments ≡ unsafeLines index regions location (perComponent index modes) u → modesFit (unsafeFrom model (entry index 0) (entry index 1) index (unsafePlace u) .modes) (perComponent index modes) ≡ true → tasksOf model second (entry index 0) table (unsafeGroup table segments width) ≡ groupTasks m regionAt location (2 + u)
     unfolding unsafeGroup goalsOf unsafeFrom
-    unsafe-tasks table hypotheses u h e fit =
-        line-tasks table (unsafeGroup hypotheses) _ e
+    unsafe-tasks table segments width u h e fit =
+        line-tasks table (unsafeGroup table segments width) _ e
         ∙ ap (λ (hs : List Hypothesis). tasksFrom (hypothesisRows hs) true (zeroRow ∷ []))
         (unsafe-told model second index regions modes location long (stands .known) u
         ∙ ap₂ (λ (r : Condition) (ms : List Mode). unsafeHypotheses r ms (spanRows model (entry index 0) index (unsafePlace u + 4))) (sym (region-at model index second regions location (stands .below))) present-here)
@@ -147,12 +141,12 @@ module _ (model index second regions : List ℕ) where
 
     -- joint switches
     pub jump-tasks :
-        (table : List ℕ) (hypotheses target : ℕ) (targets switches : List ℕ) → entry index 1 ≤ length targets → Stands model index target targets → entry index 1 ≤ length switches → KnownSwitches index switches → GoodIndex model index
-        → linesIn table hypotheses ≡ jumpLines index regions location (perComponent index modes) (perComponent index targets) switches
-        → tasksOf model second (entry index 0) table (regionGroup regions target hypotheses (entry index 0)) ≡ jumpTasks m regionAt location (perComponent index switches) target
+        (table : List ℕ) (segments width target : ℕ) (targets switches : List ℕ) → entry index 1 ≤ length targets → Stands model index target targets → entry index 1 ≤ length switches → KnownSwitches index switches → GoodIndex model index
+        → linesIn table segments ≡ jumpLines index regions location (perComponent index modes) (perComponent index targets) switches
+        → tasksOf model second (entry index 0) table (regionGroup regions target table segments (entry index 0) width) ≡ jumpTasks m regionAt location (perComponent index switches) target
     unfolding jumpTasks jumpObligations zeroOnly modelFrom
-    jump-tasks table hypotheses target targets switches l there w known g e =
-        region-tasks table target hypotheses (entry index 0) _ (jumpHypotheses (entry index 0) (regionAt location) (modesIn m location) (modesIn m target) (movers (m .components) (perComponent index switches)) (stayingVariables m (perComponent index switches))) afterJump 0 (there .below) refl e
+    jump-tasks table segments width target targets switches l there w known g e =
+        region-tasks table target segments (entry index 0) width _ (jumpHypotheses (entry index 0) (regionAt location) (modesIn m location) (modesIn m target) (movers (m .components) (perComponent index switches)) (stayingVariables m (perComponent index switches))) afterJump 0 (there .below) refl e
         (jump-lines-told model second index regions modes location long (stands .known) targets switches l (there .known) w known g
         ∙ ap₂ (λ (r : Condition) (ms : List Mode). jumpHypotheses (entry index 0) r ms (present (componentsFrom model index) (perComponent index targets)) (movers (componentsFrom model index) (perComponent index switches)) (stayingVariables m (perComponent index switches))) (sym (region-at model index second regions location (stands .below))) present-here
         ∙ ap (λ (ms : List Mode). jumpHypotheses (entry index 0) (regionAt location) (modesIn m location) ms (movers (componentsFrom model index) (perComponent index switches)) (stayingVariables m (perComponent index switches))) (present-there target targets there))
@@ -161,34 +155,73 @@ module _ (model index second regions : List ℕ) where
 true-false : true ≡ false → ⊥
 true-false e = let z : _≡_ {A = ℕ} 0 1 = ap (λ (b : Bool). cond b 0 1) e in omega (arith, z)
 
-pub empty-good : (model second : List ℕ) (n : ℕ) (table : List ℕ) → GoodGroup model second n table emptyGroup
-unfolding emptyGroup linesIn countUp
-empty-good model second n table = record { few = omega arith; lines = none; goals = λ z j h. absurd (omega (arith, h)); shift = omega arith; counted = omega arith }
+pub empty-good : (model second : List ℕ) (n : ℕ) (table : List ℕ) → n ≤ 8 → Stacked table 0 → GoodGroup model second n table emptyGroup
+unfolding emptyGroup linesIn
+empty-good model second n table few s =
+    record {
+      stacked = s;
+      segments = omega arith;
+      hypotheses = sym (s .first);
+      lines = none;
+      goals = λ z j h. absurd (omega (arith, h));
+      none = λ z. (refl, omega arith);
+      shift = omega arith;
+      width = omega arith;
+      counted = omega arith;
+    }
 
 pub region-good :
-    (model index second regions table : List ℕ) (location hypotheses shift : ℕ) {most : ℕ} (lines : List TableLine) → GoodPaper model index second regions → location < locationCount (componentsFrom model index)
-    → linesIn table hypotheses ≡ lines → FineLines model second (entry index 0) lines most → most ≤ 128 → shift ≤ 8
-    → GoodGroup model second (entry index 0) table (regionGroup regions location hypotheses shift)
+    (model index second regions table : List ℕ) (location segments shift width : ℕ) (lines : List TableLine) → GoodPaper model index second regions → location < locationCount (componentsFrom model index)
+    → Stacked table segments → segments ≤ 23 → linesIn table segments ≡ lines → All (GoodLine model second (entry index 0) width) lines → shift + entry index 0 ≤ width → width ≤ 17
+    → GoodGroup model second (entry index 0) table (regionGroup regions location table segments shift width)
 unfolding regionGroup
-region-good model index second regions table location hypotheses shift lines paper h e fine most small =
+region-good model index second regions table location segments shift width lines paper h s few e fine wide most =
     record {
-      few = omega (arith, lines-most table hypotheses lines e (fine .few), most);
-      lines = subst (All (GoodLine model second (entry index 0))) (sym e) (fine .good);
+      stacked = s;
+      segments = few;
+      hypotheses = refl;
+      lines = subst (All (GoodLine model second (entry index 0) width)) (sym e) fine;
       goals = λ z j l. paper .placed .within location h j l;
-      shift = small;
+      none = λ z. absurd (true-false (sym z));
+      shift = wide;
+      width = most;
       counted = paper .placed .few location h;
     }
 
 pub unsafe-good :
-    (model index second table : List ℕ) (hypotheses : ℕ) {most : ℕ} (lines : List TableLine)
-    → linesIn table hypotheses ≡ lines → FineLines model second (entry index 0) lines most → most ≤ 128
-    → GoodGroup model second (entry index 0) table (unsafeGroup hypotheses)
+    (model index second table : List ℕ) (segments width : ℕ) (lines : List TableLine)
+    → Stacked table segments → segments ≤ 23 → linesIn table segments ≡ lines → All (GoodLine model second (entry index 0) width) lines → entry index 0 ≤ width → width ≤ 17
+    → GoodGroup model second (entry index 0) table (unsafeGroup table segments width)
 unfolding unsafeGroup
-unsafe-good model index second table hypotheses lines e fine most =
+unsafe-good model index second table segments width lines s few e fine wide most =
     record {
-      few = omega (arith, lines-most table hypotheses lines e (fine .few), most);
-      lines = subst (All (GoodLine model second (entry index 0))) (sym e) (fine .good);
+      stacked = s;
+      segments = few;
+      hypotheses = refl;
+      lines = subst (All (GoodLine model second (entry index 0) width)) (sym e) fine;
       goals = λ z j l. absurd (true-false z);
+      none = λ z. (refl, omega arith);
       shift = omega arith;
+      width = most;
       counted = omega arith;
     }
+
+-- where a region has no rows there is nothing to prove
+pub no-rows-start : (model index second regions table : List ℕ) (location : ℕ) → location < locationCount (componentsFrom model index) → entry regions (2 * location + 1) ≡ 0 → tasksOf model second (entry index 0) table emptyGroup ≡ groupTasks (modelFrom model index) (regionsOf model index second regions) location 0
+unfolding groupTasks startObligations emptyGroup tasksOf goalsOf tasksFrom tasks rowsFrom
+no-rows-start model index second regions table location h e =
+    sym (ap (λ (r : Condition). tasks (elim (every (λ mode. eqb (mode .start) 1) (modesIn (modelFrom model index) location)) [ true ↦ perRow atStart location (startHypotheses (modesIn (modelFrom model index) location)) onX 0 r | false ↦ [] ])) (no-region model index second regions location h e)
+    ∙ either (every (λ mode. eqb (mode .start) 1) (modesIn (modelFrom model index) location)) (startHypotheses (modesIn (modelFrom model index) location)) location)
+
+pub no-rows-flow : (model index second regions table : List ℕ) (location : ℕ) → location < locationCount (componentsFrom model index) → entry regions (2 * location + 1) ≡ 0 → tasksOf model second (entry index 0) table emptyGroup ≡ groupTasks (modelFrom model index) (regionsOf model index second regions) location 1
+unfolding groupTasks flowObligations emptyGroup tasksOf goalsOf tasksFrom tasks rowsFrom perRow
+no-rows-flow model index second regions table location h e =
+    sym (ap (λ (r : Condition). tasks (perRow afterFlow location (flowHypotheses (modelFrom model index .variables) (regionsOf model index second regions location) (modesIn (modelFrom model index) location)) (onNext (modelFrom model index .variables)) 0 r)) (no-region model index second regions location h e))
+
+-- nor where the target's region has none
+pub no-rows-jump : (model index second regions : List ℕ) (location target : ℕ) (switches : List ℕ) → target < locationCount (componentsFrom model index) → entry regions (2 * target + 1) ≡ 0 → jumpTasks (modelFrom model index) (regionsOf model index second regions) location switches target ≡ []
+unfolding jumpTasks jumpObligations tasks perRow
+no-rows-jump model index second regions location target switches h e =
+    let m = modelFrom model index in
+    let regionAt = regionsOf model index second regions in
+    ap (λ (r : Condition). tasks (perRow afterJump 0 (jumpHypotheses (m .variables) (regionAt location) (modesIn m location) (modesIn m target) (movers (m .components) switches) (stayingVariables m switches)) (onNext (m .variables)) 0 r)) (no-region model index second regions target h e)

@@ -1,92 +1,221 @@
--- Lines pushed onto a table: what a push leaves, and spans of rows pushed one by one. Assumes nothing.
-use mathlib.Core.Path.{_≡_, refl, sym, ap, _∙_}
-use mathlib.Core.List.{List, [], _∷_, _++_, append-nil, append-assoc}
+-- Hypotheses by segments: how many there are, which one has a number, and segments pushed one after the other. Assumes nothing.
+use mathlib.Core.Path.{_≡_, refl, sym, ap, ap₂, _∙_, subst}
+use mathlib.Core.List.{List, [], _++_, append-assoc, append-nil}
 use Prim.Native.Nat.{ℕ, zero, suc, _+_, _*_, _-_, _≤_, _<_}
+use native.Mathlib.Decide.{decLe}
 use native.Mathlib.Numerals.{add-one}
 use native.Mathlib.Omega.{arith}
-use lib.ListN.{length, set, length-set, length-append}
-use Rattle.formats.specs.Joint.{countUp}
-use Rattle.models.specs.Index.{entry}
-use Rattle.models.proofs.GoodIndexLaws.{counted-length}
-use Rattle.fields.proofs.ReadLoop.{upTo, up-to-same, up-to-snoc}
-use Rattle.models.proofs.IndexLaws.{entry-same, entry-other}
-use Rattle.hypotheses.specs.Tables.{TableLine, linesIn}
-use Rattle.hypotheses.specs.Listing.{line, spanLines, Spaced}
+use lib.ListN.{length, getD, set, length-set, length-append, List·getD-append}
+use lib.Seq.{getD-append-add}
+use Rattle.models.specs.Index.{entry, Kept}
+use Rattle.models.proofs.GoodIndexLaws.{counted-length, counted-at}
+use Rattle.models.proofs.IndexLaws.{entry-same, entry-other, kept-none, kept-set, kept-then, kept-wider}
+use Rattle.hypotheses.specs.Tables.{TableLine, line, segment, endOf, formOf, placeOf, ownerOf, segmentIn, linesIn, Stacked, Pushed}
 
--- the i-th line
-abbrev lineAt : List ℕ → ℕ → TableLine
-lineAt table i = record { form = entry table (2 * i); place = entry table (2 * i + 1) }
+-- a segment's hypotheses
+pub segment-length : (form place owner count : ℕ) → length (segment form place owner count) ≡ count
+unfolding segment
+segment-length form place owner count = counted-length (line form place owner) 0 count
 
-pub lines-push :
-    (table : List ℕ) (at form place : ℕ) → 2 * at + 1 < length table
-    → linesIn (set (set table (2 * at) form) (2 * at + 1) place) (at + 1) ≡ linesIn table at ++ (line form place ∷ [])
-unfolding linesIn line upTo
-lines-push table at form place h =
-    let once = set table (2 * at) form in
-    let after = set once (2 * at + 1) place in
-    let long : 2 * at + 1 < length once = simp length-set h in
-    let first : entry after (2 * at) ≡ form = entry-other once (2 * at + 1) (2 * at) place (λ q. omega arith) ∙ entry-same table (2 * at) form (omega arith) in
-    let second : entry after (2 * at + 1) ≡ place = entry-same once (2 * at + 1) place long in
-    let last : lineAt after at ≡ line form place = λ k. record { form = first k; place = second k } in
-    let same : (j : ℕ) → j < at → lineAt after j ≡ lineAt table j = λ j l k.
-    record {
-      form = (entry-other once (2 * at + 1) (2 * j) place (λ q. omega arith) ∙ entry-other table (2 * at) (2 * j) form (λ q. omega arith)) k;
-      place = (entry-other once (2 * at + 1) (2 * j + 1) place (λ q. omega arith) ∙ entry-other table (2 * at) (2 * j + 1) form (λ q. omega arith)) k;
-    } in
-    ap (upTo (lineAt after)) (add-one at) ∙ up-to-snoc (lineAt after) at ∙ ap (λ (xs : List TableLine). xs ++ (lineAt after at ∷ [])) (up-to-same (lineAt after) (lineAt table) at same) ∙ ap (λ (l : TableLine). upTo (lineAt table) at ++ (l ∷ [])) last
+segment-at : (form place owner count j : ℕ) (d : TableLine) → j < count → getD (segment form place owner count) j d ≡ line form place owner j
+unfolding segment
+segment-at form place owner count j d h = counted-at (line form place owner) count j d h
 
--- a line pushed, then those that are left: as many in all
-pub lines-on :
-    (before after : List TableLine) (l : TableLine) (rest whole : List TableLine) → after ≡ before ++ (l ∷ []) → before ++ (l ∷ rest) ≡ whole → after ++ rest ≡ whole
-lines-on before after l rest whole e w = ap (λ (xs : List TableLine). xs ++ rest) e ∙ append-assoc before (l ∷ []) rest ∙ w
+-- fewer segments
+pub stacked-less : {table : List ℕ} {n : ℕ} (k : ℕ) → k ≤ n → Stacked table n → Stacked table k
+stacked-less k h s = record { first = s .first; ascending = λ g a b. s .ascending g a (omega arith); small = λ g b. s .small g (omega arith) }
 
-pub lines-done : (before whole : List TableLine) → before ++ [] ≡ whole → before ≡ whole
-lines-done before whole w = sym (append-nil before) ∙ w
-
--- a span from its first row on
-pub span-first : (form size place left : ℕ) → 0 < left → spanLines form size place left ≡ line form place ∷ spanLines form size (place + size) (left - 1)
-unfolding spanLines
-span-first form size place zero h = absurd (omega arith)
-span-first form size place (suc left) h = ap (λ (n : ℕ). line form place ∷ spanLines form size (place + size) n) (less left)
+-- ends do not fall
+climbs-to : (table : List ℕ) (g k : ℕ) → Stacked table (g + k) → endOf table g ≤ endOf table (g + k)
+climbs-to table g zero s = omega (arith, ap (endOf table) (none g))
   where
-    less : (n : ℕ) → n ≡ suc n - 1
-    less n = omega arith
+    none : (g : ℕ) → g + 0 ≡ g
+    none g = omega arith
+climbs-to table g (suc k) s =
+    let same : endOf table (g + suc k - 1) ≡ endOf table (g + k) = ap (endOf table) (less g k) in
+    omega (arith, climbs-to table g k (stacked-less (g + k) (omega arith) s), s .ascending (g + suc k) (omega arith) (omega arith), same)
+  where
+    less : (g k : ℕ) → g + suc k - 1 ≡ g + k
+    less g k = omega arith
 
-pub spaced-first : {place size left : ℕ} → Spaced place size left → 0 < left → place + size ≤ 32768
-spaced-first s h = omega (arith, s .ends 0 h)
+module _ (table : List ℕ) where
+  climbs : (g n : ℕ) → Stacked table n → g ≤ n → endOf table g ≤ endOf table n
+  climbs g n s h = rw (whole g n h) (climbs-to table g (n - g) (rw (whole g n h) at s))
+    where
+      whole : (g n : ℕ) → g ≤ n → n ≡ g + (n - g)
+      whole g n h = omega arith
 
-pub spaced-next : {place size left : ℕ} → Spaced place size left → Spaced (place + size) size (left - 1)
-spaced-next s = record { ends = λ j h. omega (arith, s .ends (j + 1) (omega arith)) }
+  pub lines-length : (n : ℕ) → Stacked table n → length (linesIn table n) ≡ endOf table n
+  unfolding linesIn segmentIn
+  lines-length zero s = sym (s .first)
+  lines-length (suc n) s =
+      let same : endOf table (suc n - 1) ≡ endOf table n = ap (endOf table) (less n) in
+      length-append (linesIn table n) (segmentIn table (suc n))
+      ∙ omega (arith, lines-length n (stacked-less n (omega arith) s), segment-length (formOf table (suc n)) (placeOf table (suc n)) (ownerOf table (suc n)) (endOf table (suc n) - endOf table (suc n - 1)), s .ascending (suc n) (omega arith) (omega arith), same)
+    where
+      less : (n : ℕ) → suc n - 1 ≡ n
+      less n = omega arith
 
--- how many lines there are
-pub lines-length : (table : List ℕ) (count : ℕ) → length (linesIn table count) ≡ count
+  -- the hypothesis with a number, by its segment
+  pub line-at : (n : ℕ) → Stacked table n → (g h : ℕ) (d : TableLine) → 1 ≤ g → g ≤ n → endOf table (g - 1) ≤ h → h < endOf table g → getD (linesIn table n) h d ≡ line (formOf table g) (placeOf table g) (ownerOf table g) (h - endOf table (g - 1))
+  unfolding linesIn segmentIn
+  line-at zero s g h d a b l u = absurd (omega arith)
+  line-at (suc n) s g h d a b l u = go (decLe g n) (λ k. line-at n (stacked-less n (omega arith) s) g h d a k l u)
+    where
+      rest : Stacked table n
+      rest = stacked-less n (omega arith) s
+
+      less : (n g : ℕ) → g ≡ suc n → g - 1 ≡ n
+      less n g e = omega arith
+
+      last : (g ≤ n → ⊥) → g ≤ suc n → g ≡ suc n
+      last x y = omega arith
+
+      go : Dec (g ≤ n) → (g ≤ n → getD (linesIn table n) h d ≡ line (formOf table g) (placeOf table g) (ownerOf table g) (h - endOf table (g - 1))) → getD (linesIn table n ++ segmentIn table (suc n)) h d ≡ line (formOf table g) (placeOf table g) (ownerOf table g) (h - endOf table (g - 1))
+      go (yes k) earlier = List·getD-append (linesIn table n) (segmentIn table (suc n)) d h (omega (arith, lines-length n rest, climbs g n rest k)) ∙ earlier k
+      go (no k) earlier =
+          let e : g ≡ suc n = last k b in
+          let m = endOf table (g - 1) in
+          let same : length (linesIn table n) ≡ m = lines-length n rest ∙ ap (endOf table) (sym (less n g e)) in
+          ap (λ (x : ℕ). getD (linesIn table n ++ segmentIn table x) h d) (sym e)
+          ∙ ap (λ (x : ℕ). getD (linesIn table n ++ segmentIn table g) x d) (apart (length (linesIn table n)) m h same l)
+          ∙ getD-append-add (linesIn table n) (segmentIn table g) (h - m) d
+          ∙ segment-at (formOf table g) (placeOf table g) (ownerOf table g) (endOf table g - m) (h - m) d (omega arith)
+        where
+          apart : (n m h : ℕ) → n ≡ m → m ≤ h → h ≡ n + (h - m)
+          apart n m h p q = omega arith
+
+-- segments that are not touched
+pub lines-kept : {before after : List ℕ} {at until : ℕ} (k : ℕ) → k ≤ at → Kept (4 * at + 4) until before after → linesIn after k ≡ linesIn before k
+unfolding linesIn segmentIn
+lines-kept zero h w = refl
+lines-kept {before} {after} {at} (suc k) h w =
+    ap₂ (λ (xs ys : List TableLine). xs ++ ys) (lines-kept {at = at} k (omega arith) w)
+    (rw (w .kept (4 * suc k) (λ p q. omega arith), w .kept (4 * (suc k - 1)) (λ p q. omega arith), w .kept (4 * suc k + 1) (λ p q. omega arith), w .kept (4 * suc k + 2) (λ p q. omega arith), w .kept (4 * suc k + 3) (λ p q. omega arith)) refl)
+
+pub stacked-kept : {before after : List ℕ} {at until : ℕ} → Kept (4 * at + 4) until before after → Stacked before at → Stacked after at
+stacked-kept {before} {after} {at} w s =
+    record {
+      first = w .kept 0 (λ p q. omega arith) ∙ s .first;
+      ascending = λ g a b. rw (w .kept (4 * (g - 1)) (λ p q. omega arith), w .kept (4 * g) (λ p q. omega arith)) (s .ascending g a b);
+      small = λ g b. rw (w .kept (4 * g) (λ p q. omega arith)) (s .small g b);
+    }
+
+-- one segment more: four numbers are written after those of the earlier segments
+module _ (table : List ℕ) (n form place owner count : ℕ) (long : 4 * n + 7 < length table) (few : n ≤ 22) where
+  unfoldable pub after : List ℕ
+  after = set (set (set (set table (4 * n + 4) (entry table (4 * n) + count)) (4 * n + 5) form) (4 * n + 6) place) (4 * n + 7) owner
+
+  abbrev once : List ℕ
+  once = set table (4 * n + 4) (entry table (4 * n) + count)
+
+  abbrev twice : List ℕ
+  twice = set once (4 * n + 5) form
+
+  abbrev thrice : List ℕ
+  thrice = set twice (4 * n + 6) place
+
+  kept : Kept (4 * n + 4) 96 table after
+  unfolding after
+  kept =
+      kept-then (kept-set (4 * n + 4) 96 table (4 * n + 4) (entry table (4 * n) + count) (omega arith) (omega arith))
+      (kept-then (kept-set (4 * n + 4) 96 once (4 * n + 5) form (omega arith) (omega arith))
+      (kept-then (kept-set (4 * n + 4) 96 twice (4 * n + 6) place (omega arith) (omega arith)) (kept-set (4 * n + 4) 96 thrice (4 * n + 7) owner (omega arith) (omega arith))))
+
+  end-at : entry after (4 * n + 4) ≡ entry table (4 * n) + count
+  unfolding after
+  end-at =
+      entry-other thrice (4 * n + 7) (4 * n + 4) owner (λ e. omega arith)
+      ∙ entry-other twice (4 * n + 6) (4 * n + 4) place (λ e. omega arith)
+      ∙ entry-other once (4 * n + 5) (4 * n + 4) form (λ e. omega arith)
+      ∙ entry-same table (4 * n + 4) (entry table (4 * n) + count) (omega arith)
+
+  form-at : entry after (4 * n + 5) ≡ form
+  unfolding after
+  form-at =
+      entry-other thrice (4 * n + 7) (4 * n + 5) owner (λ e. omega arith)
+      ∙ entry-other twice (4 * n + 6) (4 * n + 5) place (λ e. omega arith)
+      ∙ entry-same once (4 * n + 5) form (omega (arith, length-set table (4 * n + 4) (entry table (4 * n) + count)))
+
+  place-at : entry after (4 * n + 6) ≡ place
+  unfolding after
+  place-at =
+      entry-other thrice (4 * n + 7) (4 * n + 6) owner (λ e. omega arith)
+      ∙ entry-same twice (4 * n + 6) place (omega (arith, length-set table (4 * n + 4) (entry table (4 * n) + count), length-set once (4 * n + 5) form))
+
+  owner-at : entry after (4 * n + 7) ≡ owner
+  unfolding after
+  owner-at =
+      entry-same thrice (4 * n + 7) owner (omega (arith, length-set table (4 * n + 4) (entry table (4 * n) + count), length-set once (4 * n + 5) form, length-set twice (4 * n + 6) place))
+
+  push-lines : linesIn after (suc n) ≡ linesIn table n ++ segment form place owner count
+  unfolding linesIn segmentIn
+  push-lines =
+      let a : entry after (4 * suc n) ≡ entry table (4 * n) + count = ap (entry after) (places n .0) ∙ end-at in
+      let b : entry after (4 * suc n + 1) ≡ form = ap (entry after) (places n .1) ∙ form-at in
+      let c : entry after (4 * suc n + 2) ≡ place = ap (entry after) (places n .2) ∙ place-at in
+      let o : entry after (4 * suc n + 3) ≡ owner = ap (entry after) (places n .3) ∙ owner-at in
+      let d : entry after (4 * (suc n - 1)) ≡ entry table (4 * n) = ap (entry after) (places n .4) ∙ kept .kept (4 * n) (λ p q. omega arith) in
+      ap₂ (λ (xs ys : List TableLine). xs ++ ys) (lines-kept {at = n} n (omega arith) kept) (rw (a, b, c, o, d, counted (entry table (4 * n)) count) refl)
+    where
+      places : (n : ℕ) → (4 * suc n ≡ 4 * n + 4) × (4 * suc n + 1 ≡ 4 * n + 5) × (4 * suc n + 2 ≡ 4 * n + 6) × (4 * suc n + 3 ≡ 4 * n + 7) × (4 * (suc n - 1) ≡ 4 * n)
+      places n = (omega arith, omega arith, omega arith, omega arith, omega arith)
+
+      counted : (before count : ℕ) → before + count - before ≡ count
+      counted before count = omega arith
+
+  push-stacked : count ≤ 16 → Stacked table n → Stacked after (suc n)
+  push-stacked short s =
+      let old = stacked-kept kept s in
+      record { first = old .first; ascending = λ g a b. climb g a b (decLe g n); small = λ g b. low g b (decLe g n) }
+    where
+      climb : (g : ℕ) → 1 ≤ g → g ≤ suc n → Dec (g ≤ n) → endOf after (g - 1) ≤ endOf after g
+      climb g a b (yes k) = stacked-kept kept s .ascending g a k
+      climb g a b (no k) =
+          let same : 4 * g ≡ 4 * n + 4 = omega arith in
+          let less : 4 * (g - 1) ≡ 4 * n = omega arith in
+          rw (same, less, end-at, kept .kept (4 * n) (λ p q. omega arith)) (omega arith)
+
+      low : (g : ℕ) → g ≤ suc n → Dec (g ≤ n) → endOf after g ≤ 16 * g
+      low g b (yes k) = stacked-kept kept s .small g k
+      low g b (no k) =
+          let same : 4 * g ≡ 4 * n + 4 = omega arith in
+          rw (same, end-at) (omega (arith, s .small n (omega arith)))
+
+  pub pushed-one : count ≤ 16 → Stacked table n → Pushed table n (segment form place owner count) 1 after (n + 1)
+  pushed-one short s =
+      record {
+        stacked = rw (add-one n) (push-stacked short s);
+        told = rw (add-one n) push-lines;
+        kept = kept;
+        least = omega arith;
+        few = omega arith;
+      }
+
+-- nothing pushed, one part after the other, and what a push is named by
+pub pushed-none : (table : List ℕ) (at most : ℕ) → Stacked table at → Pushed table at [] most table at
+pushed-none table at most s =
+    record { stacked = s; told = sym (append-nil (linesIn table at)); kept = kept-none (4 * at + 4) 96 table; least = omega arith; few = omega arith }
+
+pub pushed-then :
+    {a b c : List ℕ} {at k r i j n : ℕ} {xs ys : List TableLine} → Pushed a at xs i b k → Pushed b k ys j c r → i + j ≤ n
+    → Pushed a at (xs ++ ys) n c r
+pushed-then {a} {b} {c} {at} {k} {r} {i} {j} {n} {xs} {ys} p q h =
+    record {
+      stacked = q .stacked;
+      told = q .told ∙ ap (λ (zs : List TableLine). zs ++ ys) (p .told) ∙ append-assoc (linesIn a at) xs ys;
+      kept = kept-then (p .kept) (kept-wider (omega (arith, p .least)) (omega arith) (q .kept));
+      least = omega (arith, p .least, q .least);
+      few = omega (arith, p .few, q .few);
+    }
+
+pub pushed-as : {a b : List ℕ} {at r n : ℕ} {xs ys : List TableLine} → xs ≡ ys → Pushed a at xs n b r → Pushed a at ys n b r
+pushed-as {a} {b} {at} {r} {n} e p = subst (λ (zs : List TableLine). Pushed a at zs n b r) e p
+
+-- a table begun anew
+pub lines-start : {a b : List ℕ} {r n : ℕ} {xs : List TableLine} → Pushed a 0 xs n b r → linesIn b r ≡ xs
 unfolding linesIn
-lines-length table count = counted-length (lineAt table) 0 count
+lines-start p = p .told
 
-pub lines-count : (table before : List ℕ) (r at : ℕ) (xs : List TableLine) → linesIn table r ≡ linesIn before at ++ xs → r ≡ at + length xs
-lines-count table before r at xs e =
-    sym (lines-length table r) ∙ ap length e ∙ length-append (linesIn before at) xs ∙ ap (λ (n : ℕ). n + length xs) (lines-length before at)
-
-pub span-length : (form size place count : ℕ) → length (spanLines form size place count) ≡ count
-unfolding spanLines
-span-length form size place zero = refl
-span-length form size place (suc count) = ap suc (span-length form size (place + size) count)
-
--- several lines pushed, then those that are left
-pub lines-after :
-    (before after xs rest whole : List TableLine) → after ≡ before ++ xs → before ++ (xs ++ rest) ≡ whole → after ++ rest ≡ whole
-lines-after before after xs rest whole e w = ap (λ (ys : List TableLine). ys ++ rest) e ∙ append-assoc before xs rest ∙ w
-
--- an empty table, and lines after one another
-pub lines-none : (table : List ℕ) → linesIn table 0 ≡ []
-unfolding linesIn countUp
-lines-none table = refl
-
-pub lines-start : (after before : List ℕ) (r : ℕ) (xs : List TableLine) → linesIn after r ≡ linesIn before 0 ++ xs → linesIn after r ≡ xs
-lines-start after before r xs e = e ∙ ap (λ (ys : List TableLine). ys ++ xs) (lines-none before)
-
-pub lines-most : (table : List ℕ) (r : ℕ) (xs : List TableLine) {most : ℕ} → linesIn table r ≡ xs → length xs ≤ most → r ≤ most
-lines-most table r xs e h = omega (arith, lines-length table r, ap length e, h)
-
-pub lines-then : (after before : List ℕ) (r at : ℕ) (xs ys : List TableLine) → linesIn after r ≡ linesIn before at ++ ys → linesIn before at ≡ xs → linesIn after r ≡ xs ++ ys
-lines-then after before r at xs ys e h = e ∙ ap (λ (zs : List TableLine). zs ++ ys) h
+pub pushed-fewer : {a b : List ℕ} {at r i j : ℕ} {xs : List TableLine} → i ≤ j → Pushed a at xs i b r → Pushed a at xs j b r
+pushed-fewer h p = record { stacked = p .stacked; told = p .told; kept = p .kept; least = p .least; few = omega (arith, p .few) }

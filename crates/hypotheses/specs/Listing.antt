@@ -6,88 +6,95 @@ use mathlib.Core.List.{List, [], _∷_, _++_, map}
 use Prim.Native.Nat.{ℕ, zero, suc, _+_, _*_, _≤_, _<_}
 use lib.Dec.{eqb}
 use lib.ListN.{length, getD, take, replicate}
-use Rattle.farkas.specs.declared.Row.{Row}
-use Rattle.farkas.specs.Rows.{zeroRow}
+use Rattle.farkas.specs.Rows.{Row, zeroRow}
 use Rattle.farkas.specs.Farkas.{Proof}
 use Rattle.farkas.specs.Lists.{All}
 use Rattle.formats.specs.Reading.{Reader, got, refused}
 use Rattle.fields.specs.Places.{rowsFrom}
 use Rattle.formats.specs.Rows.{Condition}
-use Rattle.formats.specs.Model.{Unsafe, Model}
+use Rattle.formats.specs.Model.{Model}
+use Rattle.formats.specs.Locations.{locationCount, modesAt}
 use Rattle.formats.specs.Joint.{stays, countUp, joinAll, JointSwitch}
-use Rattle.models.specs.Index.{entry, ownerPlace, componentPlace, modePlace, switchPlace, unsafePlace, modelFrom}
+use Rattle.models.specs.Index.{entry, ownerPlace, componentPlace, modePlace, switchPlace, unsafePlace, componentsFrom, modelFrom}
 use Rattle.hypotheses.specs.declared.Group.{Group}
 use Rattle.rules.specs.Obligations.{Obligation, zeroOnly, onNext, startObligations, flowObligations, unsafeObligations, locationObligations, jumpObligations, jumpsObligations}
+unfoldable pub use Rattle.rules.specs.Roles.{noUnsafe}
 use Rattle.rules.specs.Marking.{Marked, passed, stopped}
-use Rattle.hypotheses.specs.Tables.{TableLine, linesIn, hypothesesFrom, hypothesisRows, GoodLine, markWith}
+use Rattle.hypotheses.specs.Tables.{TableLine, segment, endOf, linesIn, Stacked, hypothesesFrom, hypothesisRows, GoodLine, markWith}
 use Rattle.papers.specs.Paper.{regionsOf}
 
-unfoldable pub line : ℕ → ℕ → TableLine
-line form place = record { form = form; place = place }
-
--- rows that stand one after the other, each so many bytes long
-unfoldable pub spanLines : ℕ → ℕ → ℕ → ℕ → List TableLine
-spanLines form size place zero = []
-spanLines form size place (suc count) = line form place ∷ spanLines form size (place + size) count
-
--- the rows that two numbers of an index tell: the place of the first, and how many
+-- the rows that two numbers of an index tell, of one owner: the place of the first, and how many
 unfoldable pub keptLines : ℕ → ℕ → List ℕ → ℕ → List TableLine
-keptLines form size index i = spanLines form size (entry index i) (entry index (i + 1))
+keptLines form owner index i = segment form (entry index i) owner (entry index (i + 1))
 
 -- of each mode from component k on, the condition kept so many numbers into the mode's place
-unfoldable pub modeLines : ℕ → ℕ → ℕ → List ℕ → ℕ → List ℕ → List TableLine
-modeLines form size offset index k [] = []
-modeLines form size offset index k (mode ∷ modes) =
-    keptLines form size index (modePlace (componentPlace k) mode + offset) ++ modeLines form size offset index (suc k) modes
+unfoldable pub modeLines : ℕ → ℕ → List ℕ → ℕ → List ℕ → List TableLine
+modeLines form offset index k [] = []
+modeLines form offset index k (mode ∷ modes) =
+    keptLines form k index (modePlace (componentPlace k) mode + offset) ++ modeLines form offset index (suc k) modes
 
 -- of each component from k on that moves, the rows of its switch
-unfoldable pub switchLine : ℕ → List ℕ → ℕ → ℕ → List TableLine
-switchLine size index k i = elim (eqb i stays) [ true ↦ [] | false ↦ keptLines 5 size index (switchPlace (componentPlace k) i + 3) ]
+unfoldable pub switchLine : List ℕ → ℕ → ℕ → List TableLine
+switchLine index k i = elim (eqb i stays) [ true ↦ [] | false ↦ keptLines 7 k index (switchPlace (componentPlace k) i + 3) ]
 
-unfoldable pub switchLines : ℕ → List ℕ → ℕ → List ℕ → List TableLine
-switchLines size index k [] = []
-switchLines size index k (i ∷ switches) = switchLine size index k i ++ switchLines size index (suc k) switches
+unfoldable pub switchLines : List ℕ → ℕ → List ℕ → List TableLine
+switchLines index k [] = []
+switchLines index k (i ∷ switches) = switchLine index k i ++ switchLines index (suc k) switches
 
--- of each variable from v on whose owner stays, its two rows
+-- of each variable whose owner stays, its two rows
 unfoldable pub stayingLine : List ℕ → List ℕ → ℕ → List TableLine
 stayingLine index switches v =
-    elim (eqb (getD switches (entry index (ownerPlace v)) stays) stays) [ true ↦ line 6 v ∷ line 7 v ∷ [] | false ↦ [] ]
+    elim (eqb (getD switches (entry index (ownerPlace v)) stays) stays) [ true ↦ segment 8 v v 2 | false ↦ [] ]
 
 unfoldable pub stayingLines : List ℕ → List ℕ → List TableLine
 stayingLines index switches = joinAll (stayingLine index switches) (countUp 0 (entry index 0))
 
--- so many rows of one size from a place on end within the bytes that a sheet may have
-pub record Spaced (place size count : ℕ) : Type 0 where
-  pub ends : (j : ℕ) → j < count → place + size * (j + 1) ≤ 32768
+-- the conditions of modes, at an offset, and of switches have few rows
+pub record FewRows (index modes : List ℕ) (offset : ℕ) : Type 0 where
+  pub components : entry index 1 ≤ 4
+  pub small : (k : ℕ) → k < entry index 1 → getD modes k 0 < 8
+  pub few : (k : ℕ) → k < entry index 1 → entry index (modePlace (componentPlace k) (getD modes k 0) + offset + 1) ≤ 8
+  pub within : offset ≤ 5
+
+pub record FewJump (index : List ℕ) (k i : ℕ) : Type 0 where
+  pub small : eqb i stays ≡ false → i < 32
+  pub few : eqb i stays ≡ false → entry index (switchPlace (componentPlace k) i + 3 + 1) ≤ 8
+
+pub record FewJumps (index switches : List ℕ) : Type 0 where
+  pub each : (k : ℕ) → k < entry index 1 → FewJump index k (getD switches k 0)
 
 -- The tables, in the order of 01. "region and invariants on x", which all but the start's begin with
-unfoldable pub rowSize : List ℕ → ℕ
-rowSize index = 4 * (entry index 0 + 1)
-
 unfoldable pub hereLines : List ℕ → List ℕ → ℕ → List ℕ → List TableLine
-hereLines index regions location modes = keptLines 1 (rowSize index) regions (2 * location) ++ modeLines 0 (rowSize index) 3 index 0 modes
+hereLines index regions location modes = keptLines 1 0 regions (2 * location) ++ modeLines 2 3 index 0 modes
+
+-- the first segments of a table are those of a location that is the source of joint switches
+pub record HereIn (model index regions : List ℕ) (location here : ℕ) (table : List ℕ) : Type 0 where
+  pub below : location < locationCount (componentsFrom model index)
+  pub few : here ≤ 5
+  pub stacked : Stacked table here
+  pub told : linesIn table here ≡ hereLines index regions location (modesAt (componentsFrom model index) location)
 
 -- "start: initial rows, invariants"
 unfoldable pub startLines : List ℕ → List ℕ → List TableLine
-startLines index modes = modeLines 0 (rowSize index) 1 index 0 modes ++ modeLines 0 (rowSize index) 3 index 0 modes
+startLines index modes = modeLines 0 1 index 0 modes ++ modeLines 2 3 index 0 modes
 
 -- "flow .. region and invariants on x; invariants on x'; each flow row ..; −d ≤ 0"
 unfoldable pub flowLines : List ℕ → List ℕ → ℕ → List ℕ → List TableLine
 flowLines index regions location modes =
-    hereLines index regions location modes
-    ++ (modeLines 2 (rowSize index) 3 index 0 modes ++ (modeLines 3 (rowSize index) 5 index 0 modes ++ (line 4 0 ∷ [])))
+    hereLines index regions location modes ++ (modeLines 4 3 index 0 modes ++ (modeLines 5 5 index 0 modes ++ segment 6 0 0 1))
 
 -- "unsafe: region, invariants, unsafe rows"
 unfoldable pub unsafeLines : List ℕ → List ℕ → ℕ → List ℕ → ℕ → List TableLine
-unsafeLines index regions location modes u =
-    hereLines index regions location modes ++ keptLines 0 (rowSize index) index (unsafePlace u + 4)
+unsafeLines index regions location modes u = hereLines index regions location modes ++ keptLines 3 0 index (unsafePlace u + 4)
 
--- "jump: source region and invariants on x; target invariants on x'; jump rows; for each staying variable .."
+-- "target invariants on x'; jump rows; for each staying variable .."
+unfoldable pub landingLines : List ℕ → List ℕ → List ℕ → List TableLine
+landingLines index targets switches =
+    modeLines 4 3 index 0 targets ++ (switchLines index 0 (take (entry index 1) switches) ++ stayingLines index switches)
+
+-- "jump: source region and invariants on x", then those
 unfoldable pub jumpLines : List ℕ → List ℕ → ℕ → List ℕ → List ℕ → List ℕ → List TableLine
-jumpLines index regions location modes targets switches =
-    hereLines index regions location modes
-    ++ (modeLines 2 (rowSize index) 3 index 0 targets
-    ++ (switchLines (4 * (2 * entry index 0 + 1)) index 0 (take (entry index 1) switches) ++ stayingLines index switches))
+jumpLines index regions location modes targets switches = hereLines index regions location modes ++ landingLines index targets switches
 
 -- What has to be proved: a goal, from these rows
 pub record Task : Type 0 where
@@ -102,9 +109,6 @@ unfoldable pub tasks : List Obligation → List Task
 tasks obligations = map taskOf obligations
 
 -- what a location has to prove, in groups that share their hypotheses: 0, its start; 1, its flow; from 2 on, each unsafe condition
-unfoldable pub noUnsafe : Unsafe
-noUnsafe = record { modes = []; rows = [] }
-
 unfoldable pub groupTasks : Model → (ℕ → Condition) → ℕ → ℕ → List Task
 groupTasks m regionAt location zero = tasks (startObligations m regionAt location)
 groupTasks m regionAt location (suc zero) = tasks (flowObligations m regionAt location)
@@ -124,29 +128,42 @@ goalsOf second n g =
     ]
 
 unfoldable pub emptyGroup : Group
-emptyGroup = record { hypotheses = 0; goals = 0; from = 0; shift = 0; zero = false }
+emptyGroup = record { segments = 0; hypotheses = 0; goals = 0; from = 0; shift = 0; width = 17; zero = false }
 
--- the rows of a location's region
-unfoldable pub regionGroup : List ℕ → ℕ → ℕ → ℕ → Group
-regionGroup regions location hypotheses shift =
-    record { hypotheses = hypotheses; goals = entry regions (2 * location + 1); from = entry regions (2 * location); shift = shift; zero = false }
+-- the rows of a location's region, from the first segments of a table
+unfoldable pub regionGroup : List ℕ → ℕ → List ℕ → ℕ → ℕ → ℕ → Group
+regionGroup regions location table segments shift width =
+    record {
+      segments = segments;
+      hypotheses = endOf table segments;
+      goals = entry regions (2 * location + 1);
+      from = entry regions (2 * location);
+      shift = shift;
+      width = width;
+      zero = false;
+    }
 
-unfoldable pub unsafeGroup : ℕ → Group
-unsafeGroup hypotheses = record { hypotheses = hypotheses; goals = 1; from = 0; shift = 0; zero = true }
+unfoldable pub unsafeGroup : List ℕ → ℕ → ℕ → Group
+unsafeGroup table segments width =
+    record { segments = segments; hypotheses = endOf table segments; goals = 1; from = 0; shift = 0; width = width; zero = true }
 
 unfoldable pub tasksFrom : List Row → Bool → List Row → List Task
 tasksFrom rows zeroK goals = map (λ goal. record { rows = rows; zeroK = zeroK; goal = goal }) goals
 
 unfoldable pub tasksOf : List ℕ → List ℕ → ℕ → List ℕ → Group → List Task
 tasksOf model second n table g =
-    tasksFrom (hypothesisRows (hypothesesFrom model second n table (g .hypotheses))) (g .zero) (goalsOf second n g)
+    tasksFrom (hypothesisRows (hypothesesFrom model second n table (g .segments))) (g .zero) (goalsOf second n g)
 
--- a group whose rows lie within their sheets
+-- a group whose rows lie within their sheets and among its unknowns
 pub record GoodGroup (model second : List ℕ) (n : ℕ) (table : List ℕ) (g : Group) : Type 0 where
-  pub few : g .hypotheses ≤ 128
-  pub lines : All (GoodLine model second n) (linesIn table (g .hypotheses))
+  pub stacked : Stacked table (g .segments)
+  pub segments : g .segments ≤ 23
+  pub hypotheses : g .hypotheses ≡ endOf table (g .segments)
+  pub lines : All (GoodLine model second n (g .width)) (linesIn table (g .segments))
   pub goals : g .zero ≡ false → (j : ℕ) → j < g .goals → g .from + 4 * (n + 1) * (j + 1) ≤ length second
-  pub shift : g .shift ≤ 8
+  pub none : g .zero ≡ true → (g .from ≡ 0) × (g .goals ≤ 1)
+  pub shift : g .shift + n ≤ g .width
+  pub width : g .width ≤ 17
   pub counted : g .goals ≤ 16
 
 unfoldable pub noTask : Task

@@ -1,10 +1,12 @@
 // What has to be proved at a location and at a joint switch: for each group of proofs its table of hypotheses, built once, and its goals.
 use crate::Group;
+use crate::tables::lines;
 use crate::tables::push;
 use crate::tables::push_kept;
 use crate::tables::push_modes;
 use crate::tables::push_staying;
 use crate::tables::push_switches;
+use joint_switches::Landing;
 use joint_switches::joints::modes_at;
 use models::layout::FIRST_UNSAFE;
 use models::layout::FLOW_AT;
@@ -18,26 +20,36 @@ use papers::standing::all_start;
 use papers::standing::modes_fit;
 use second_sheets::ranges::Regions;
 ghost use mathlib.Core.Path.{_≡_};
-ghost use Prim.Native.Nat.{_+_, _≤_, _<_};
+ghost use Prim.Native.Nat.{_+_, _*_, _≤_, _<_};
 ghost use lib.ListN.{length};
 ghost use Rattle.formats.specs.Locations.{locationCount};
-ghost use Rattle.models.specs.Index.{entry, componentsFrom, conditionsIn, variablesIn};
+ghost use Rattle.models.specs.Index.{entry, componentsFrom, conditionsIn, variablesIn, GoodIndex, Kept};
 ghost use Rattle.models.specs.Counts.{perComponent, KnownSwitches};
-ghost use Rattle.hypotheses.specs.Tables.{linesIn};
-ghost use Rattle.hypotheses.specs.Listing.{rowSize, hereLines, startLines, flowLines, unsafeLines, jumpLines, tasksOf, GoodGroup, emptyGroup, regionGroup, groupTasksFor, jumpTasksFor};
+ghost use Rattle.hypotheses.specs.Tables.{Stacked, Pushed};
+ghost use Rattle.hypotheses.specs.Listing.{hereLines, startLines, flowLines, unsafeLines, landingLines, tasksOf, GoodGroup, emptyGroup, regionGroup, groupTasksFor, jumpTasksFor, HereIn};
 ghost use Rattle.papers.specs.Standing.{KnownModes, Stands};
 ghost use Rattle.papers.specs.Paper.{GoodPaper};
 
-// How many bytes a row with a coefficient for each variable has.
-fn row_size(index: &Index) -> usize
-    requires { ⌜ variablesIn (now index) ≤ 8 ⌝ }
-    ensures { λ r. ⌜ r ≡ rowSize (now (index .entry)) ⌝ }
-{
-    4 * (index[VARIABLES_AT] as usize + 1)
-}
+// The forms of hypotheses that are pushed here, as specs/Tables.antt has them.
+const INITIAL_FORM: u16 = 0;
+
+const REGION_FORM: u16 = 1;
+
+const INVARIANT_FORM: u16 = 2;
+
+const UNSAFE_FORM: u16 = 3;
+
+const NEXT_FORM: u16 = 4;
+
+const RATE_FORM: u16 = 5;
+
+const TIME_FORM: u16 = 6;
+
+// What belongs to no component or variable has owner 0.
+const NO_OWNER: u16 = 0;
 
 // A location's region and invariants, on x.
-fn push_here(
+pub fn push_here(
     model: &[u8],
     index: &Index,
     second: &[u8],
@@ -48,29 +60,28 @@ fn push_here(
 ) -> usize
     requires { ⌜ GoodPaper (now model) (now index) (now second) (now regions) ⌝ }
     requires { ⌜ (location < locationCount (componentsFrom (now model) (now index))) × KnownModes (now index) modes ⌝ }
-    requires { ⌜ 256 ≤ length (now table) ⌝ }
-    ensures { λ r. ⌜ linesIn (now (table .exit)) r ≡ hereLines (now (index .entry)) (now (regions .entry)) location (perComponent (now (index .entry)) modes) ⌝ }
+    requires { ⌜ (96 ≤ length (now table)) × Stacked (now table) 0 ⌝ }
+    ensures { λ r. ⌜ Pushed (now (table .entry)) 0 (hereLines (now (index .entry)) (now (regions .entry)) location (perComponent (now (index .entry)) modes)) 5 (now (table .exit)) r ⌝ }
 {
-    let size = row_size(index);
-    let at = push_kept(regions, 2 * (location as usize), 1, size, table, 0);
-    push_modes(model, index, modes, INVARIANT_AT, 0, table, at)
+    let at = push_kept(
+        regions,
+        2 * (location as usize),
+        REGION_FORM,
+        NO_OWNER,
+        table,
+        0,
+    );
+    push_modes(index, modes, INVARIANT_AT, INVARIANT_FORM, table, at)
 }
 
 // The table of a start: initial rows, invariants.
-pub fn start_table(
-    model: &[u8],
-    index: &Index,
-    second: &[u8],
-    regions: &Regions,
-    modes: [u8; 4],
-    table: &mut [u16],
-) -> usize
-    requires { ⌜ GoodPaper (now model) (now index) (now second) (now regions) ⌝ }
-    requires { ⌜ KnownModes (now index) modes × (256 ≤ length (now table)) ⌝ }
-    ensures { λ r. ⌜ linesIn (now (table .exit)) r ≡ startLines (now (index .entry)) (perComponent (now (index .entry)) modes) ⌝ }
+pub fn start_table(model: &[u8], index: &Index, modes: [u8; 4], table: &mut [u16]) -> usize
+    requires { ⌜ GoodIndex (now model) (now index) × KnownModes (now index) modes ⌝ }
+    requires { ⌜ (96 ≤ length (now table)) × Stacked (now table) 0 ⌝ }
+    ensures { λ r. ⌜ Pushed (now (table .entry)) 0 (startLines (now (index .entry)) (perComponent (now (index .entry)) modes)) 8 (now (table .exit)) r ⌝ }
 {
-    let at = push_modes(model, index, modes, INITIAL_AT, 0, table, 0);
-    push_modes(model, index, modes, INVARIANT_AT, 0, table, at)
+    let at = push_modes(index, modes, INITIAL_AT, INITIAL_FORM, table, 0);
+    push_modes(index, modes, INVARIANT_AT, INVARIANT_FORM, table, at)
 }
 
 // The table of a flow: region and invariants on x, invariants on x', flow rows, and the time.
@@ -85,13 +96,13 @@ pub fn flow_table(
 ) -> usize
     requires { ⌜ GoodPaper (now model) (now index) (now second) (now regions) ⌝ }
     requires { ⌜ (location < locationCount (componentsFrom (now model) (now index))) × KnownModes (now index) modes ⌝ }
-    requires { ⌜ 256 ≤ length (now table) ⌝ }
-    ensures { λ r. ⌜ linesIn (now (table .exit)) r ≡ flowLines (now (index .entry)) (now (regions .entry)) location (perComponent (now (index .entry)) modes) ⌝ }
+    requires { ⌜ (96 ≤ length (now table)) × Stacked (now table) 0 ⌝ }
+    ensures { λ r. ⌜ Pushed (now (table .entry)) 0 (flowLines (now (index .entry)) (now (regions .entry)) location (perComponent (now (index .entry)) modes)) 14 (now (table .exit)) r ⌝ }
 {
     let here = push_here(model, index, second, regions, location, modes, table);
-    let after = push_modes(model, index, modes, INVARIANT_AT, 2, table, here);
-    let rates = push_modes(model, index, modes, FLOW_AT, 3, table, after);
-    push(table, rates, 4, 0)
+    let after = push_modes(index, modes, INVARIANT_AT, NEXT_FORM, table, here);
+    let rates = push_modes(index, modes, FLOW_AT, RATE_FORM, table, after);
+    push(table, rates, TIME_FORM, 0, NO_OWNER, 1)
 }
 
 // The table of an unsafe condition: region, invariants, unsafe rows.
@@ -107,42 +118,36 @@ pub fn unsafe_table(
 ) -> usize
     requires { ⌜ GoodPaper (now model) (now index) (now second) (now regions) ⌝ }
     requires { ⌜ (location < locationCount (componentsFrom (now model) (now index))) × KnownModes (now index) modes ⌝ }
-    requires { ⌜ (u < conditionsIn (now index)) × (256 ≤ length (now table)) ⌝ }
-    ensures { λ r. ⌜ linesIn (now (table .exit)) r ≡ unsafeLines (now (index .entry)) (now (regions .entry)) location (perComponent (now (index .entry)) modes) u ⌝ }
+    requires { ⌜ (u < conditionsIn (now index)) × ((96 ≤ length (now table)) × Stacked (now table) 0) ⌝ }
+    ensures { λ r. ⌜ Pushed (now (table .entry)) 0 (unsafeLines (now (index .entry)) (now (regions .entry)) location (perComponent (now (index .entry)) modes) u) 6 (now (table .exit)) r ⌝ }
 {
     let here = push_here(model, index, second, regions, location, modes, table);
-    let size = row_size(index);
     push_kept(
         index,
         FIRST_UNSAFE + UNSAFE_LENGTH * u + UNSAFE_ROWS_AT,
-        0,
-        size,
+        UNSAFE_FORM,
+        NO_OWNER,
         table,
         here,
     )
 }
 
-// The table of a joint switch: source region and invariants on x, target invariants on x', jump rows, the rows of staying variables.
+// The table of a joint switch, on the segments of its source: target invariants on x', jump rows, the rows of staying variables.
 pub fn jump_table(
     model: &[u8],
     index: &Index,
-    second: &[u8],
-    regions: &Regions,
-    location: u32,
-    modes: [u8; 4],
     targets: [u8; 4],
     switches: [u8; 4],
+    here: usize,
     table: &mut [u16],
 ) -> usize
-    requires { ⌜ GoodPaper (now model) (now index) (now second) (now regions) ⌝ }
-    requires { ⌜ (location < locationCount (componentsFrom (now model) (now index))) × (KnownModes (now index) modes × KnownModes (now index) targets) ⌝ }
-    requires { ⌜ KnownSwitches (now index) switches × (256 ≤ length (now table)) ⌝ }
-    ensures { λ r. ⌜ linesIn (now (table .exit)) r ≡ jumpLines (now (index .entry)) (now (regions .entry)) location (perComponent (now (index .entry)) modes) (perComponent (now (index .entry)) targets) switches ⌝ }
+    requires { ⌜ GoodIndex (now model) (now index) × (KnownModes (now index) targets × KnownSwitches (now index) switches) ⌝ }
+    requires { ⌜ (96 ≤ length (now table)) × ((here ≤ 5) × Stacked (now table) here) ⌝ }
+    ensures { λ r. ⌜ Pushed (now (table .entry)) here (landingLines (now (index .entry)) (perComponent (now (index .entry)) targets) switches) 16 (now (table .exit)) r ⌝ }
 {
-    let here = push_here(model, index, second, regions, location, modes, table);
-    let after = push_modes(model, index, targets, INVARIANT_AT, 2, table, here);
-    let moved = push_switches(model, index, switches, table, after);
-    push_staying(model, index, switches, table, moved)
+    let after = push_modes(index, targets, INVARIANT_AT, NEXT_FORM, table, here);
+    let moved = push_switches(index, switches, table, after);
+    push_staying(index, switches, table, moved)
 }
 
 // Nothing to prove.
@@ -150,32 +155,53 @@ fn no_group() -> Group
     ensures { λ r. ⌜ r ≡ emptyGroup ⌝ }
 {
     Group {
+        segments: 0,
         hypotheses: 0,
         goals: 0,
         from: 0,
         shift: 0,
+        width: 17,
         zero: false,
     }
 }
 
-// The rows of a location's region, to be proved on the unknowns from `shift` on.
-fn region_group(regions: &[u16], location: u32, hypotheses: usize, shift: usize) -> Group
-    requires { ⌜ (128 ≤ length (now regions)) × ((location < 64) × (hypotheses ≤ 128)) ⌝ }
-    ensures { λ r. ⌜ r ≡ regionGroup (now (regions .entry)) location hypotheses shift ⌝ }
+// How many rows a location's region has.
+pub fn region_rows(regions: &[u16], location: u32) -> u32
+    requires { ⌜ (128 ≤ length (now regions)) × (location < 64) ⌝ }
+    ensures { λ r. ⌜ r ≡ entry (now (regions .entry)) (2 * location + 1) ⌝ }
 {
-    let kept = 2 * (location as usize);
-    let goals = regions[kept + 1] as u32;
-    let from = regions[kept] as usize;
+    regions[2 * (location as usize) + 1] as u32
+}
+
+// The rows of a location's region, to be proved from a table on the unknowns from `shift` on.
+fn region_group(
+    regions: &[u16],
+    location: u32,
+    table: &[u16],
+    segments: usize,
+    shift: usize,
+    width: usize,
+) -> Group
+    requires { ⌜ (128 ≤ length (now regions)) × (location < 64) ⌝ }
+    requires { ⌜ (96 ≤ length (now table)) × (segments ≤ 23) ⌝ }
+    ensures { λ r. ⌜ r ≡ regionGroup (now (regions .entry)) location (now (table .entry)) segments shift width ⌝ }
+{
+    let hypotheses = lines(table, segments);
+    let goals = region_rows(regions, location);
+    let from = regions[2 * (location as usize)] as usize;
     Group {
-        hypotheses: hypotheses as u32,
+        segments,
+        hypotheses,
         goals,
         from,
         shift,
+        width,
         zero: false,
     }
 }
 
-// The proofs from the start of a location, where all its modes are start modes.
+// The proofs from the start of a location, where all its modes are start modes. Where its region has no rows there is nothing to prove,
+// and no table is built.
 fn start_group(
     model: &[u8],
     index: &Index,
@@ -186,15 +212,25 @@ fn start_group(
     table: &mut [u16],
 ) -> Group
     requires { ⌜ GoodPaper (now model) (now index) (now second) (now regions) ⌝ }
-    requires { ⌜ Stands (now model) (now index) location modes × (256 ≤ length (now table)) ⌝ }
+    requires { ⌜ Stands (now model) (now index) location modes × ((96 ≤ length (now table)) × Stacked (now table) 0) ⌝ }
     ensures { λ r. ⌜ tasksOf (now (model .entry)) (now (second .entry)) (variablesIn (now (index .entry))) (now (table .exit)) r ≡ groupTasksFor (now (model .entry)) (now (index .entry)) (now (second .entry)) (now (regions .entry)) location 0 ⌝ }
     ensures { λ r. ⌜ GoodGroup (now (model .entry)) (now (second .entry)) (variablesIn (now (index .entry))) (now (table .exit)) r ⌝ }
 {
+    if region_rows(regions, location) == 0 {
+        return no_group();
+    }
     if !all_start(model, index, modes) {
         return no_group();
     }
-    let hypotheses = start_table(model, index, second, regions, modes, table);
-    region_group(regions, location, hypotheses, 0)
+    let segments = start_table(model, index, modes, table);
+    region_group(
+        regions,
+        location,
+        table,
+        segments,
+        0,
+        index[VARIABLES_AT] as usize,
+    )
 }
 
 // The proofs after a flow in a location.
@@ -208,12 +244,16 @@ fn flow_group(
     table: &mut [u16],
 ) -> Group
     requires { ⌜ GoodPaper (now model) (now index) (now second) (now regions) ⌝ }
-    requires { ⌜ Stands (now model) (now index) location modes × (256 ≤ length (now table)) ⌝ }
+    requires { ⌜ Stands (now model) (now index) location modes × ((96 ≤ length (now table)) × Stacked (now table) 0) ⌝ }
     ensures { λ r. ⌜ tasksOf (now (model .entry)) (now (second .entry)) (variablesIn (now (index .entry))) (now (table .exit)) r ≡ groupTasksFor (now (model .entry)) (now (index .entry)) (now (second .entry)) (now (regions .entry)) location 1 ⌝ }
     ensures { λ r. ⌜ GoodGroup (now (model .entry)) (now (second .entry)) (variablesIn (now (index .entry))) (now (table .exit)) r ⌝ }
 {
-    let hypotheses = flow_table(model, index, second, regions, location, modes, table);
-    region_group(regions, location, hypotheses, index[VARIABLES_AT] as usize)
+    if region_rows(regions, location) == 0 {
+        return no_group();
+    }
+    let segments = flow_table(model, index, second, regions, location, modes, table);
+    let n = index[VARIABLES_AT] as usize;
+    region_group(regions, location, table, segments, n, n + n + 1)
 }
 
 // The proof that an unsafe condition is not met in a location, where the location's modes fit it.
@@ -228,19 +268,22 @@ fn unsafe_group(
     table: &mut [u16],
 ) -> Group
     requires { ⌜ GoodPaper (now model) (now index) (now second) (now regions) ⌝ }
-    requires { ⌜ Stands (now model) (now index) location modes × ((u < conditionsIn (now index)) × (256 ≤ length (now table))) ⌝ }
+    requires { ⌜ Stands (now model) (now index) location modes × ((u < conditionsIn (now index)) × ((96 ≤ length (now table)) × Stacked (now table) 0)) ⌝ }
     ensures { λ r. ⌜ tasksOf (now (model .entry)) (now (second .entry)) (variablesIn (now (index .entry))) (now (table .exit)) r ≡ groupTasksFor (now (model .entry)) (now (index .entry)) (now (second .entry)) (now (regions .entry)) location (2 + u) ⌝ }
     ensures { λ r. ⌜ GoodGroup (now (model .entry)) (now (second .entry)) (variablesIn (now (index .entry))) (now (table .exit)) r ⌝ }
 {
     if !modes_fit(model, index, u, modes) {
         return no_group();
     }
-    let hypotheses = unsafe_table(model, index, second, regions, location, modes, u, table);
+    let segments = unsafe_table(model, index, second, regions, location, modes, u, table);
+    let hypotheses = lines(table, segments);
     Group {
-        hypotheses: hypotheses as u32,
+        segments,
+        hypotheses,
         goals: 1,
         from: 0,
         shift: 0,
+        width: index[VARIABLES_AT] as usize,
         zero: true,
     }
 }
@@ -257,7 +300,7 @@ pub fn group_at(
     table: &mut [u16],
 ) -> Group
     requires { ⌜ GoodPaper (now model) (now index) (now second) (now regions) ⌝ }
-    requires { ⌜ Stands (now model) (now index) location modes × ((g < 2 + conditionsIn (now index)) × (256 ≤ length (now table))) ⌝ }
+    requires { ⌜ Stands (now model) (now index) location modes × ((g < 2 + conditionsIn (now index)) × ((96 ≤ length (now table)) × Stacked (now table) 0)) ⌝ }
     ensures { λ r. ⌜ tasksOf (now (model .entry)) (now (second .entry)) (variablesIn (now (index .entry))) (now (table .exit)) r ≡ groupTasksFor (now (model .entry)) (now (index .entry)) (now (second .entry)) (now (regions .entry)) location g ⌝ }
     ensures { λ r. ⌜ GoodGroup (now (model .entry)) (now (second .entry)) (variablesIn (now (index .entry))) (now (table .exit)) r ⌝ }
 {
@@ -279,38 +322,28 @@ pub fn group_at(
     )
 }
 
-// The proofs after a joint switch, by the region of its target. Where that has no rows there is nothing to prove, and no table is built.
+// The proofs after a joint switch from a location, by the region of its target: its table goes on from the location's segments, which
+// stay.
 pub fn jump_group(
     model: &[u8],
     index: &Index,
     second: &[u8],
     regions: &Regions,
     location: u32,
-    modes: [u8; 4],
-    switches: [u8; 4],
-    target: u32,
+    landing: Landing,
+    here: usize,
     table: &mut [u16],
 ) -> Group
     requires { ⌜ GoodPaper (now model) (now index) (now second) (now regions) ⌝ }
-    requires { ⌜ Stands (now model) (now index) location modes × ((target < locationCount (componentsFrom (now model) (now index))) × KnownSwitches (now index) switches) ⌝ }
-    requires { ⌜ 256 ≤ length (now table) ⌝ }
-    ensures { λ r. ⌜ tasksOf (now (model .entry)) (now (second .entry)) (variablesIn (now (index .entry))) (now (table .exit)) r ≡ jumpTasksFor (now (model .entry)) (now (index .entry)) (now (second .entry)) (now (regions .entry)) location (perComponent (now (index .entry)) switches) target ⌝ }
+    requires { ⌜ (landing .target < locationCount (componentsFrom (now model) (now index))) × KnownSwitches (now index) (landing .switches) ⌝ }
+    requires { ⌜ (96 ≤ length (now table)) × HereIn (now model) (now index) (now regions) location here (now table) ⌝ }
+    ensures { λ r. ⌜ tasksOf (now (model .entry)) (now (second .entry)) (variablesIn (now (index .entry))) (now (table .exit)) r ≡ jumpTasksFor (now (model .entry)) (now (index .entry)) (now (second .entry)) (now (regions .entry)) location (perComponent (now (index .entry)) (landing .switches)) (landing .target) ⌝ }
     ensures { λ r. ⌜ GoodGroup (now (model .entry)) (now (second .entry)) (variablesIn (now (index .entry))) (now (table .exit)) r ⌝ }
+    ensures { λ _. ⌜ Kept (4 * here + 4) 96 (now (table .entry)) (now (table .exit)) ⌝ }
 {
-    if regions[2 * (target as usize) + 1] == 0 {
-        return no_group();
-    }
-    let targets = modes_at(model, index, target);
-    let hypotheses = jump_table(
-        model,
-        index,
-        second,
-        regions,
-        location,
-        modes,
-        targets,
-        switches,
-        table,
-    );
-    region_group(regions, target, hypotheses, index[VARIABLES_AT] as usize)
+    let targets = modes_at(model, index, landing.target);
+    let switches = landing.switches;
+    let segments = jump_table(model, index, targets, switches, here, table);
+    let n = index[VARIABLES_AT] as usize;
+    region_group(regions, landing.target, table, segments, n, n + n)
 }

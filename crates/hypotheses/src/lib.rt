@@ -2,12 +2,14 @@
 pub mod groups;
 pub mod tables;
 
-// What is to be proved from one table: how many hypotheses it has, how many goals, where the goals' rows begin and on which unknowns they
-// are put; and whether it is an unsafe condition, whose goal is no row.
+// What is to be proved from one table: how many segments and how many hypotheses it has, how many goals, where the goals' rows begin, on
+// which unknowns they are put, and how many unknowns there are; and whether it is an unsafe condition, whose goal is no row.
 pub struct Group {
+    pub segments: usize,
     pub hypotheses: u32,
     pub goals: u32,
     pub from: usize,
     pub shift: usize,
+    pub width: usize,
     pub zero: bool,
 }

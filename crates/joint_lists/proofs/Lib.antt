@@ -1,2 +1,4 @@
 pub mod ListLaws
 pub mod RecordLaws
+pub mod PackLaws
+pub mod BatchLaws

@@ -1,17 +1,12 @@
 -- The joint list by its slots: it is the whole list from the first slot on; how it goes on from a place; a record of it from what the code
--- finds; and the answer for a table with more room than any list needs. Assumes nothing.
+-- finds; and the index of a sheet. Assumes nothing.
 use mathlib.Core.Path.{_≡_, refl, sym, ap, ap₂, _∙_}
-use mathlib.Core.Bool.{cond}
 use mathlib.Core.List.{List, [], _∷_, _++_, map, append-assoc}
-use Prim.Native.Nat.{ℕ, zero, suc, _+_, _*_, _-_, _/_, _%_, _≤_, _<_, min}
-use native.Mathlib.Nat.{min-eq-left, min-eq-right}
-use native.Mathlib.Decide.{decLe}
+use Prim.Native.Nat.{ℕ, zero, suc, _+_, _*_, _-_, _/_, _%_, _≤_, _<_}
 use native.Mathlib.Numerals.{add-one}
 use native.Mathlib.Omega.{arith}
-use lib.Dec.{leb}
 use lib.ListN.{length, getD, drop, length-append, length-map, List·getD-append}
 use lib.Seq.{drop-cons, drop-nil, drop-append-add}
-use borrow.Author.Tests.{le-leb}
 use Rattle.fields.specs.declared.Next.{Next}
 use Rattle.fields.specs.declared.Next.the-variants as next
 use Rattle.fields.specs.Answers.{gotAs}
@@ -21,16 +16,17 @@ use Rattle.formats.specs.Locations.{locationCount, modesAt, locationOf}
 use Rattle.formats.specs.Joint.{switchesOf, modesAfter, JointSwitch, jointsOf, joints, countUp, joinAll, fourSwitches, jointFrom}
 use Rattle.formats.specs.ModelSheet.{examLimits, readModel}
 use Rattle.models.specs.Index.{componentsFrom, modelFrom, GoodIndex}
-use Rattle.model_sheets.specs.Read.{indexWith}
+use Rattle.model_sheets.specs.Limits.{CountedAfter}
+use Rattle.formats.specs.JointTotals.{eventTotal}
 use Rattle.formats.proofs.Gives.{got-value}
-use Rattle.joint_switches.proofs.JointLoops.{switches-few, record-at}
-use Rattle.rules.specs.declared.Answer.{Answer}
+use Rattle.formats.proofs.JointCounts.{event-length}
+use Rattle.formats.proofs.JointProduct.{countable, event-none}
+use Rattle.models.proofs.GoodIndexLaws.{good-components}
+use Rattle.joint_switches.proofs.JointLoops.{record-at}
 use Rattle.rules.specs.declared.Joint.{Joint}
-use Rattle.rules.specs.Marking.{answer, withModel}
-use Rattle.rules.specs.Beside.{recordOf, listAnswer}
-use Rattle.joint_lists.specs.Records.{slotJoints, jointsFrom, recordsFrom, noJoint, modelBy, indexBy, IndexOf}
+use Rattle.rules.specs.Beside.{recordOf}
+use Rattle.joint_lists.specs.Records.{slotJoints, jointsFrom, recordsFrom, noJoint, modelBy, SheetIndex}
 use Rattle.papers.proofs.JoinedLaws.{joinedOn, joined-first, joined-none}
-use Rattle.papers.proofs.PaperLaws.{few-joints}
 
 -- numbers in a row, and lists that are joined
 count-both : (i m n : ℕ) → countUp i (m + n) ≡ countUp i m ++ countUp (i + m) n
@@ -147,10 +143,15 @@ pub slot-length : (components : List Component) (slot : ℕ) → length (slotJoi
 unfolding slotJoints jointsOf
 slot-length components slot = length-map (switchesOf components (modesAt components (slot / 16)) (slot % 16)) _
 
-pub slot-few : (model index : List ℕ) (slot : ℕ) → GoodIndex model index → length (slotJoints (componentsFrom model index) slot) ≤ 1048576
-slot-few model index slot g =
+-- a slot of an event that has no joint switch at all
+pub records-none : {model index : List ℕ} → GoodIndex model index → (slot x : ℕ) → slot < 16 * locationCount (componentsFrom model index) → eventTotal (componentsFrom model index) (slot % 16) ≡ 0 → recordsFrom model index (slot + 1) x ≡ recordsFrom model index slot x
+records-none {model} {index} g slot x h none =
     let components = componentsFrom model index in
-    omega (arith, slot-length components slot, switches-few g (modesAt components (slot / 16)) (slot % 16))
+    let empty : 0 ≡ length (slotJoints components slot) = sym (slot-length components slot ∙ sym (event-length components (slot / 16) (slot % 16)) ∙ ap (λ (js : List JointSwitch). length js) (event-none (countable (good-components g)) (slot % 16) (slot / 16) none (omega arith))) in
+    sym (records-past model index slot x 0 h empty (omega arith) ∙ ap (recordsFrom model index (slot + 1)) (whole x))
+  where
+    whole : (x : ℕ) → x - 0 ≡ x
+    whole x = omega arith
 
 -- a record from its parts
 pub slot-record : (components : List Component) (slot x : ℕ) (switches : List ℕ) (target : ℕ) → x < length (slotJoints components slot) → switches ≡ fourSwitches (getD (switchesOf components (modesAt components (slot / 16)) (slot % 16)) x []) → target ≡ locationOf components (modesAfter components (modesAt components (slot / 16)) (getD (switchesOf components (modesAt components (slot / 16)) (slot % 16)) x [])) → _≡_ {A = Joint} (record { source = slot / 16; event = slot % 16; switches = switches; target = target }) (recordOf (getD (slotJoints components slot) x noJoint))
@@ -172,39 +173,17 @@ index-has model index x e =
     ∙ by-index (modelFrom model index) x
     ∙ e
 
--- after a refusal there are zeros
-cleared-by : (m : Model) (index : List ℕ) (x : Next) → indexBy (gotAs m x) index ≡ indexWith index x
-unfolding gotAs indexWith indexBy
-cleared-by m index (next.At end) = refl
-cleared-by m index (next.Refused number place) = refl
+read-at : (m m' : Model) (x : Next) (n : ℕ) → gotAs m x ≡ got m' n → (end : ℕ) × (x ≡ next.At end)
+unfolding gotAs
+read-at m m' (next.At p) n e = (p, refl)
+read-at m m' (next.Refused number place) n e = let z : _≡_ {A = ℕ} 0 1 = cc in absurd (omega arith)
 
-pub index-of : (model index : List ℕ) (x : Next) → gotAs (modelFrom model index) x ≡ readModel examLimits model → indexWith index x ≡ index → IndexOf model index
-index-of model index x e same =
-    (index-has model index x e, ap (λ (g : Got Model). indexBy g index) (sym e) ∙ cleared-by (modelFrom model index) index x ∙ same)
+pub index-of : (model index : List ℕ) (x : Next) → gotAs (modelFrom model index) x ≡ readModel examLimits model → CountedAfter model index x → SheetIndex model index
+index-of model index x e counted =
+    record { same = index-has model index x e; counted = λ m next q. let r = read-at (modelFrom model index) m x next (e ∙ q) in counted (r .0) (r .1) }
 
 pub index-model : (model index : List ℕ) → modelBy model index ≡ readModel examLimits model → (m : Model) (next : ℕ) → readModel examLimits model ≡ got m next → m ≡ modelFrom model index
 unfolding modelBy
 index-model model index same m next e =
     let put : modelBy model index ≡ got (modelFrom model index) next = ap (λ (g : Got Model). elim g [ got m next ↦ got (modelFrom model index) next | refused number at ↦ refused number at ]) e in
     got-value (sym e ∙ sym same ∙ put)
-
--- The answer: a table with more room than any list needs has room enough
-room-same : (n k : ℕ) → n ≤ 4096 → leb n (min k 4097) ≡ leb n k
-room-same n k h = go (decLe k 4097)
-  where
-    go : Dec (k ≤ 4097) → leb n (min k 4097) ≡ leb n k
-    go (yes l) = ap (leb n) (min-eq-left l)
-    go (no f) = let l : 4097 ≤ k = omega arith in ap (leb n) (min-eq-right l) ∙ le-leb n 4097 (omega arith) ∙ sym (le-leb n k (omega arith))
-
-abbrev roomAnswer : List ℕ → ℕ → Model → Answer
-roomAnswer model lent m = cond (leb (length (joints (m .components))) lent) (answer 0 0 (length model) (length (joints (m .components))) 0) (answer 15 2 (length (joints (m .components))) 0 0)
-
-pub answer-same : (model : List ℕ) (records lent : ℕ) → lent ≡ min records 4097 → listAnswer examLimits model lent ≡ listAnswer examLimits model records
-unfolding listAnswer withModel examLimits
-answer-same model records lent e = ap (listAnswer examLimits model) e ∙ go (readModel examLimits model) refl
-  where
-    go : (g : Got Model) → readModel examLimits model ≡ g → withModel g (λ m. roomAnswer model (min records 4097) m) ≡ withModel g (λ m. roomAnswer model records m)
-    go (refused number place) e = refl
-    go (got m next) e =
-        ap (λ b. cond b (answer 0 0 (length model) (length (joints (m .components))) 0) (answer 15 2 (length (joints (m .components))) 0 0))
-        (room-same (length (joints (m .components))) records (few-joints examLimits model m next e))

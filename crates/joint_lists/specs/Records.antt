@@ -3,15 +3,16 @@
 use mathlib.Core.Path.{_≡_}
 use mathlib.Core.Bool.{cond}
 use mathlib.Core.List.{List, [], map}
-use Prim.Native.Nat.{ℕ, _*_, _-_, _/_, _%_, _<_}
+use Prim.Native.Nat.{ℕ, _*_, _-_, _/_, _%_}
 use lib.Dec.{leb}
-use lib.ListN.{length, drop, replicate}
+use lib.ListN.{length, drop}
 use Rattle.formats.specs.Reading.{Got, got, refused}
 use Rattle.formats.specs.Model.{Component, Model}
 use Rattle.formats.specs.Locations.{locationCount}
 use Rattle.formats.specs.Joint.{JointSwitch, jointsOf, joints, countUp, joinAll}
 use Rattle.formats.specs.ModelSheet.{examLimits, readModel}
-use Rattle.models.specs.Index.{componentsFrom, modelFrom, indexLength}
+use Rattle.models.specs.Index.{componentsFrom, modelFrom}
+use Rattle.joint_switches.specs.Counted.{Counted}
 use Rattle.rules.specs.declared.Answer.{Answer}
 use Rattle.rules.specs.declared.Joint.{Joint}
 use Rattle.rules.specs.Marking.{answer}
@@ -39,11 +40,6 @@ recordsFrom model index slot x = map recordOf (jointsFrom (componentsFrom model 
 unfoldable pub noJoint : JointSwitch
 noJoint = record { source = 0; event = 0; switches = []; target = 0 }
 
--- a place at which a joint switch stands
-pub record SlotStands (components : List Component) (slot x : ℕ) : Type 0 where
-  pub below : slot < 16 * locationCount components
-  pub here : x < length (slotJoints components slot)
-
 -- what a sheet gives, with the model that an index has in place of the sheet's: an index of the sheet changes nothing
 unfoldable pub modelBy : List ℕ → List ℕ → Got Model
 modelBy model index =
@@ -52,11 +48,7 @@ modelBy model index =
       | refused number at ↦ refused number at
     ]
 
--- the index that is given back with what a sheet gives: the one that was read or, where the sheet is no model, zeros
-unfoldable pub indexBy : Got Model → List ℕ → List ℕ
-indexBy (got m next) index = index
-indexBy (refused number place) index = replicate indexLength 0
-
--- an index of a sheet
-abbrev pub IndexOf : List ℕ → List ℕ → Type 0
-IndexOf model index = (modelBy model index ≡ readModel examLimits model) × (indexBy (readModel examLimits model) index ≡ index)
+-- the index of a sheet: it has the sheet's model, with its counts; where the sheet is no model it is free
+pub record SheetIndex (model index : List ℕ) : Type 0 where
+  pub same : modelBy model index ≡ readModel examLimits model
+  pub counted : (m : Model) (next : ℕ) → readModel examLimits model ≡ got m next → Counted model index

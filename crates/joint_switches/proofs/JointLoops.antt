@@ -9,12 +9,12 @@ use native.Mathlib.Numerals.{add-one}
 use native.Mathlib.Omega.{arith}
 use lib.Arith.{le-zero}
 use lib.Dec.{T, eqb}
-use lib.ListN.{length, getD, take, drop, set, replicate, drop-of-length-le, List·getD-append, replicate-append-replicate}
+use lib.ListN.{length, getD, take, drop, set, replicate, List·getD-append, replicate-append-replicate}
 use lib.Seq.{drop-cons, getD-take, take-at, take-take, length-take-le}
 use Rattle.farkas.specs.Lists.{All, none, more}
 use Rattle.formats.specs.Model.{Component, hasEvent}
-use Rattle.formats.specs.Locations.{locationCount, modesAt, locationOf}
-use Rattle.formats.specs.Joint.{stays, switchOf, bit, scopeMask, moverCount, isJoint, modesAfter, leaving, allStaying, silent, together, switchesOf, countUp, JointSwitch, jointsOf, joints, fourSwitches, jointFrom}
+use Rattle.formats.specs.Locations.{locationCount, modesAt}
+use Rattle.formats.specs.Joint.{stays, bit, scopeMask, isJoint, leaving, allStaying, silent, together, switchesOf, countUp, JointSwitch, jointsOf, joints, fourSwitches, jointFrom}
 use Rattle.models.specs.Index.{entry, componentsFrom, GoodIndex}
 use Rattle.models.specs.Counts.{componentAt, perComponent, KnownSwitches}
 use Rattle.formats.specs.Parts.{parts}
@@ -23,8 +23,8 @@ use Rattle.formats.proofs.Locations.{HaveModes, count-positive}
 use Rattle.formats.proofs.Members.{in-map, in-joined, in-count}
 use Rattle.formats.proofs.Joint.{Known, no-numbers, number-and}
 use Rattle.formats.proofs.JointList.{listed-joint}
-use Rattle.models.proofs.GoodIndexLaws.{components-length, component-at, switch-length, components-drop, components-back, components-end, good-component, good-components, few-components}
-use Rattle.formats.proofs.JointCounts.{count-most, mask-below, silent-length, silent-most, together-length, together-most, left-positive, together-some, mapped-at, silent-now, silent-later, modes-digit, together-digit, jointsIn}
+use Rattle.models.proofs.GoodIndexLaws.{components-length, component-at, switch-length, components-back, components-end, good-component, good-components, few-components}
+use Rattle.formats.proofs.JointCounts.{count-most, mask-below, silent-length, silent-most, together-length, together-most, mapped-at, modes-digit, jointsIn}
 
 -- an array of four that is filled from its last number back, and the quotient that is left of a number whose digits are taken off
 fill-last : (d v k : ℕ) (rest : List ℕ) → set (replicate (suc k) d ++ rest) k v ≡ replicate k d ++ (v ∷ rest)
@@ -132,9 +132,6 @@ togetherOn s index numbers e k = together (componentsOn s index k) (numbersOn in
 abbrev pub digitsOn : List ℕ → List ℕ → List ℕ → ℕ → ℕ → ℕ → List ℕ
 digitsOn s index numbers e x k = filledTo (4 - k) (getD (togetherOn s index numbers e k) (x % length (togetherOn s index numbers e k)) [])
 
-abbrev pub targetOn : List ℕ → List ℕ → List ℕ → List ℕ → ℕ → ℕ
-targetOn s index modes switches k = locationOf (componentsOn s index k) (modesAfter (componentsOn s index k) (numbersOn index modes k) (numbersOn index switches k))
-
 -- the numbers of an array that stand for components
 module _ (index numbers : List ℕ) (long : entry index 1 ≤ length numbers) where
   pub per-component-length : length (perComponent index numbers) ≡ entry index 1
@@ -158,7 +155,7 @@ module _ (index numbers : List ℕ) (long : entry index 1 ≤ length numbers) wh
       back k h = omega arith
 
 -- the modes of a location stand in front of the numbers for absent components
-modes-length : (components : List Component) (location : ℕ) → length (modesAt components location) ≡ length components
+pub modes-length : (components : List Component) (location : ℕ) → length (modesAt components location) ≡ length components
 unfolding modesAt
 modes-length [] location = refl
 modes-length (c ∷ components) location = ap suc (modes-length components (location % locationCount components))
@@ -237,11 +234,6 @@ module _ {s index : List ℕ} (g : GoodIndex s index) where
   pub together-few : (k : ℕ) (modes : List ℕ) (e : ℕ) → length (together (componentsOn s index k) modes e) ≤ 1048576
   together-few k modes e = le-trans (together-most (few-switches k) modes e) (pow-le-pow-right {n = 32} (omega arith) (few-components g k))
 
-  pub switches-few : (modes : List ℕ) (e : ℕ) → length (switchesOf (componentsFrom s index) modes e) ≤ 1048576
-  unfolding switchesOf
-  switches-few modes zero = omega (arith, silent-few 0 modes)
-  switches-few modes (suc e) = few-or-none (eqb (moverCount (componentsFrom s index) (suc e)) 0) (together (componentsFrom s index) modes (suc e)) (together-few 0 modes (suc e))
-
   -- joint switches, in a location with these modes
   module _ (numbers : List ℕ) (long : entry index 1 ≤ length numbers) where
     pub silent-starts : 0 ≡ length (silentOn s index numbers (entry index 1))
@@ -258,37 +250,6 @@ module _ {s index : List ℕ} (g : GoodIndex s index) where
         ∙ silent-length (componentAt s index (k - 1)) (componentsOn s index k) (getD numbers (k - 1) 0) (numbersOn index numbers k)))
 
     -- one of the silent ones, by its number: it is that of this component, or it is to come
-    silent-next : (k : ℕ) → k < entry index 1 → silentOn s index numbers k ≡ silent (componentAt s index k ∷ componentsOn s index (k + 1)) (getD numbers k 0 ∷ numbersOn index numbers (k + 1))
-    silent-next k h = rw (components-drop s index k h, per-component-drop index numbers long k h) refl
-
-    pub silent-found : (whole : List ℕ) (k n left v : ℕ) → k < entry index 1 → n ≡ length (leaving (componentAt s index k) (getD numbers k 0) 0) → left < n → v ≡ getD (leaving (componentAt s index k) (getD numbers k 0) 0) left stays → fourSwitches (replicate k stays ++ getD (silentOn s index numbers k) left []) ≡ whole → set (replicate 4 stays) k v ≡ whole
-    silent-found whole k n left v h p l q r =
-        let c = componentAt s index k in
-        let mode = getD numbers k 0 in
-        let components = componentsOn s index (k + 1) in
-        let here : getD (silentOn s index numbers k) left [] ≡ v ∷ allStaying components =
-        ap (λ xs. getD xs left []) (silent-next k h) ∙ silent-now c components mode (numbersOn index numbers (k + 1)) left [] (omega arith) ∙ ap (λ (i : ℕ). i ∷ allStaying components) (sym q) in
-        sym (ap (λ xs. fourSwitches (replicate k stays ++ xs)) here ∙ alone-four k v components (omega (arith, g .few))) ∙ r
-
-    pub silent-passed : (whole : List ℕ) (k n left : ℕ) → k < entry index 1 → n ≡ length (leaving (componentAt s index k) (getD numbers k 0) 0) → n ≤ left → left < length (silentOn s index numbers k) → fourSwitches (replicate k stays ++ getD (silentOn s index numbers k) left []) ≡ whole → (left - n < length (silentOn s index numbers (k + 1))) × (fourSwitches (replicate (k + 1) stays ++ getD (silentOn s index numbers (k + 1)) (left - n) []) ≡ whole)
-    silent-passed whole k n left h p l b r =
-        let c = componentAt s index k in
-        let mode = getD numbers k 0 in
-        let components = componentsOn s index (k + 1) in
-        let modes = numbersOn index numbers (k + 1) in
-        let all : left < length (silent (c ∷ components) (mode ∷ modes)) = omega (arith, ap length (silent-next k h)) in
-        let here : getD (silentOn s index numbers k) left [] ≡ stays ∷ getD (silent components modes) (left - n) [] =
-        ap (λ xs. getD xs left []) (silent-next k h) ∙ silent-later c components mode modes left [] (omega arith) all ∙ ap (λ (m : ℕ). stays ∷ getD (silent components modes) (left - m) []) (sym p) in (
-          omega (arith, silent-length c components mode modes),
-          ap fourSwitches (one-more-stays k (getD (silent components modes) (left - n) []))
-              ∙ sym (ap (λ xs. fourSwitches (replicate k stays ++ xs)) here) ∙ r,
-        )
-
-    pub silent-past : (k left : ℕ) → entry index 1 ≤ k → left < length (silentOn s index numbers k) → ⊥
-    unfolding silent
-    silent-past k left h b =
-        omega (arith, ap (λ components. length (silent components (numbersOn index numbers k))) (drop-of-length-le (componentsFrom s index) {i = k} (omega (arith, components-length s index))))
-
     pub together-starts : (e : ℕ) → 1 ≡ length (togetherOn s index numbers e (entry index 1))
     unfolding together
     together-starts e = sym (ap (λ components. length (together components (numbersOn index numbers (entry index 1)) e)) (components-end s index))
@@ -303,57 +264,12 @@ module _ {s index : List ℕ} (g : GoodIndex s index) where
         ∙ together-length (componentAt s index (k - 1)) (componentsOn s index k) (getD numbers (k - 1) 0) (numbersOn index numbers k) e))
 
     -- one of those of an event, by its digits
-    pub parts-some : (e x k : ℕ) → x < length (together (componentsFrom s index) (perComponent index numbers) e) → 0 < k → k ≤ entry index 1 → 0 < length (parts (componentAt s index (k - 1)) (getD numbers (k - 1) 0) e)
-    parts-some e x k b h l =
-        left-positive (length (parts (componentAt s index (k - 1)) (getD numbers (k - 1) 0) e)) (length (togetherOn s index numbers e k))
-        (rw (together-goes-on e k _ _ h l refl refl) (together-some (componentsFrom s index) (perComponent index numbers) e (k - 1) (omega arith)))
-
-    pub digits-start : (e x : ℕ) → replicate 4 stays ≡ replicate (entry index 1) stays ++ digitsOn s index numbers e x (entry index 1)
-    unfolding together
-    digits-start e x =
-        let last = togetherOn s index numbers e (entry index 1) in
-        let one : last ≡ [] ∷ [] = ap (λ components. together components (numbersOn index numbers (entry index 1)) e) (components-end s index) in
-        let none : getD last (x % length last) [] ≡ [] = ap (λ xs. getD xs (x % length last) []) one ∙ nil-only (x % length last) in
-        fill-none stays (entry index 1) (g .few)
-        ∙ ap (λ xs. replicate (entry index 1) stays ++ xs) (sym (ap (filledTo (4 - entry index 1)) none ∙ padded-none (4 - entry index 1) (omega arith)))
-
-    pub digits-go-on : (e x k n left v : ℕ) (switches : List ℕ) → x < length (together (componentsFrom s index) (perComponent index numbers) e) → 0 < k → k ≤ entry index 1 → n ≡ length (parts (componentAt s index (k - 1)) (getD numbers (k - 1) 0) e) → v ≡ getD (parts (componentAt s index (k - 1)) (getD numbers (k - 1) 0) e) (left % n) stays → left ≡ x / length (togetherOn s index numbers e k) → switches ≡ replicate k stays ++ digitsOn s index numbers e x k → set switches (k - 1) v ≡ replicate (k - 1) stays ++ digitsOn s index numbers e x (k - 1)
-    digits-go-on e x k n left v switches b h l p q r t =
-        let c = componentAt s index (k - 1) in
-        let mode = getD numbers (k - 1) 0 in
-        let components = componentsOn s index k in
-        let modes = numbersOn index numbers k in
-        let rest = getD (together components modes e) (x % length (together components modes e)) [] in
-        let digit : v ∷ rest ≡ getD (together (c ∷ components) (mode ∷ modes) e) (x % length (together (c ∷ components) (mode ∷ modes) e)) [] =
-        rw (q, p, r) (sym (together-digit c components mode modes e x [] (parts-some e x k b h l) (together-some (componentsFrom s index) (perComponent index numbers) e k (omega arith)))) in
-        rw t
-        (fill-back stays v k (filledTo (4 - k) rest) h
-        ∙ ap (λ xs. replicate (k - 1) stays ++ xs)
-        (padded-more k v rest h (omega (arith, g .few))
-        ∙ ap (filledTo (4 - (k - 1))) (digit ∙ ap (λ xs. getD xs (x % length xs) []) (sym (together-back e k h l)))))
-
     pub digits-end : (e x k : ℕ) (switches : List ℕ) → x < length (together (componentsFrom s index) (perComponent index numbers) e) → k ≤ 0 → switches ≡ replicate k stays ++ digitsOn s index numbers e x k → switches ≡ fourSwitches (getD (together (componentsFrom s index) (perComponent index numbers) e) x [])
     digits-end e x k switches b h t =
         t
         ∙ ap (λ (i : ℕ). replicate i stays ++ digitsOn s index numbers e x i) (le-zero h)
         ∙ ap (λ (i : ℕ). filledTo 4 (getD (together (componentsFrom s index) (perComponent index numbers) e) i [])) (mod-eq-of-lt b)
         ∙ padded-four (getD (together (componentsFrom s index) (perComponent index numbers) e) x [])
-
-  -- the location that a joint switch leads to
-  module _ (modes switches : List ℕ) (long : entry index 1 ≤ length modes) (wide : entry index 1 ≤ length switches) where
-    pub target-starts : 0 ≡ targetOn s index modes switches (entry index 1)
-    unfolding locationOf
-    target-starts =
-        sym (ap (λ components. locationOf components (modesAfter components (numbersOn index modes (entry index 1)) (numbersOn index switches (entry index 1)))) (components-end s index))
-
-    pub target-goes-on : (k v unit location : ℕ) → 0 < k → k ≤ entry index 1 → v ≡ cond (eqb (getD switches (k - 1) 0) stays) (getD modes (k - 1) 0) (switchOf (componentAt s index (k - 1)) (getD switches (k - 1) 0) .target) → unit ≡ locationCount (componentsOn s index k) → location ≡ targetOn s index modes switches k → v * unit + location ≡ targetOn s index modes switches (k - 1)
-    unfolding locationOf modesAfter
-    target-goes-on k v unit location h l p q r =
-        rw (components-back s index k h l, per-component-back index modes long k h l, per-component-back index switches wide k h l, p, q, r) refl
-
-    pub target-ends : (k location : ℕ) → k ≤ 0 → location ≡ targetOn s index modes switches k → location ≡ locationOf (componentsFrom s index) (modesAfter (componentsFrom s index) (perComponent index modes) (perComponent index switches))
-    target-ends k location h r =
-        r ∙ ap (λ (i : ℕ). targetOn s index modes switches i) (le-zero h)
 
 -- What is found by its number. It is the switches of that record of the list, and a joint switch by the test
 pub record-at : (components : List Component) (location e x : ℕ) (d : JointSwitch) → x < length (switchesOf components (modesAt components location) e) → getD (jointsOf components location e) x d ≡ jointFrom components location e (getD (switchesOf components (modesAt components location) e) x [])

@@ -157,7 +157,7 @@ no-step c e = sum-same (λ w. bit (eqb (0 * w .target + w .label) e)) (λ w. bit
     same t l = omega arith
 
 pub labels-told : {s index table : List ℕ} → ByLabel s index table → (k e : ℕ) → k < entry index 1 → e ≤ 15 → getD table (16 * k + e) 0 ≡ labelled (componentAt s index k) e
-labels-told {s} {index} w k e h l = w .components k h .counted e (omega arith) ∙ no-step (componentAt s index k) e
+labels-told {s} {index} w k e h l = w .components k e h (omega arith) ∙ no-step (componentAt s index k) e
 
 two-digits : (mode e target label : ℕ) → e ≤ 15 → label ≤ 15 → Dec (label ≡ e) → Dec (target ≡ mode) → bit (eqb (16 * target + label) (16 * mode + e)) ≡ bit (eqb label e && eqb target mode)
 two-digits mode e target label h l (yes p) (yes q) = ap bit (eq-eqb (16 * target + label) (16 * mode + e) (omega arith) ∙ sym (rw (eq-eqb label e p, eq-eqb target mode q) refl))
@@ -173,4 +173,4 @@ by-digits mode e h (more {a = w} g rest) =
 pub entering-told : {s index table : List ℕ} → GoodIndex s index → ByMode s index table → (k mode e : ℕ) → k < entry index 1 → mode < 8 → e ≤ 15 → getD table (128 * k + (16 * mode + e)) 0 ≡ entering (componentAt s index k) mode e
 unfolding numbered numberOf entering
 entering-told {s} {index} g w k mode e h m l =
-    w .components k h .counted (16 * mode + e) (omega arith) ∙ by-digits mode e l (good-component g k h .switches)
+    w .components k (16 * mode + e) h (omega arith) ∙ by-digits mode e l (good-component g k h .switches)

@@ -3,7 +3,6 @@
 use mathlib.Core.Path.{_≡_, refl, sym, ap, ap₂, _∙_}
 use mathlib.Core.List.{List, [], _∷_, map}
 use Prim.Native.Nat.{ℕ, zero, suc, _+_, _*_, _≤_, _<_}
-use native.Mathlib.Nat.{lt-irrefl}
 use native.Mathlib.Omega.{arith}
 use lib.ListN.{length, getD, set, replicate}
 use lib.Seq.{getD-set-same, getD-set-other, getD-take}
@@ -40,9 +39,6 @@ by-numbers f (x ∷ xs) i h =
 
     one-later : (i p : ℕ) → i + suc p ≡ suc i + p
     one-later i p = omega arith
-
-pub blank-after : (k v : ℕ) (xs : List ℕ) → Blank k xs → Blank (k + 1) (set xs k v)
-blank-after k v xs b = record { blank = λ p h. getD-set-other xs k p v 0 (λ e. lt-irrefl p (omega (arith, e, h))) ∙ b .blank p (omega (arith, h)) }
 
 -- one more at a place: there is one more there, and at any other place as many as before
 pub raised-here : (table : List ℕ) (place here rest : ℕ) {n all : ℕ} → place < length table → here ≡ place → n ≡ 1 + rest → getD table here 0 + n ≡ all → getD (set table place (getD table place 0 + 1)) here 0 + rest ≡ all

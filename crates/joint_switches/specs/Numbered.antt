@@ -30,7 +30,7 @@ pub record NumberedAt (width step : ℕ) (s index : List ℕ) (k : ℕ) (table :
 
 -- the parts of all components
 pub record Numbered (width step : ℕ) (s index table : List ℕ) : Type 0 where
-  pub components : (k : ℕ) → k < entry index 1 → NumberedAt width step s index k table
+  pub components : (k p : ℕ) → k < entry index 1 → p < width → getD table (width * k + p) 0 ≡ numbered step (componentAt s index k) p
 
 -- by labels alone, sixteen places to a component; and by modes and labels, sixteen places to a mode
 abbrev pub ByLabel : List ℕ → List ℕ → List ℕ → Type 0

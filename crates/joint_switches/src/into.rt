@@ -6,13 +6,13 @@ use crate::numbered::count_switches;
 use models::layout::FIRST_TOTAL;
 use models::layout::Index;
 ghost use mathlib.Core.Path.{_≡_};
-ghost use Prim.Native.Nat.{_+_, _≤_, _<_};
-ghost use lib.ListN.{length};
+ghost use Prim.Native.Nat.{ℕ, _+_, _*_, _≤_, _<_};
+ghost use lib.ListN.{length, getD};
 ghost use Rattle.formats.specs.JointTotals.{entering, arrivals, togetherInto, silentInto, eventInto, jointsInto};
 ghost use Rattle.models.specs.Index.{entry, GoodIndex, componentsFrom, componentsIn};
 ghost use Rattle.models.specs.Counts.{componentAt, perComponent};
 ghost use Rattle.joint_switches.specs.Tables.{Blank, SmallModes};
-ghost use Rattle.joint_switches.specs.Numbered.{ByMode};
+ghost use Rattle.joint_switches.specs.Numbered.{numbered, ByMode};
 ghost use Rattle.joint_switches.specs.Counted.{Counted};
 
 // How many switches lead into each of eight modes with each of sixteen labels, for four components.
@@ -24,7 +24,7 @@ pub type EnteringTable = [u8; ENTERING_LENGTH];
 pub fn count_entering(s: &[u8], index: &Index, table: &mut [u8])
     requires { ⌜ GoodIndex (now s) (now index) ⌝ }
     requires { ⌜ (512 ≤ length (now table)) × Blank 0 (now table) ⌝ }
-    ensures { λ _. ⌜ ByMode (now (s .entry)) (now (index .entry)) (now (table .exit)) ⌝ }
+    ensures { λ _. ⌜ ((k p : ℕ) → k < componentsIn (now (index .entry)) → p < 128 → getD (now (table .exit)) (128 * k + p) 0 ≡ numbered 16 (componentAt (now (s .entry)) (now (index .entry)) k) p) ⌝ }
 {
     count_switches(s, index, 128, 16, table);
 }

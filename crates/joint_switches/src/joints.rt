@@ -1,9 +1,5 @@
 // Locations and joint switches of a model, by its index. Joint switches are counted, and one is found by its number among those of its
 // location and event; they are never listed. The sheet is handed over for the contracts, which speak of the model: no byte of it is read.
-use crate::ways::WAYS_LENGTH;
-use crate::ways::list_ways;
-use crate::ways::way_at;
-use crate::ways::ways_count;
 use models::layout::BLOCK_LENGTH;
 use models::layout::COMPONENTS_AT;
 use models::layout::FIRST_BLOCK;
@@ -17,15 +13,15 @@ use models::layout::TARGET_AT;
 use models::model::has_event;
 ghost use mathlib.Core.Path.{_≡_};
 ghost use mathlib.Core.Bool.{cond, false};
-ghost use mathlib.Core.List.{[], _++_};
+ghost use mathlib.Core.List.{_++_};
 ghost use Prim.Native.Nat.{_+_, _-_, _<_, _≤_};
 ghost use lib.Dec.{eqb};
-ghost use lib.ListN.{length, getD, replicate};
+ghost use lib.ListN.{length, replicate};
 ghost use Rattle.formats.specs.Model.{hasEvent};
 ghost use Rattle.formats.specs.Locations.{locationCount, modesAt};
-ghost use Rattle.formats.specs.Joint.{stays, switchOf, leaves, bit, scopeMask, switchesOf, fourSwitches};
+ghost use Rattle.formats.specs.Joint.{stays, switchOf, leaves, bit, scopeMask};
 ghost use Rattle.models.specs.Index.{entry, GoodIndex, componentsFrom, componentsIn};
-ghost use Rattle.models.specs.Counts.{componentAt, perComponent, KnownSwitches, targetIn};
+ghost use Rattle.models.specs.Counts.{componentAt};
 
 // How many components there are.
 pub fn component_count(s: &[u8], index: &Index) -> usize
@@ -138,30 +134,6 @@ pub fn scope_mask(s: &[u8], index: &Index, e: u32) -> u32
     mask
 }
 
-// How many joint switches an event has in a location with these modes.
-pub fn event_count(s: &[u8], index: &Index, modes: [u8; 4], e: u32) -> u32
-    requires { ⌜ GoodIndex (now s) (now index) ⌝ }
-    requires { ⌜ e ≤ 15 ⌝ }
-    ensures { λ r. ⌜ r ≡ length (switchesOf (componentsFrom (now (s .entry)) (now (index .entry))) (perComponent (now (index .entry)) modes) e) ⌝ }
-{
-    let mut ways = [0u8; WAYS_LENGTH];
-    let counts = list_ways(s, index, modes, e, &mut ways);
-    ways_count(s, index, modes, e, &ways, counts)
-}
-
-// A joint switch by its number among those of its event in a location with these modes: a switch number per component, 255 for a staying
-// or absent one.
-pub fn joint_at(s: &[u8], index: &Index, modes: [u8; 4], e: u32, x: u32) -> [u8; 4]
-    requires { ⌜ GoodIndex (now s) (now index) ⌝ }
-    requires { ⌜ e ≤ 15 ⌝ }
-    requires { ⌜ x < length (switchesOf (componentsFrom (now s) (now index)) (perComponent (now index) modes) e) ⌝ }
-    ensures { λ r. ⌜ r ≡ fourSwitches (getD (switchesOf (componentsFrom (now (s .entry)) (now (index .entry))) (perComponent (now (index .entry)) modes) e) x []) ⌝ }
-{
-    let mut ways = [0u8; WAYS_LENGTH];
-    let counts = list_ways(s, index, modes, e, &mut ways);
-    way_at(s, index, modes, e, &ways, counts, x)
-}
-
 // A component's mode after a joint switch.
 pub fn mode_after(s: &[u8], index: &Index, k: usize, mode: u8, i: u8) -> u8
     requires { ⌜ GoodIndex (now s) (now index) ⌝ }
@@ -178,21 +150,4 @@ pub fn mode_after(s: &[u8], index: &Index, k: usize, mode: u8, i: u8) -> u8
             + SWITCH_LENGTH * (i as usize)
             + TARGET_AT] as u8
     }
-}
-
-// The location that a joint switch leads to.
-pub fn target_of(s: &[u8], index: &Index, modes: [u8; 4], switches: [u8; 4]) -> u32
-    requires { ⌜ GoodIndex (now s) (now index) ⌝ }
-    requires { ⌜ KnownSwitches (now index) switches ⌝ }
-    ensures { λ r. ⌜ r ≡ targetIn (now (s .entry)) (now (index .entry)) modes switches ⌝ }
-{
-    let mut location: u32 = 0;
-    let mut unit: u32 = 1;
-    let mut k = component_count(s, index);
-    while 0 < k {
-        k -= 1;
-        location = (mode_after(s, index, k, modes[k], switches[k]) as u32) * unit + location;
-        unit = mode_count(s, index, k) * unit;
-    }
-    location
 }

@@ -3,9 +3,7 @@ pub mod into;
 pub mod joints;
 pub mod numbered;
 pub mod slots;
-pub mod tally;
 pub mod totals;
-pub mod ways;
 
 // The joint switches of an event from a location, in a table: the event, how many there are, and how many ways each component has in an
 // event from 1.

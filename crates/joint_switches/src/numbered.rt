@@ -10,13 +10,13 @@ use models::layout::LABEL_AT;
 use models::layout::SWITCH_LENGTH;
 use models::layout::TARGET_AT;
 ghost use mathlib.Core.Path.{_≡_};
-ghost use Prim.Native.Nat.{_+_, _*_, _≤_, _<_};
-ghost use lib.ListN.{length};
+ghost use Prim.Native.Nat.{ℕ, _+_, _*_, _≤_, _<_};
+ghost use lib.ListN.{length, getD};
 ghost use Rattle.formats.specs.Joint.{switchOf};
 ghost use Rattle.models.specs.Index.{entry, GoodIndex, Kept, componentsIn};
 ghost use Rattle.models.specs.Counts.{componentAt};
 ghost use Rattle.joint_switches.specs.Tables.{Blank};
-ghost use Rattle.joint_switches.specs.Numbered.{numberOf, Wide, NumberedAt, Numbered};
+ghost use Rattle.joint_switches.specs.Numbered.{numberOf, numbered, Wide, NumberedAt};
 
 // Where a switch is counted: so many places to a component, and there by its number.
 fn place_of(s: &[u8], index: &Index, k: usize, i: usize, width: usize, step: usize) -> usize
@@ -49,7 +49,7 @@ fn count_part(s: &[u8], index: &Index, k: usize, width: usize, step: usize, tabl
 pub fn count_switches(s: &[u8], index: &Index, width: usize, step: usize, table: &mut [u8])
     requires { ⌜ GoodIndex (now s) (now index) × Wide width step ⌝ }
     requires { ⌜ (4 * width ≤ length (now table)) × Blank 0 (now table) ⌝ }
-    ensures { λ _. ⌜ Numbered width step (now (s .entry)) (now (index .entry)) (now (table .exit)) ⌝ }
+    ensures { λ _. ⌜ ((k p : ℕ) → k < componentsIn (now (index .entry)) → p < width → getD (now (table .exit)) (width * k + p) 0 ≡ numbered step (componentAt (now (s .entry)) (now (index .entry)) k) p) ⌝ }
 {
     let components = component_count(s, index);
     let mut k: usize = 0;

@@ -5,7 +5,7 @@
 // so many records lent as the number says; 4 asks for the program's line for the sheet's bytes as its input; 5 asks for the part that show
 // row gives, with the number's high byte as the obligation and its low byte as the hypothesis: how many bytes, and the bytes.
 use certificates::certificate::mark_certificate;
-use joint_lists::list::list_answer;
+use joint_lists::list::list_begin;
 use libc::STDIN_FILENO;
 use libc::STDOUT_FILENO;
 use marking::text::LINE_LENGTH;
@@ -83,7 +83,8 @@ fn mark<'a>(kind: usize, asked: u32, model: &'a [u8], sheet: &'a [u8]) {
     } else if kind == 2 {
         write_answer(b": ", mark_run(model, sheet));
     } else if kind == 3 {
-        write_answer(b": ", list_answer(model, asked));
+        let listing = list_begin(model, asked as usize);
+        write_answer(b": ", listing.answer);
     } else {
         write_part(show_row(model, sheet, asked / 256, asked % 256));
     }

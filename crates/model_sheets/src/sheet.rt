@@ -1,5 +1,4 @@
 // A model sheet, whole: its header, its body, no bytes left, then the limits on locations and joint switches.
-use crate::ReadModel;
 use fields::Field;
 use fields::Next;
 use fields::header::finished;
@@ -9,7 +8,6 @@ use joint_switches::totals::event_totals;
 use joint_switches::totals::joint_total;
 use models::body::body_into;
 use models::layout::FIRST_TOTAL;
-use models::layout::INDEX_LENGTH;
 use models::layout::Index;
 use models::layout::JOINTS_AT;
 use models::layout::LOCATIONS_AT;
@@ -20,7 +18,6 @@ ghost use Rattle.formats.specs.ModelSheet.{examLimits, readModel};
 ghost use Rattle.models.specs.Index.{GoodIndex, componentsFrom, modelFrom, Kept, indexLength};
 ghost use Rattle.fields.specs.Answers.{gotAs};
 ghost use Rattle.models.specs.Counts.{limitsTest};
-ghost use Rattle.model_sheets.specs.Read.{indexWith};
 ghost use Rattle.model_sheets.specs.Limits.{Small, Standing, OnlyCounts, CountedAfter};
 
 // How many locations and joint switches a model may have.
@@ -76,24 +73,6 @@ pub fn model_into(s: &[u8], index: &mut Index) -> Next
                 Next::Refused(number, place) => Next::Refused(number, place),
                 Next::At(next) => within_limits(s, index, next),
             },
-        },
-    }
-}
-
-// A model sheet, and the index that was read from it; after a refusal the index is all zeros.
-pub fn read_model(s: &[u8]) -> ReadModel
-    ensures { λ r. ⌜ gotAs (modelFrom (now (s .entry)) (r .index)) (r .next) ≡ readModel examLimits (now (s .entry)) ⌝ }
-    ensures { λ r. ⌜ indexWith (r .index) (r .next) ≡ r .index ⌝ }
-{
-    let mut index = [0u16; INDEX_LENGTH];
-    match model_into(s, &mut index) {
-        Next::Refused(number, place) => ReadModel {
-            next: Next::Refused(number, place),
-            index: [0u16; INDEX_LENGTH],
-        },
-        Next::At(end) => ReadModel {
-            next: Next::At(end),
-            index,
         },
     }
 }

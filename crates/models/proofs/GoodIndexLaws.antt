@@ -389,18 +389,5 @@ module _ {s index : List ℕ} (g : GoodIndex s index) where
         conditions = omega (arith, g .conditions, counted-length condition 0 (entry index 2));
       }
 
-  pub index-within : ModelWithin s (modelFrom s index)
-  unfolding modelFrom componentsFrom unsafeFrom
-  index-within =
-      let n = entry index 0 in
-      record {
-        components =
-            all-counted (λ k. componentFrom s n index (componentPlace k)) (entry index 1)
-            (λ k l. component-within s n index (componentPlace k) (g .blocks k l));
-        unsafe =
-            all-counted (λ u. unsafeFrom s n (entry index 1) index (unsafePlace u)) (entry index 2)
-            (λ u l. span-within s n index (unsafePlace u + 4) (g .unsafe u l));
-      }
-
   pub few-components : (k : ℕ) → length (drop k (componentsFrom s index)) ≤ 4
   few-components k = simp (length-drop, components-length) (omega (arith, g .few))

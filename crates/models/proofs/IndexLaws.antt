@@ -42,9 +42,6 @@ AgreeOn from until xs ys = (i : ℕ) → from ≤ i → i < until → entry ys i
 pub agree-low : {from until a b : ℕ} {xs ys : List ℕ} → Kept from until xs ys → b ≤ from → AgreeOn a b xs ys
 agree-low w h i p q = w .kept i (λ x y. omega arith)
 
-pub agree-high : {from until a b : ℕ} {xs ys : List ℕ} → Kept from until xs ys → until ≤ a → AgreeOn a b xs ys
-agree-high w h i p q = w .kept i (λ x y. omega arith)
-
 pub span-same : (s : List ℕ) (n : ℕ) (xs ys : List ℕ) (i : ℕ) → AgreeOn i (i + 2) xs ys → spanRows s n ys i ≡ spanRows s n xs i
 unfolding spanRows
 span-same s n xs ys i h = rw (h i (omega arith) (omega arith), h (i + 1) (omega arith) (omega arith)) refl

@@ -8,10 +8,10 @@ use lib.Dec.{eqb, leb}
 use lib.ListN.{length, getD, take}
 use Rattle.formats.specs.Reading.{Reader, _>>_, expect}
 use Rattle.formats.specs.Model.{Component, Unsafe}
-use Rattle.formats.specs.Locations.{locationCount, locationOf}
-use Rattle.formats.specs.Joint.{stays, joints, modesAfter}
+use Rattle.formats.specs.Locations.{locationCount}
+use Rattle.formats.specs.Joint.{stays, joints}
 use Rattle.formats.specs.ModelSheet.{Limits}
-use Rattle.models.specs.Index.{entry, componentPlace, componentFrom, unsafePlace, unsafeFrom, componentsFrom}
+use Rattle.models.specs.Index.{entry, componentPlace, componentFrom, unsafePlace, unsafeFrom}
 
 -- the k-th component of an index
 unfoldable pub componentAt : List ℕ → List ℕ → ℕ → Component
@@ -38,8 +38,3 @@ unfoldable pub limitsTest : Limits → List Component → ℕ → Reader (Unit {
 limitsTest limits components place = do
   expect (leb (locationCount components) (limits .locations)) 7 place
   expect (leb (length (joints components)) (limits .joints)) 8 place
-
--- where four switches lead from four modes
-abbrev pub targetIn : List ℕ → List ℕ → List ℕ → List ℕ → ℕ
-targetIn s index modes switches =
-    locationOf (componentsFrom s index) (modesAfter (componentsFrom s index) (perComponent index modes) (perComponent index switches))

@@ -1,6 +1,6 @@
 -- A joint switch that is found by its number among those of its location and event: its switches are known, and lead to a location.
 -- Assumes nothing.
-use mathlib.Core.Path.{_≡_, sym, ap, ap₂, _∙_, subst}
+use mathlib.Core.Path.{_≡_, sym, ap, _∙_, subst}
 use mathlib.Core.List.{List, []}
 use Prim.Native.Nat.{ℕ, _≤_, _<_}
 use lib.ListN.{length, getD}
@@ -36,8 +36,3 @@ module _ {model index : List ℕ} (g : GoodIndex model index) (location e x : �
 
     pub found-switches : KnownSwitches index switches
     found-switches = subst (λ (ws : List ℕ). KnownSwitches index ws) (sym found-four) (four-known g found-known)
-
-    pub found-target : (target : ℕ) → target ≡ locationOf (componentsFrom model index) (modesAfter (componentsFrom model index) (perComponent index modes) (perComponent index switches)) → target ≡ locationOf (componentsFrom model index) (modesAfter (componentsFrom model index) (modesAt (componentsFrom model index) location) foundAt)
-    found-target target t =
-        t
-        ∙ ap₂ (λ (ms ws : List ℕ). locationOf (componentsFrom model index) (modesAfter (componentsFrom model index) ms ws)) p found-first

@@ -14,7 +14,7 @@ use Rattle.model_sheets.proofs.SheetLaws.{header-read}
 use Rattle.rules.specs.declared.Answer.{Answer}
 use Rattle.rules.specs.Marking.{answer, withModel}
 use Rattle.papers.specs.Opening.{openedSecond, opened, Open}
-use Rattle.papers.proofs.PaperLaws.{accepted, header-body, header-stops, after-header, header-placed, model-placed}
+use Rattle.papers.proofs.PaperLaws.{accepted, header-body, header-stops, after-header}
 
 -- an answer that refuses has a number
 pub refuses : {a : Answer} (number sheet place done score : ℕ) → a ≡ answer number sheet place done score → 1 ≤ number → a .number ≡ 0 → ⊥
@@ -84,7 +84,7 @@ module _
   pub open-goes-on : (m : Model) (end version : ℕ) → readModel limits model ≡ got m end → header kind second 0 ≡ got version 4 → mark m (r m second 4) ≡ whole
   open-goes-on m end version e d = ap (mark m) (sym (after-header kind (r m) second version 4 d)) ∙ then m end e
 
--- nothing of it but number, sheet and place is other than 0, and its place lies in a sheet
+-- nothing of it but number, sheet and place is other than 0
 module _ (limits : Limits) (kind : ℕ) (model second : List ℕ) where
   only-refuses : (g : Got Model) (h : Got ℕ) → openedBy g h ≡ answer (openedBy g h .number) (openedBy g h .sheet) (openedBy g h .place) 0 0
   unfolding withModel openedSecond answer
@@ -95,13 +95,3 @@ module _ (limits : Limits) (kind : ℕ) (model second : List ℕ) where
   pub opened-answer : opened limits kind model second ≡ answer (opened limits kind model second .number) (opened limits kind model second .sheet) (opened limits kind model second .place) 0 0
   unfolding opened
   opened-answer = only-refuses (readModel limits model) (header kind second 0)
-
-  placed-by : (g : Got Model) (h : Got ℕ) → readModel limits model ≡ g → header kind second 0 ≡ h → openedBy g h .place ≤ 32768
-  unfolding withModel openedSecond answer
-  placed-by (refused number at) h e d = model-placed limits model number at e
-  placed-by (got m end) (refused number at) e d = header-placed kind second number at d
-  placed-by (got m end) (got version body) e d = omega (arith, header-four kind second version body d)
-
-  pub opened-placed : opened limits kind model second .place ≤ 32768
-  unfolding opened
-  opened-placed = placed-by (readModel limits model) (header kind second 0) refl refl

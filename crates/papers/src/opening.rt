@@ -6,11 +6,14 @@ use fields::Next;
 use fields::header::header;
 use model_sheets::sheet::model_into;
 use models::layout::Index;
+use models::layout::LOCATIONS_AT;
 use rules::Answer;
 ghost use mathlib.Core.Path.{_≡_};
 ghost use Rattle.formats.specs.ModelSheet.{examLimits};
-ghost use Rattle.models.specs.Index.{Kept, indexLength};
+ghost use Rattle.formats.specs.Locations.{locationCount};
+ghost use Rattle.models.specs.Index.{Kept, indexLength, componentsFrom};
 ghost use Rattle.papers.specs.Opening.{opened, Open};
+ghost use Rattle.papers.specs.Paper.{Accepted};
 
 // The model is read into a lent index, then the header of a second sheet of this kind: number 0 where both are good, else the answer that
 // refuses the paper. After a refusal the index is free.
@@ -26,4 +29,12 @@ pub fn open_paper(model: &[u8], second: &[u8], kind: u32, index: &mut Index) -> 
             Field::Value(_, body) => on_second(0, body, 0, 0),
         },
     }
+}
+
+// How many locations there are: the index has their count. The sheet is handed over for the contract.
+pub fn locations_of(model: &[u8], index: &Index) -> u32
+    requires { ⌜ Accepted (now model) (now index) ⌝ }
+    ensures { λ r. ⌜ r ≡ locationCount (componentsFrom (now (model .entry)) (now (index .entry))) ⌝ }
+{
+    index[LOCATIONS_AT] as u32
 }

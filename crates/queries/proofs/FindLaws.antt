@@ -3,12 +3,12 @@ use mathlib.Core.Path.{_≡_, refl, sym, ap, ap₂, _∙_, subst}
 use mathlib.Core.Bool.{Bool, true, false}
 use mathlib.Core.List.{List, [], _∷_, _++_, map, append-assoc, append-nil}
 use Prim.Native.Nat.{ℕ, zero, suc, _+_, _-_, _≤_, _<_}
+use native.Mathlib.Nat.{zero-add}
 use native.Mathlib.Omega.{arith}
 use lib.Dec.{eqb}
 use lib.ListN.{length, getD, length-append}
-use Rattle.farkas.specs.declared.Row.{Row}
 use Rattle.farkas.specs.Lists.{every}
-use Rattle.farkas.specs.Rows.{zeroRow}
+use Rattle.farkas.specs.Rows.{Row, zeroRow}
 use Rattle.formats.specs.Rows.{Condition}
 use Rattle.formats.specs.Model.{Unsafe, Model, Component}
 use Rattle.formats.specs.Locations.{locationCount, modesAt}
@@ -25,7 +25,11 @@ use Rattle.papers.specs.Standing.{Stands}
 use Rattle.papers.specs.Paper.{regionsOf}
 use Rattle.scores.specs.Counting.{targetRows}
 use Rattle.rules.specs.Beside.{noObligation}
-use Rattle.queries.specs.Finding.{oneAt, groupObligations, groupKind, groupLine, groupHypotheses, groupOne, jointHere, jointHypotheses, jointOne, paperObligations}
+use Rattle.rules.specs.Roles.{noJoint}
+use Rattle.rules.proofs.RoleLengths.{after-those}
+use Rattle.queries.specs.declared.Sought.{Sought}
+use Rattle.queries.specs.declared.Sought.the-variants as sought
+use Rattle.queries.specs.Finding.{oneAt, groupObligations, groupKind, groupLine, groupHypotheses, groupOne, jointHere, jointHypotheses, jointOne, soughtOne, KnownSought, paperObligations, Passing, NumberedIn, SoughtIn}
 use Rattle.papers.proofs.JoinedLaws.{joinedOn, joined-first, joined-none, joined-whole}
 use Rattle.scores.proofs.CountGoals.{jumps-length}
 
@@ -48,9 +52,17 @@ one-later (x ∷ xs) ys (suc o) h = one-later xs ys o (omega arith) ∙ ap (oneA
     same : (o n : ℕ) → o - n ≡ suc o - suc n
     same o n = omega arith
 
-pub one-none : (o : ℕ) → oneAt [] o ≡ []
+pub one-kept : (xs ys : List Obligation) (o : ℕ) {x : Obligation} → oneAt xs o ≡ x ∷ [] → oneAt (xs ++ ys) o ≡ x ∷ []
 unfolding oneAt
-one-none o = refl
+one-kept [] ys o e = absurd (omega (arith, ap (λ (os : List Obligation). length os) e))
+one-kept (x ∷ xs) ys zero e = e
+one-kept (x ∷ xs) ys (suc o) e = one-kept xs ys o e
+
+pub one-gone : (all : List Obligation) (o : ℕ) → length all ≤ o → oneAt all o ≡ []
+unfolding oneAt
+one-gone [] o h = refl
+one-gone (x ∷ all) zero h = absurd (omega (arith, h))
+one-gone (x ∷ all) (suc o) h = one-gone all o (omega (arith, h))
 
 -- one turn of a search over numbers
 module _ (f : ℕ → List Obligation) (n : ℕ) (rest : List Obligation) (i left : ℕ) (h : i < n) where
@@ -107,48 +119,66 @@ module _ (m : Model) (regionAt : ℕ → Condition) where
       ∙ length-append (jumps 0 xs) (jumps (0 + length xs) ys)
       ∙ ap₂ (λ (i k : ℕ). i + k) (jumps-length m regionAt 0 xs) (jumps-length m regionAt (0 + length xs) ys)
 
-  module _ (f : ℕ → List JointSwitch) (n i number left : ℕ) (h : i < n) where
-    parts : jumps number (joinedOn f n i) ≡ jumps number (f i) ++ jumps (number + length (f i)) (joinedOn f n (i + 1))
-    parts = ap (jumps number) (joined-first f n i h) ∙ jumps-both number (f i) (joinedOn f n (i + 1))
-
-    pub joint-on : {goals count : ℕ} {one : List Obligation} → goals ≡ length (targetRows regionAt (f i)) → count ≡ length (f i) → goals ≤ left → oneAt (jumps number (joinedOn f n i)) left ≡ one → oneAt (jumps (number + count) (joinedOn f n (i + 1))) (left - goals) ≡ one
-    joint-on e k l c =
-        let g : length (jumps number (f i)) ≤ left = omega (arith, e, l, jumps-length m regionAt number (f i)) in
-        ap₂ (λ (a b : ℕ). oneAt (jumps (number + a) (joinedOn f n (i + 1))) (left - b)) k (e ∙ sym (jumps-length m regionAt number (f i)))
-        ∙ sym (one-later (jumps number (f i)) (jumps (number + length (f i)) (joinedOn f n (i + 1))) left g)
-        ∙ ap (λ (xs : List Obligation). oneAt xs left) (sym parts)
-        ∙ c
-
-    pub joint-here : {one : List Obligation} → left < length (targetRows regionAt (f i)) → oneAt (jumps number (joinedOn f n i)) left ≡ one → oneAt (jumps number (f i)) left ≡ one
-    joint-here l c =
-        sym (one-first (jumps number (f i)) (jumps (number + length (f i)) (joinedOn f n (i + 1))) left (omega (arith, l, jumps-length m regionAt number (f i))))
-        ∙ ap (λ (xs : List Obligation). oneAt xs left) (sym parts)
-        ∙ c
-
-    pub joint-counted : {count : ℕ} → count ≡ length (f i) → number + length (joinedOn f n i) ≤ 4096 → number + count + length (joinedOn f n (i + 1)) ≤ 4096
-    joint-counted e l =
-        let sum : length (joinedOn f n i) ≡ length (f i) + length (joinedOn f n (i + 1)) = ap (λ (xs : List JointSwitch). length xs) (joined-first f n i h) ∙ length-append (f i) (joinedOn f n (i + 1)) in
-        omega (arith, e, l, sum)
-
-    pub joint-first : number + length (joinedOn f n i) ≤ 4096 → number + length (f i) ≤ 4096
-    joint-first l =
-        let sum : length (joinedOn f n i) ≡ length (f i) + length (joinedOn f n (i + 1)) = ap (λ (xs : List JointSwitch). length xs) (joined-first f n i h) ∙ length-append (f i) (joinedOn f n (i + 1)) in
-        omega (arith, l, sum)
-
-    pub joint-inside : {goals : ℕ} → goals ≡ length (targetRows regionAt (f i)) → goals ≤ left → left < length (targetRows regionAt (joinedOn f n i)) → left - goals < length (targetRows regionAt (joinedOn f n (i + 1)))
-    joint-inside e l c =
-        let sum : length (targetRows regionAt (joinedOn f n i)) ≡ length (targetRows regionAt (f i)) + length (targetRows regionAt (joinedOn f n (i + 1))) = ap (λ (xs : List JointSwitch). length (targetRows regionAt xs)) (joined-first f n i h) ∙ targets-both (f i) (joinedOn f n (i + 1)) in
-        omega (arith, e, l, c, sum)
-
-  pub joint-past : (f : ℕ → List JointSwitch) (n i number left : ℕ) {one : List Obligation} → n ≤ i → oneAt (jumps number (joinedOn f n i)) left ≡ one → [] ≡ one
-  unfolding jumpsObligations oneAt
-  joint-past f n i number left h c = ap (λ (xs : List JointSwitch). oneAt (jumpsObligations m regionAt number xs) left) (sym (joined-none f n i h)) ∙ c
-
-  pub joint-end : (f : ℕ → List JointSwitch) (n i left : ℕ) → n ≤ i → left < length (targetRows regionAt (joinedOn f n i)) → ⊥
+  none-rows : length (targetRows regionAt []) ≡ 0
   unfolding targetRows joinAll
-  joint-end f n i left h c =
-      let none : length (targetRows regionAt (joinedOn f n i)) ≡ 0 = ap (λ (xs : List JointSwitch). length (targetRows regionAt xs)) (joined-none f n i h) in
-      omega (arith, c, none)
+  none-rows = refl
+
+  none-one : (number left : ℕ) → oneAt (jumps number []) left ≡ []
+  unfolding jumpsObligations oneAt
+  none-one number left = refl
+
+  -- nothing is passed over yet
+  pub passing-starts : (all : List JointSwitch) (first o : ℕ) → Passing m regionAt all all first o first o
+  passing-starts all first o = record { leads = refl; passed = []; parted = refl; counted = refl; rows = refl }
+
+  -- some are, the first of those that are left
+  pub passing-on : {all : List JointSwitch} {first o number left next right : ℕ} (xs ys : List JointSwitch) → Passing m regionAt all (xs ++ ys) first o number left → Passing m regionAt xs [] number left next right → Passing m regionAt all ys first o next right
+  passing-on {all} {first} {o} {number} {left} {next} {right} xs ys p q =
+      let size : length (jumps number xs) ≡ length (targetRows regionAt xs) = jumps-length m regionAt number xs in
+      let moved : next ≡ number + length xs = omega (arith, q .counted) in
+      let less : right ≡ left - length (jumps number xs) = omega (arith, q .rows, none-rows, size) in
+      let enough : length (jumps number xs) ≤ left = omega (arith, q .rows, none-rows, size) in
+      record {
+        leads = ap₂ (λ (k n : ℕ). oneAt (jumps k ys) n) moved less
+            ∙ sym (one-later (jumps number xs) (jumps (number + length xs) ys) left enough)
+            ∙ ap (λ (os : List Obligation). oneAt os left) (sym (jumps-both number xs ys))
+            ∙ p .leads;
+        passed = p .passed ++ xs;
+        parted = p .parted ∙ sym (append-assoc (p .passed) xs ys);
+        counted = omega (arith, p .counted, q .counted, length-append xs ys);
+        rows = omega (arith, p .rows, q .rows, none-rows, targets-both xs ys);
+      }
+
+  -- what is found among the first is found in all
+  pub passing-found : {all : List JointSwitch} {first o number left : ℕ} {x : Obligation} (xs ys : List JointSwitch) → Passing m regionAt all (xs ++ ys) first o number left → x ∷ [] ≡ oneAt (jumps number xs) left → x ∷ [] ≡ oneAt (jumps first all) o
+  passing-found {number = number} {left = left} xs ys p e =
+      sym (one-kept (jumps number xs) (jumps (number + length xs) ys) left (sym e))
+      ∙ ap (λ (os : List Obligation). oneAt os left) (sym (jumps-both number xs ys))
+      ∙ p .leads
+
+  -- and so is the number of a joint switch among the first
+  pub passing-number : {all : List JointSwitch} {first o number left i : ℕ} {j : JointSwitch} (xs ys : List JointSwitch) → Passing m regionAt all (xs ++ ys) first o number left → NumberedIn xs number i j → NumberedIn all first i j
+  passing-number {all = all} {j = j} xs ys p w =
+      let longer : length all ≡ length (p .passed ++ (xs ++ ys)) = ap (λ (js : List JointSwitch). length js) (p .parted) in
+      record {
+        before = p .passed ++ w .before;
+        after = w .after ++ ys;
+        parted = p .parted
+            ∙ ap (λ (js : List JointSwitch). p .passed ++ (js ++ ys)) (w .parted)
+            ∙ ap (λ (js : List JointSwitch). p .passed ++ js) (append-assoc (w .before) (j ∷ w .after) ys)
+            ∙ sym (append-assoc (p .passed) (w .before) (j ∷ (w .after ++ ys)));
+        counted = omega (arith, w .counted, p .counted, longer, length-append (p .passed) (xs ++ ys), length-append (p .passed) (w .before));
+      }
+
+  pub passing-few : {all : List JointSwitch} {first o number left : ℕ} (xs ys : List JointSwitch) → Passing m regionAt all (xs ++ ys) first o number left → first + length all ≤ 4096 → number + length xs ≤ 4096
+  passing-few xs ys p l = omega (arith, p .counted, l, length-append xs ys)
+
+  module _ (f : ℕ → List JointSwitch) (n : ℕ) {all : List JointSwitch} {first o number left : ℕ} (i : ℕ) where
+    pub passing-split : i < n → Passing m regionAt all (joinedOn f n i) first o number left → Passing m regionAt all (f i ++ joinedOn f n (i + 1)) first o number left
+    passing-split h p = subst (λ (xs : List JointSwitch). Passing m regionAt all xs first o number left) (joined-first f n i h) p
+
+    pub passing-end : n ≤ i → Passing m regionAt all (joinedOn f n i) first o number left → Passing m regionAt all [] first o number left
+    passing-end h p = subst (λ (xs : List JointSwitch). Passing m regionAt all xs first o number left) (joined-none f n i h) p
 
 -- the joint switches of an event are those found by their numbers
 each-one : {A : Type 0} (xs : List A) (k : ℕ) (at : ℕ → A) → ((i : ℕ) → (d : A) → i < length xs → getD xs i d ≡ at (k + i)) → joinAll (λ i. at i ∷ []) (countUp k (length xs)) ≡ xs
@@ -345,3 +375,102 @@ module _ (model index : List ℕ) (regionAt : ℕ → Condition) (location : ℕ
   pub start-there : (modes : List ℕ) → Stands model index location modes → every (λ mode. eqb (mode .start) 1) (present (componentsFrom model index) (perComponent index modes)) ≡ every (λ mode. eqb (mode .start) 1) (modesIn (modelFrom model index) location)
   unfolding modesIn modelFrom
   start-there modes stands = ap (λ (ms : List ℕ). every (λ mode. eqb (mode .start) 1) (present (componentsFrom model index) ms)) (stands .here)
+
+-- A search among joint switches: what has the obligation among the first has it in all
+module _ (model index : List ℕ) (regionAt : ℕ → Condition) {all : List JointSwitch} {first o number left : ℕ} (xs ys : List JointSwitch) {r : Sought} (p : Passing (modelFrom model index) regionAt all (xs ++ ys) first o number left) (w : SoughtIn model index regionAt xs number left r) where
+  pub in-location : (location g line : ℕ) → r ≡ sought.AtLocation location g line → SoughtIn model index regionAt all first o (sought.AtLocation location g line)
+  unfolding SoughtIn soughtOne
+  in-location location g line e =
+      let v = subst (SoughtIn model index regionAt xs number left) e w in
+      (v .0, passing-found (modelFrom model index) regionAt xs ys p (v .1))
+
+  pub in-joint : (j location e x line : ℕ) → r ≡ sought.AtJoint j location e x line → SoughtIn model index regionAt all first o (sought.AtJoint j location e x line)
+  unfolding SoughtIn soughtOne
+  in-joint j location e x line q =
+      let v = subst (SoughtIn model index regionAt xs number left) q w in
+      (v .0, (passing-found (modelFrom model index) regionAt xs ys p (v .1 .0), passing-number (modelFrom model index) regionAt xs ys p (v .1 .1)))
+
+  pub in-rest : (next right : ℕ) → r ≡ sought.Beyond next right → Passing (modelFrom model index) regionAt all ys first o next right
+  unfolding SoughtIn
+  in-rest next right e =
+      let v = subst (SoughtIn model index regionAt xs number left) e w in
+      passing-on (modelFrom model index) regionAt xs ys p v
+
+-- what a search that has ended tells
+module _ (model index : List ℕ) (regionAt : ℕ → Condition) (all : List JointSwitch) (first o : ℕ) where
+  pub sought-beyond : (number left : ℕ) → Passing (modelFrom model index) regionAt all [] first o number left → SoughtIn model index regionAt all first o (sought.Beyond number left)
+  unfolding SoughtIn
+  sought-beyond number left p = p
+
+  pub sought-one : (r : Sought) → SoughtIn model index regionAt all first o r → soughtOne model index regionAt r ≡ oneAt (jumpsObligations (modelFrom model index) regionAt first all) o
+  unfolding SoughtIn soughtOne jumpsObligations oneAt
+  sought-one (sought.AtLocation location g line) w = w .1
+  sought-one (sought.AtJoint number location e x line) w = w .1 .0
+  sought-one (sought.Beyond number left) w = w .leads
+
+numbered-at : (all : List JointSwitch) (number : ℕ) (j : JointSwitch) → NumberedIn all 0 number j → getD all number noJoint ≡ j
+numbered-at all number j w =
+    ap₂ (λ (js : List JointSwitch) (i : ℕ). getD js i noJoint) (w .parted) (w .counted ∙ zero-add (length (w .before)))
+    ∙ after-those (w .before) j (w .after) noJoint
+
+pub sought-known : (model index : List ℕ) (regionAt : ℕ → Condition) (o : ℕ) (r : Sought) → SoughtIn model index regionAt (joints (componentsFrom model index)) 0 o r → KnownSought model index r
+unfolding SoughtIn KnownSought
+sought-known model index regionAt o (sought.AtLocation location g line) w = w .0
+sought-known model index regionAt o (sought.AtJoint number location e x line) w = (w .0, numbered-at (joints (componentsFrom model index)) number (jointHere model index location e x) (w .1 .1))
+sought-known model index regionAt o (sought.Beyond number left) w = tt
+
+-- the joint switches of one event, one by one
+module _ (model index : List ℕ) (regionAt : ℕ → Condition) (location e first o : ℕ) where
+  abbrev pub eachOn : ℕ → List JointSwitch
+  eachOn = joinedOn (λ x. jointHere model index location e x ∷ []) (length (switchesOf (componentsFrom model index) (modesAt (componentsFrom model index) location) e))
+
+  abbrev event : List JointSwitch
+  event = jointsOf (componentsFrom model index) location e
+
+  abbrev m : Model
+  m = modelFrom model index
+
+  pub each-starts : Passing m regionAt event (eachOn 0) first o (first + 0) o
+  each-starts =
+      subst (λ (k : ℕ). Passing m regionAt event (eachOn 0) first o k o) (none first)
+      (subst (λ (xs : List JointSwitch). Passing m regionAt event xs first o first o) (sym (event-each model index location e)) (passing-starts m regionAt event first o))
+    where
+      none : (n : ℕ) → n ≡ n + 0
+      none n = omega arith
+
+  module _ (at left goals : ℕ) (h : at < length (switchesOf (componentsFrom model index) (modesAt (componentsFrom model index) location) e)) (q : goals ≡ length (regionAt (jointHere model index location e at .target))) (p : Passing m regionAt event (eachOn at) first o (first + at) left) where
+    abbrev here : JointSwitch
+    here = jointHere model index location e at
+
+    abbrev whole : Passing m regionAt event ((here ∷ []) ++ eachOn (at + 1)) first o (first + at) left
+    whole = passing-split m regionAt (λ x. jointHere model index location e x ∷ []) (length (switchesOf (componentsFrom model index) (modesAt (componentsFrom model index) location) e)) at h p
+
+    passed : goals ≤ left → Passing m regionAt (here ∷ []) [] (first + at) left (first + (at + 1)) (left - goals)
+    passed l =
+        let rows : length (targetRows regionAt (here ∷ [])) ≡ goals = joint-lines m regionAt location here ∙ sym q in
+        record {
+          passed = here ∷ [];
+          parted = refl;
+          leads = none-one m regionAt (first + (at + 1)) (left - goals) ∙ sym (one-gone (jumpsObligations m regionAt (first + at) (here ∷ [])) left (omega (arith, l, rows, jumps-length m regionAt (first + at) (here ∷ []))));
+          counted = omega arith;
+          rows = omega (arith, l, rows, none-rows m regionAt);
+        }
+
+    pub each-on : goals ≤ left → Passing m regionAt event (eachOn (at + 1)) first o (first + (at + 1)) (left - goals)
+    each-on l = passing-on m regionAt (here ∷ []) (eachOn (at + 1)) whole (passed l)
+
+    pub each-few : first + length event ≤ 4096 → first + at < 4096
+    each-few l = omega (arith, passing-few m regionAt (here ∷ []) (eachOn (at + 1)) whole l)
+
+    pub each-found : location < locationCount (componentsFrom model index) → e ≤ 15 → left < goals → SoughtIn model index regionAt event first o (sought.AtJoint (first + at) location e at left)
+    unfolding SoughtIn soughtOne KnownSought
+    each-found a b l =
+        let alone : NumberedIn (here ∷ []) (first + at) (first + at) here = record { before = []; after = []; parted = refl; counted = omega arith } in
+        ((a, (b, h)), (passing-found m regionAt (here ∷ []) (eachOn (at + 1)) whole (sym (joint-one m regionAt location (first + at) here left (omega (arith, l, q)))), passing-number m regionAt (here ∷ []) (eachOn (at + 1)) whole alone))
+
+  pub each-end : (at left : ℕ) → length (switchesOf (componentsFrom model index) (modesAt (componentsFrom model index) location) e) ≤ at → Passing m regionAt event (eachOn at) first o (first + at) left → SoughtIn model index regionAt event first o (sought.Beyond (first + at) left)
+  each-end at left h p = sought-beyond model index regionAt event first o (first + at) left (passing-end m regionAt (λ x. jointHere model index location e x ∷ []) (length (switchesOf (componentsFrom model index) (modesAt (componentsFrom model index) location) e)) at h p)
+
+  -- an event that has none
+  pub none-there : event ≡ [] → SoughtIn model index regionAt event first o (sought.Beyond first o)
+  none-there h = sought-beyond model index regionAt event first o first o (subst (λ (xs : List JointSwitch). Passing m regionAt event xs first o first o) h (passing-starts m regionAt event first o))

@@ -1,2 +1,4 @@
 pub mod FindLaws
+pub mod LandedLaws
+pub mod HeldLaws
 pub mod ShowLaws

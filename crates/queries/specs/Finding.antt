@@ -12,23 +12,29 @@ use Rattle.formats.specs.Rows.{Condition}
 use Rattle.formats.specs.Model.{Model}
 use Rattle.formats.specs.Locations.{locationCount, modesAt}
 use Rattle.formats.specs.Joint.{JointSwitch, switchesOf, joints, countUp, joinAll, jointsOf, jointFrom}
-use Rattle.models.specs.Index.{entry, componentsFrom, modelFrom}
+use Rattle.models.specs.Index.{entry, componentsFrom, modelFrom, variablesIn}
 use Rattle.formats.specs.ModelSheet.{Limits, readModel}
 use Rattle.formats.specs.Certificate.{readRegions}
 use Rattle.queries.specs.declared.Which.{Which}
-use Rattle.queries.specs.declared.Told.{Told}
+use Rattle.queries.specs.declared.Shown.{Shown}
+use Rattle.queries.specs.declared.Located.{Located}
+use Rattle.queries.specs.declared.Opened.{Opened}
+use Rattle.queries.specs.declared.Opened.the-variants as opened
 use Rattle.queries.specs.declared.Spot.{Spot}
-use Rattle.queries.specs.declared.JointSpot.{JointSpot}
 use Rattle.queries.specs.declared.Sought.{Sought}
 use Rattle.queries.specs.declared.Sought.the-variants as sought
 use Rattle.queries.specs.declared.RowFound.{RowFound}
 use Rattle.queries.specs.declared.RowFound.the-variants as row
 use Rattle.rules.specs.Runs.{modesIn, movers, stayingVariables}
 use Rattle.rules.specs.Obligations.{Hypothesis, nowhere, Kind, atStart, afterFlow, clearOfUnsafe, afterJump, Obligation, startHypotheses, flowHypotheses, unsafeHypotheses, jumpHypotheses, startObligations, flowObligations, unsafeObligations, jumpObligations, jumpsObligations, obligationsOver, obligations}
+use Rattle.hypotheses.specs.Tables.{hypothesesFrom, rolesFrom}
 use Rattle.hypotheses.specs.Listing.{noUnsafe}
-use Rattle.papers.specs.Paper.{regionsOf, locationObligationsFor, jumpsObligationsFor}
+use Rattle.papers.specs.Paper.{GoodPaper, regionsOf, locationObligationsFor, jumpsObligationsFor}
+use Rattle.joint_switches.specs.declared.Slot.{Slot}
+use Rattle.joint_switches.specs.Slots.{Listed}
 use Rattle.scores.specs.Counting.{targetRows}
-use Rattle.rules.specs.Beside.{Found, found, unfound, noObligation, findIn, findAfter, findHypothesis}
+use Rattle.rules.specs.Beside.{Found, found, unfound, noObligation, findIn, findAfter, findHypothesis, showAnswer}
+use Rattle.rules.specs.Roles.{Role, noRole, noJoint, jointRoles, kindRoles, rolesOf, roleIn, roleAfter, hypothesisRole, hypothesisSize}
 use Rattle.rules.specs.declared.Answer.{Answer}
 use Rattle.rules.specs.Marking.{answer}
 
@@ -70,6 +76,15 @@ whichObligation limits model second o =
       | got m next ↦ whichAfter m second o ((header 2 >> readRegions m) second 0)
       | refused number at ↦ whichRefused number 0 at
     ]
+
+-- What a hypothesis is: the sister call's number, sheet and place; how many bytes its row has; its role and owner
+unfoldable pub shownAs : Answer → ℕ → Role → Shown
+shownAs a size k =
+    record { number = a .number; sheet = a .sheet; place = a .place; size = size; role = k .role; owner = k .owner }
+
+unfoldable pub hypothesisAnswer : Limits → List ℕ → List ℕ → ℕ → ℕ → Shown
+hypothesisAnswer limits model second o h =
+    shownAs (showAnswer limits model second o h) (hypothesisSize limits model second o h) (hypothesisRole limits model second o h)
 
 -- Where the row of a hypothesis stands: in the model, in the second sheet, or in none
 unfoldable pub standsIn : ℕ → ℕ → ℕ → RowFound
@@ -116,27 +131,49 @@ unfoldable pub hypothesisFound : List Hypothesis → ℕ → Found
 hypothesisFound hypotheses h =
     elim (ltb h (length hypotheses)) [ true ↦ found (getD hypotheses h (nowhere zeroRow)) | false ↦ unfound 5 2 0 ]
 
-unfoldable pub rowOf : List Obligation → ℕ → RowFound
-rowOf [] h = row.Refused 5 2 0
-rowOf (o ∷ rest) h = rowFound (hypothesisFound (o .hypotheses) h)
+-- with its role and owner, which a refusal does not have
+unfoldable pub located : RowFound → Role → Located
+located r k = record { row = r; role = k .role; owner = k .owner }
+
+unfoldable pub noRow : ℕ → ℕ → ℕ → Located
+noRow number sheet place = located (row.Refused number sheet place) noRole
+
+unfoldable pub roleAt : ℕ → List Role → ℕ → Role
+roleAt count roles h = elim (ltb h count) [ true ↦ getD roles h noRole | false ↦ noRole ]
+
+unfoldable pub locatedAt : List Hypothesis → List Role → ℕ → Located
+locatedAt hypotheses roles h = located (rowFound (hypothesisFound hypotheses h)) (roleAt (length hypotheses) roles h)
+
+unfoldable pub locatedOf : (Obligation → List Role) → List Obligation → ℕ → Located
+locatedOf roles [] h = noRow 5 2 0
+locatedOf roles (o ∷ rest) h = locatedAt (o .hypotheses) (roles o) h
+
+unfoldable pub hypothesisLocated : Limits → List ℕ → List ℕ → ℕ → ℕ → Located
+hypothesisLocated limits model second o h =
+    located (rowFound (findHypothesis limits model second o h)) (hypothesisRole limits model second o h)
 
 unfoldable pub whichOf : ℕ → List Obligation → Which
 whichOf size [] = whichRefused 5 2 0
 whichOf size (o ∷ rest) = whichTells size o
 
--- both, once the model is read, and from the start
-unfoldable pub toldRefused : ℕ → ℕ → ℕ → Told
-toldRefused number sheet place = record { which = whichRefused number sheet place; row = row.Refused number sheet place }
+-- both answers, of a refusal, once the model is read, and from the start
+pub record Told : Type 0 where
+  pub which : Which
+  pub row : Located
 
-unfoldable pub toldIn : ℕ → List Obligation → ℕ → ℕ → Told
-toldIn size all o h = record { which = whichIn size all o; row = rowFound (findIn all o h) }
+unfoldable pub toldRefused : ℕ → ℕ → ℕ → Told
+toldRefused number sheet place = record { which = whichRefused number sheet place; row = noRow number sheet place }
+
+unfoldable pub toldIn : ℕ → (Obligation → List Role) → List Obligation → ℕ → ℕ → Told
+toldIn size roles all o h = record { which = whichIn size all o; row = located (rowFound (findIn all o h)) (roleIn roles all o h) }
 
 unfoldable pub toldAfter : Model → List ℕ → ℕ → ℕ → Got (List Condition) → Told
-toldAfter m second o h g = record { which = whichAfter m second o g; row = rowFound (findAfter m o h g) }
+toldAfter m second o h g =
+    record { which = whichAfter m second o g; row = located (rowFound (findAfter m o h g)) (roleAfter m o h g) }
 
 unfoldable pub toldFor : Limits → List ℕ → List ℕ → ℕ → ℕ → Told
 toldFor limits model second o h =
-    record { which = whichObligation limits model second o; row = rowFound (findHypothesis limits model second o h) }
+    record { which = whichObligation limits model second o; row = hypothesisLocated limits model second o h }
 
 -- The obligation with a number, as a list of one, or of none where there are not so many
 unfoldable pub oneAt : List Obligation → ℕ → List Obligation
@@ -165,6 +202,9 @@ groupHypotheses m regionAt location zero = startHypotheses (modesIn m location)
 groupHypotheses m regionAt location (suc zero) = flowHypotheses (m .variables) (regionAt location) (modesIn m location)
 groupHypotheses m regionAt location (suc (suc u)) =
     unsafeHypotheses (regionAt location) (modesIn m location) (getD (m .unsafe) u noUnsafe .rows)
+
+unfoldable pub groupRoles : Model → (ℕ → Condition) → ℕ → ℕ → List Role
+groupRoles m regionAt location g = kindRoles m regionAt (groupKind g) location (groupLine g 0)
 
 -- which obligation that is
 unfoldable pub groupWhich : ℕ → ℕ → ℕ → ℕ → Which
@@ -219,16 +259,21 @@ unfoldable pub soughtOne : List ℕ → List ℕ → (ℕ → Condition) → Sou
 soughtOne model index regionAt (sought.AtLocation location g line) = groupOne (modelFrom model index) regionAt location g line ∷ []
 soughtOne model index regionAt (sought.AtJoint number location e x line) =
     jointOne (modelFrom model index) regionAt number (jointHere model index location e x) line ∷ []
-soughtOne model index regionAt sought.Beyond = []
+soughtOne model index regionAt (sought.Beyond number left) = []
 
--- and that its numbers are those of a location, a group, an event and a joint switch
+-- and that its numbers are those of a location, a group, an event and a joint switch, and its number that of the joint switch in the list
+abbrev pub KnownJoint : List ℕ → List ℕ → ℕ → ℕ → ℕ → Type 0
+KnownJoint model index location e x =
+    (location < locationCount (componentsFrom model index))
+    × ((e ≤ 15) × (x < length (switchesOf (componentsFrom model index) (modesAt (componentsFrom model index) location) e)))
+
 unfoldable pub KnownSought : List ℕ → List ℕ → Sought → Type 0
 KnownSought model index (sought.AtLocation location g line) =
     (location < locationCount (componentsFrom model index)) × (g < 2 + entry index 2)
 KnownSought model index (sought.AtJoint number location e x line) =
-    (location < locationCount (componentsFrom model index))
-    × ((e ≤ 15) × (x < length (switchesOf (componentsFrom model index) (modesAt (componentsFrom model index) location) e)))
-KnownSought model index sought.Beyond = Unit {0}
+    KnownJoint model index location e x
+    × (getD (joints (componentsFrom model index)) number noJoint ≡ jointHere model index location e x)
+KnownSought model index (sought.Beyond number left) = Unit {0}
 
 -- all obligations of a paper, by its places
 unfoldable pub paperObligations : List ℕ → List ℕ → List ℕ → List ℕ → List Obligation
@@ -242,12 +287,43 @@ pub record SpotLeads (f : ℕ → List Obligation) (n : ℕ) (one : List Obligat
   pub leads : oneAt (joinAll f (countUp (s .at) (n - s .at)) ++ rest) (s .left) ≡ one
   pub here : s .at < n → s .left < length (f (s .at))
 
--- the same over joint switches, whose obligations have their number, and of which there are at most 4,096
-pub record JointLeads (m : Model) (regionAt : ℕ → Condition) (f : ℕ → List JointSwitch) (n : ℕ) (one : List Obligation) (s : JointSpot) : Type 0 where
-  pub within : s .at ≤ n
-  pub leads : oneAt (jumpsObligations m regionAt (s .number) (joinAll f (countUp (s .at) (n - s .at)))) (s .left) ≡ one
-  pub counted : s .number + length (joinAll f (countUp (s .at) (n - s .at))) ≤ 4096
-  pub here : s .at < n → s .left < length (targetRows regionAt (f (s .at)))
+-- A search among joint switches, the first of which has a number: those that are left begin with a number, and the obligation sought is so
+-- many on among theirs
+pub record Passing (m : Model) (regionAt : ℕ → Condition) (all rest : List JointSwitch) (first o number left : ℕ) : Type 0 where
+  pub leads : oneAt (jumpsObligations m regionAt number rest) left ≡ oneAt (jumpsObligations m regionAt first all) o
+  pub passed : List JointSwitch
+  pub parted : all ≡ passed ++ rest
+  pub counted : number + length rest ≡ first + length all
+  pub rows : left + length (targetRows regionAt all) ≡ o + length (targetRows regionAt rest)
+
+-- a joint switch by its number, among those of which the first has a number
+pub record NumberedIn (all : List JointSwitch) (first number : ℕ) (j : JointSwitch) : Type 0 where
+  pub before : List JointSwitch
+  pub after : List JointSwitch
+  pub parted : all ≡ before ++ (j ∷ after)
+  pub counted : number ≡ first + length before
+
+-- where such a search ends: at what has the obligation, or beyond all of them
+unfoldable pub SoughtIn : List ℕ → List ℕ → (ℕ → Condition) → List JointSwitch → ℕ → ℕ → Sought → Type 0
+SoughtIn model index regionAt all first o (sought.AtLocation location g line) =
+    KnownSought model index (sought.AtLocation location g line)
+    × (soughtOne model index regionAt (sought.AtLocation location g line) ≡ oneAt (jumpsObligations (modelFrom model index) regionAt first all) o)
+SoughtIn model index regionAt all first o (sought.AtJoint number location e x line) =
+    KnownJoint model index location e x
+    × ((soughtOne model index regionAt (sought.AtJoint number location e x line) ≡ oneAt (jumpsObligations (modelFrom model index) regionAt first all) o)
+    × NumberedIn all first number (jointHere model index location e x))
+SoughtIn model index regionAt all first o (sought.Beyond number left) = Passing (modelFrom model index) regionAt all [] first o number left
+
+-- the same from where the search begins, of the regions that the code keeps by their places
+abbrev pub SoughtInFor : List ℕ → List ℕ → List ℕ → List ℕ → List JointSwitch → Spot → Sought → Type 0
+SoughtInFor model index second regions all from = SoughtIn model index (regionsOf model index second regions) all (from .at) (from .left)
+
+-- the joint switches that leave a location, and those of one event as a table lists them
+abbrev pub leavingFrom : List ℕ → List ℕ → ℕ → List JointSwitch
+leavingFrom model index location = joinAll (jointsOf (componentsFrom model index) location) (countUp 0 16)
+
+abbrev pub ListedFrom : List ℕ → List ℕ → ℕ → List ℕ → Slot → Type 0
+ListedFrom model index location ways slot = Listed model index (modesAt (componentsFrom model index) location) (slot .e) ways slot
 
 -- the same, of the model and the regions that the code keeps by their places
 abbrev pub groupObligationsFor : List ℕ → List ℕ → List ℕ → List ℕ → ℕ → ℕ → List Obligation
@@ -259,11 +335,44 @@ groupHypothesesFor model index second regions = groupHypotheses (modelFrom model
 abbrev pub jointHypothesesFor : List ℕ → List ℕ → List ℕ → List ℕ → JointSwitch → List Hypothesis
 jointHypothesesFor model index second regions = jointHypotheses (modelFrom model index) (regionsOf model index second regions)
 
+abbrev pub groupRowFor : List ℕ → List ℕ → List ℕ → List ℕ → ℕ → ℕ → ℕ → Located
+groupRowFor model index second regions location g =
+    locatedAt
+    (groupHypothesesFor model index second regions location g)
+    (groupRoles (modelFrom model index) (regionsOf model index second regions) location g)
+
+abbrev pub jointRowFor : List ℕ → List ℕ → List ℕ → List ℕ → JointSwitch → ℕ → Located
+jointRowFor model index second regions j =
+    locatedAt (jointHypothesesFor model index second regions j) (jointRoles (modelFrom model index) (regionsOf model index second regions) j)
+
+abbrev pub rolesFor : List ℕ → List ℕ → List ℕ → List ℕ → Obligation → List Role
+rolesFor model index second regions = rolesOf (modelFrom model index) (regionsOf model index second regions)
+
+-- A table that holds these hypotheses in these roles: those of a location's group, or of a joint switch
+pub record Held (model second : List ℕ) (n : ℕ) (table : List ℕ) (segments : ℕ) (hs : List Hypothesis) (rs : List Role) : Type 0 where
+  pub hypotheses : hypothesesFrom model second n table segments ≡ hs
+  pub roles : rolesFrom table segments ≡ rs
+
+abbrev pub GroupHeld : List ℕ → List ℕ → List ℕ → List ℕ → ℕ → ℕ → List ℕ → ℕ → Type 0
+GroupHeld model index second regions location g table segments =
+    Held model second (variablesIn index) table segments
+    (groupHypothesesFor model index second regions location g)
+    (groupRoles (modelFrom model index) (regionsOf model index second regions) location g)
+
+abbrev pub JointHeld : List ℕ → List ℕ → List ℕ → List ℕ → JointSwitch → List ℕ → ℕ → Type 0
+JointHeld model index second regions j table segments =
+    Held model second (variablesIn index) table segments
+    (jointHypothesesFor model index second regions j)
+    (jointRoles (modelFrom model index) (regionsOf model index second regions) j)
+
+abbrev pub soughtRowFor : List ℕ → List ℕ → List ℕ → List ℕ → Sought → ℕ → Located
+soughtRowFor model index second regions s =
+    locatedOf (rolesFor model index second regions) (soughtOne model index (regionsOf model index second regions) s)
+
 abbrev pub soughtOneFor : List ℕ → List ℕ → List ℕ → List ℕ → Sought → List Obligation
 soughtOneFor model index second regions = soughtOne model index (regionsOf model index second regions)
 
--- Where each search leads: among the locations, the groups of a location, the source locations of joint switches, the events of a location,
--- and the joint switches of an event
+-- Where a search leads: among the locations, and the groups of a location
 abbrev pub LeadsToLocation : List ℕ → List ℕ → List ℕ → List ℕ → ℕ → ℕ → Spot → Type 0
 LeadsToLocation model index second regions locations o =
     SpotLeads (locationObligationsFor model index second regions) locations (oneAt (paperObligations model index second regions) o)
@@ -273,22 +382,14 @@ abbrev pub LeadsToGroup : List ℕ → List ℕ → List ℕ → List ℕ → �
 LeadsToGroup model index second regions location o =
     SpotLeads (groupObligationsFor model index second regions location) (2 + entry index 2) (oneAt (locationObligationsFor model index second regions location) o) []
 
-abbrev pub LeadsToSource : List ℕ → List ℕ → List ℕ → List ℕ → ℕ → ℕ → JointSpot → Type 0
-LeadsToSource model index second regions locations o =
-    JointLeads (modelFrom model index) (regionsOf model index second regions) (λ l. joinAll (jointsOf (componentsFrom model index) l) (countUp 0 16)) locations
-    (oneAt (jumpsObligationsFor model index second regions 0 (joints (componentsFrom model index))) o)
+-- Both sheets read up to the regions: the paper is good, and what is told is told by its obligations
+pub record OpenFor (limits : Limits) (model index second regions : List ℕ) : Type 0 where
+  pub good : GoodPaper model index second regions
+  pub joined : length (joints (componentsFrom model index)) ≤ 4096
+  pub told : (o h : ℕ) → toldIn (length second) (rolesFor model index second regions) (paperObligations model index second regions) o h ≡ toldFor limits model second o h
 
-abbrev pub LeadsToEvent : List ℕ → List ℕ → List ℕ → List ℕ → ℕ → ℕ → ℕ → JointSpot → Type 0
-LeadsToEvent model index second regions location first o =
-    JointLeads (modelFrom model index) (regionsOf model index second regions) (jointsOf (componentsFrom model index) location) 16
-    (oneAt (jumpsObligationsFor model index second regions first (joinAll (jointsOf (componentsFrom model index) location) (countUp 0 16))) o)
-
-abbrev pub LeadsToSwitch : List ℕ → List ℕ → List ℕ → List ℕ → ℕ → ℕ → ℕ → ℕ → JointSpot → Type 0
-LeadsToSwitch model index second regions location e first o =
-    JointLeads (modelFrom model index) (regionsOf model index second regions) (λ x. jointHere model index location e x ∷ [])
-    (length (switchesOf (componentsFrom model index) (modesAt (componentsFrom model index) location) e))
-    (oneAt (jumpsObligationsFor model index second regions first (jointsOf (componentsFrom model index) location e)) o)
-
--- the obligation with a number among those of all joint switches
-abbrev pub jumpOneFor : List ℕ → List ℕ → List ℕ → List ℕ → ℕ → List Obligation
-jumpOneFor model index second regions o = oneAt (jumpsObligationsFor model index second regions 0 (joints (componentsFrom model index))) o
+-- or a refusal, which is told whatever is asked
+unfoldable pub OpensTo : Limits → List ℕ → List ℕ → List ℕ → List ℕ → Opened → Type 0
+OpensTo limits model index second regions opened.Open = OpenFor limits model index second regions
+OpensTo limits model index second regions (opened.Refused number sheet place) =
+    (o h : ℕ) → toldRefused number sheet place ≡ toldFor limits model second o h

@@ -1,28 +1,35 @@
 // Where the row of a hypothesis stands: the table of its obligation, built as for marking, has the place.
+use crate::Located;
 use crate::RowFound;
 use crate::Sought;
 use hypotheses::groups::flow_table;
 use hypotheses::groups::jump_table;
+use hypotheses::groups::push_here;
 use hypotheses::groups::start_table;
 use hypotheses::groups::unsafe_table;
 use hypotheses::tables::TABLE_LENGTH;
-use joint_switches::joints::joint_at;
+use hypotheses::tables::lines;
 use joint_switches::joints::modes_at;
-use joint_switches::joints::target_of;
+use joint_switches::slots::WAYS_LENGTH;
+use joint_switches::slots::landing_at;
+use joint_switches::slots::list_slot;
 use models::layout::Index;
 use models::layout::VARIABLES_AT;
 use second_sheets::ranges::Regions;
+use sums::Line;
+use sums::lines::line_at;
+use sums::lines::segment_of;
 ghost use mathlib.Core.Path.{_≡_};
 ghost use Prim.Native.Nat.{_+_, _≤_, _<_};
 ghost use lib.ListN.{length};
 ghost use Rattle.formats.specs.Locations.{locationCount, modesAt};
 ghost use Rattle.formats.specs.Joint.{switchesOf};
-ghost use Rattle.models.specs.Index.{entry, componentsFrom, conditionsIn, variablesIn};
-ghost use Rattle.hypotheses.specs.Tables.{hypothesisIn, hypothesesFrom};
+ghost use Rattle.models.specs.Index.{entry, componentsFrom, conditionsIn};
+ghost use Rattle.hypotheses.specs.Tables.{hypothesisIn, hypothesesFrom, rolesFrom, Stacked};
 ghost use Rattle.papers.specs.Paper.{GoodPaper};
 ghost use Rattle.papers.specs.Standing.{Stands};
 ghost use Rattle.rules.specs.Beside.{found};
-ghost use Rattle.queries.specs.Finding.{rowFound, hypothesisFound, rowOf, jointHere, KnownSought, groupHypothesesFor, jointHypothesesFor, soughtOneFor};
+ghost use Rattle.queries.specs.Finding.{rowFound, noRow, locatedAt, jointHere, KnownSought, GroupHeld, JointHeld, groupRowFor, jointRowFor, soughtRowFor};
 
 // The table of a location's group.
 fn table_at(
@@ -36,12 +43,12 @@ fn table_at(
     table: &mut [u16],
 ) -> usize
     requires { ⌜ GoodPaper (now model) (now index) (now second) (now regions) ⌝ }
-    requires { ⌜ Stands (now model) (now index) location modes × ((g < 2 + conditionsIn (now index)) × (256 ≤ length (now table))) ⌝ }
-    ensures { λ r. ⌜ hypothesesFrom (now (model .entry)) (now (second .entry)) (variablesIn (now (index .entry))) (now (table .exit)) r ≡ groupHypothesesFor (now (model .entry)) (now (index .entry)) (now (second .entry)) (now (regions .entry)) location g ⌝ }
-    ensures { λ r. ⌜ r ≤ 128 ⌝ }
+    requires { ⌜ Stands (now model) (now index) location modes × ((g < 2 + conditionsIn (now index)) × ((96 ≤ length (now table)) × Stacked (now table) 0)) ⌝ }
+    ensures { λ r. ⌜ GroupHeld (now (model .entry)) (now (index .entry)) (now (second .entry)) (now (regions .entry)) location g (now (table .exit)) r ⌝ }
+    ensures { λ r. ⌜ Stacked (now (table .exit)) r × (r ≤ 23) ⌝ }
 {
     if g == 0 {
-        return start_table(model, index, second, regions, modes, table);
+        return start_table(model, index, modes, table);
     }
     if g == 1 {
         return flow_table(model, index, second, regions, location, modes, table);
@@ -58,39 +65,57 @@ fn table_at(
     )
 }
 
-// Where the row of a line stands, by its form and place. The sheets are handed over for the contract: no byte of them is read.
-fn form_row(model: &[u8], second: &[u8], n: u32, form: u16, place: u32) -> RowFound
-    requires { ⌜ n ≤ 8 ⌝ }
-    ensures { λ r. ⌜ r ≡ rowFound (found (hypothesisIn (now (model .entry)) (now (second .entry)) n form place)) ⌝ }
+// Where the row of a hypothesis stands, by its form, the place of its segment and its number there. The sheets are handed over for the
+// contract: no byte of them is read.
+fn line_row(model: &[u8], second: &[u8], n: u32, line: Line) -> RowFound
+    requires { ⌜ (n ≤ 8) × ((line .place < 65536) × (line .row < 65536)) ⌝ }
+    ensures { λ r. ⌜ r ≡ rowFound (found (hypothesisIn (now (model .entry)) (now (second .entry)) n (line .form) (line .place) (line .row))) ⌝ }
 {
-    if form == 1 {
-        return RowFound::InSecond(place, 4 * (n + 1));
+    let place = line.place as u32;
+    let row = line.row as u32;
+    if line.form == 7 {
+        let size = 4 * (2 * n + 1);
+        return RowFound::InModel(place + size * row, size);
     }
-    if form == 5 {
-        return RowFound::InModel(place, 4 * (2 * n + 1));
+    if 5 < line.form {
+        return RowFound::Nowhere;
     }
-    if form < 4 {
-        return RowFound::InModel(place, 4 * (n + 1));
+    let size = 4 * (n + 1);
+    if line.form == 1 {
+        return RowFound::InSecond(place + size * row, size);
     }
-    RowFound::Nowhere
+    RowFound::InModel(place + size * row, size)
 }
 
-// Where the row of a table's line stands, by the line's number.
-fn line_row(model: &[u8], second: &[u8], n: u32, table: &[u16], count: usize, h: u32) -> RowFound
-    requires { ⌜ n ≤ 8 ⌝ }
-    requires { ⌜ (count ≤ 128) × (256 ≤ length (now table)) ⌝ }
-    ensures { λ r. ⌜ r ≡ rowFound (hypothesisFound (hypothesesFrom (now (model .entry)) (now (second .entry)) n (now (table .entry)) count) h) ⌝ }
+// A refusal, which has no role.
+pub fn refused_row(number: u32, sheet: u32, place: u32) -> Located
+    ensures { λ r. ⌜ r ≡ noRow number sheet place ⌝ }
 {
-    let i = h as usize;
-    if count <= i {
-        return RowFound::Refused(5, 2, 0);
+    Located {
+        row: RowFound::Refused(number, sheet, place),
+        role: 0,
+        owner: 0,
     }
-    let form = table[2 * i];
-    let place = table[2 * i + 1] as u32;
-    form_row(model, second, n, form, place)
 }
 
-// Where the row of a hypothesis of a location's group stands.
+// Where the row of a table's hypothesis stands, by its number, and its role and owner.
+fn row_in(model: &[u8], second: &[u8], n: u32, table: &[u16], segments: usize, h: u32) -> Located
+    requires { ⌜ n ≤ 8 ⌝ }
+    requires { ⌜ (96 ≤ length (now table)) × (Stacked (now table) segments × (segments ≤ 23)) ⌝ }
+    ensures { λ r. ⌜ r ≡ locatedAt (hypothesesFrom (now (model .entry)) (now (second .entry)) n (now (table .entry)) segments) (rolesFrom (now (table .entry)) segments) h ⌝ }
+{
+    if lines(table, segments) <= h {
+        return refused_row(5, 2, 0);
+    }
+    let g = segment_of(table, 1, segments, h);
+    let line = line_at(table, g, segments, h);
+    let role = line.form;
+    let owner = table[4 * g + 3] as u32;
+    let row = line_row(model, second, n, line);
+    Located { row, role, owner }
+}
+
+// Where the row of a hypothesis of a location's group stands, and its role and owner.
 fn location_row(
     model: &[u8],
     index: &Index,
@@ -99,15 +124,15 @@ fn location_row(
     location: u32,
     g: u32,
     h: u32,
-) -> RowFound
+) -> Located
     requires { ⌜ GoodPaper (now model) (now index) (now second) (now regions) ⌝ }
     requires { ⌜ (location < locationCount (componentsFrom (now model) (now index))) × (g < 2 + conditionsIn (now index)) ⌝ }
-    ensures { λ r. ⌜ r ≡ rowFound (hypothesisFound (groupHypothesesFor (now (model .entry)) (now (index .entry)) (now (second .entry)) (now (regions .entry)) location g) h) ⌝ }
+    ensures { λ r. ⌜ r ≡ groupRowFor (now (model .entry)) (now (index .entry)) (now (second .entry)) (now (regions .entry)) location g h ⌝ }
 {
     let modes = modes_at(model, index, location);
     let n = index[VARIABLES_AT] as u32;
     let mut table = [0u16; TABLE_LENGTH];
-    let count = table_at(
+    let segments = table_at(
         model,
         index,
         second,
@@ -117,10 +142,37 @@ fn location_row(
         g,
         &mut table,
     );
-    line_row(model, second, n, &table, count, h)
+    row_in(model, second, n, &table, segments, h)
 }
 
-// Where the row of a hypothesis of a joint switch stands.
+// The table of a joint switch, by its number among those of its event.
+fn joint_table(
+    model: &[u8],
+    index: &Index,
+    second: &[u8],
+    regions: &Regions,
+    location: u32,
+    e: u32,
+    x: u32,
+    table: &mut [u16],
+) -> usize
+    requires { ⌜ GoodPaper (now model) (now index) (now second) (now regions) ⌝ }
+    requires { ⌜ (location < locationCount (componentsFrom (now model) (now index))) × ((e ≤ 15) × (x < length (switchesOf (componentsFrom (now model) (now index)) (modesAt (componentsFrom (now model) (now index)) location) e))) ⌝ }
+    requires { ⌜ (96 ≤ length (now table)) × Stacked (now table) 0 ⌝ }
+    ensures { λ r. ⌜ JointHeld (now (model .entry)) (now (index .entry)) (now (second .entry)) (now (regions .entry)) (jointHere (now (model .entry)) (now (index .entry)) location e x) (now (table .exit)) r ⌝ }
+    ensures { λ r. ⌜ Stacked (now (table .exit)) r × (r ≤ 23) ⌝ }
+{
+    let modes = modes_at(model, index, location);
+    let mut ways = [0u8; WAYS_LENGTH];
+    let slot = list_slot(model, index, location, modes, e, &mut ways);
+    let landing = landing_at(index, slot, &ways, x);
+    let switches = landing.switches;
+    let targets = modes_at(model, index, landing.target);
+    let here = push_here(model, index, second, regions, location, modes, table);
+    jump_table(model, index, targets, switches, here, table)
+}
+
+// Where the row of a hypothesis of a joint switch stands, and its role and owner.
 fn joint_row(
     model: &[u8],
     index: &Index,
@@ -130,31 +182,18 @@ fn joint_row(
     e: u32,
     x: u32,
     h: u32,
-) -> RowFound
+) -> Located
     requires { ⌜ GoodPaper (now model) (now index) (now second) (now regions) ⌝ }
     requires { ⌜ (location < locationCount (componentsFrom (now model) (now index))) × ((e ≤ 15) × (x < length (switchesOf (componentsFrom (now model) (now index)) (modesAt (componentsFrom (now model) (now index)) location) e))) ⌝ }
-    ensures { λ r. ⌜ r ≡ rowFound (hypothesisFound (jointHypothesesFor (now (model .entry)) (now (index .entry)) (now (second .entry)) (now (regions .entry)) (jointHere (now (model .entry)) (now (index .entry)) location e x)) h) ⌝ }
+    ensures { λ r. ⌜ r ≡ jointRowFor (now (model .entry)) (now (index .entry)) (now (second .entry)) (now (regions .entry)) (jointHere (now (model .entry)) (now (index .entry)) location e x) h ⌝ }
 {
-    let modes = modes_at(model, index, location);
-    let switches = joint_at(model, index, modes, e, x);
-    let targets = modes_at(model, index, target_of(model, index, modes, switches));
     let n = index[VARIABLES_AT] as u32;
     let mut table = [0u16; TABLE_LENGTH];
-    let count = jump_table(
-        model,
-        index,
-        second,
-        regions,
-        location,
-        modes,
-        targets,
-        switches,
-        &mut table,
-    );
-    line_row(model, second, n, &table, count, h)
+    let segments = joint_table(model, index, second, regions, location, e, x, &mut table);
+    row_in(model, second, n, &table, segments, h)
 }
 
-// Where the row of a hypothesis of what was found stands.
+// Where the row of a hypothesis of what was found stands, and its role and owner.
 pub fn sought_row(
     model: &[u8],
     index: &Index,
@@ -162,10 +201,10 @@ pub fn sought_row(
     regions: &Regions,
     sought: Sought,
     h: u32,
-) -> RowFound
+) -> Located
     requires { ⌜ GoodPaper (now model) (now index) (now second) (now regions) ⌝ }
     requires { ⌜ KnownSought (now model) (now index) sought ⌝ }
-    ensures { λ r. ⌜ r ≡ rowOf (soughtOneFor (now (model .entry)) (now (index .entry)) (now (second .entry)) (now (regions .entry)) sought) h ⌝ }
+    ensures { λ r. ⌜ r ≡ soughtRowFor (now (model .entry)) (now (index .entry)) (now (second .entry)) (now (regions .entry)) sought h ⌝ }
 {
     match sought {
         Sought::AtLocation(location, g, _) => location_row(
@@ -187,6 +226,6 @@ pub fn sought_row(
             x,
             h,
         ),
-        Sought::Beyond => RowFound::Refused(5, 2, 0),
+        Sought::Beyond(_, _) => refused_row(5, 2, 0),
     }
 }

@@ -1,14 +1,17 @@
-// Show row: which obligation has a number, and where the row of one of its hypotheses stands.
+// Show row: which obligation has a number, and where the row of one of its hypotheses stands, in what role and whose it is.
+use crate::Located;
+use crate::Opened;
 use crate::RowFound;
+use crate::Shown;
 use crate::Sought;
-use crate::Told;
 use crate::Which;
 use crate::find::find;
+use crate::rows::refused_row;
 use crate::rows::sought_row;
 use fields::Next;
-use joint_switches::joints::location_count;
 use models::layout::INDEX_LENGTH;
 use models::layout::Index;
+use models::layout::LOCATIONS_AT;
 use models::layout::VARIABLES_AT;
 use papers::opening::open_paper;
 use rules::Answer;
@@ -16,16 +19,11 @@ use second_sheets::certificate::read_regions;
 use second_sheets::ranges::REGIONS_LENGTH;
 use second_sheets::ranges::Regions;
 ghost use mathlib.Core.Path.{_≡_};
-ghost use Prim.Native.Nat.{_+_, _≤_, _<_};
 ghost use lib.ListN.{length};
-ghost use Rattle.formats.specs.Locations.{locationCount};
-ghost use Rattle.formats.specs.Joint.{joints};
-ghost use Rattle.models.specs.Index.{entry, componentsFrom, modelFrom};
 ghost use Rattle.formats.specs.ModelSheet.{examLimits};
-ghost use Rattle.formats.specs.Certificate.{readRegions};
-ghost use Rattle.papers.specs.Paper.{GoodPaper, Accepted, obligationsFor};
+ghost use Rattle.papers.specs.Paper.{GoodPaper};
 ghost use Rattle.rules.specs.Beside.{findHypothesis, showAnswer, showPart};
-ghost use Rattle.queries.specs.Finding.{whichObligation, groupWhich, rowFound, RowInside, whichOf, toldRefused, toldIn, toldAfter, toldFor, PartIs, soughtOneFor, rowAnswer};
+ghost use Rattle.queries.specs.Finding.{whichObligation, groupWhich, rowFound, hypothesisLocated, hypothesisAnswer, RowInside, whichOf, OpensTo, PartIs, soughtOneFor, rowAnswer};
 
 // Which obligation a location's group has at a line.
 fn group_which(size: u32, location: u32, g: u32, line: u32) -> Which
@@ -73,7 +71,7 @@ fn sought_which(
             subject: number,
             line,
         },
-        Sought::Beyond => Which {
+        Sought::Beyond(_, _) => Which {
             number: 5,
             sheet: 2,
             place: 0,
@@ -84,128 +82,116 @@ fn sought_which(
     }
 }
 
-// A refusal of either sheet.
-fn told_refused(number: u32, sheet: u32, place: usize) -> Told
-    requires { ⌜ place ≤ 32768 ⌝ }
-    ensures { λ r. ⌜ r ≡ toldRefused number sheet place ⌝ }
+// Both sheets read: the model goes first, then the second sheet up to the end of its regions.
+fn open_regions(model: &[u8], second: &[u8], index: &mut Index, regions: &mut Regions) -> Opened
+    ensures { λ r. ⌜ OpensTo examLimits (now (model .entry)) (now (index .exit)) (now (second .entry)) (now (regions .exit)) r ⌝ }
 {
-    let which = Which {
-        number,
-        sheet,
-        place: place as u32,
-        kind: 0,
-        subject: 0,
-        line: 0,
-    };
-    Told {
-        which,
-        row: RowFound::Refused(number, sheet, place as u32),
-    }
-}
-
-// What is found once both sheets are read.
-fn tell_rest(
-    model: &[u8],
-    index: &Index,
-    second: &[u8],
-    regions: &Regions,
-    locations: u32,
-    o: u32,
-    h: u32,
-) -> Told
-    requires { ⌜ GoodPaper (now model) (now index) (now second) (now regions) ⌝ }
-    requires { ⌜ (locations ≡ locationCount (componentsFrom (now model) (now index))) × (length (joints (componentsFrom (now model) (now index))) ≤ 4096) ⌝ }
-    ensures { λ r. ⌜ r ≡ toldIn (length (now (second .entry))) (obligationsFor (now (model .entry)) (now (index .entry)) (now (second .entry)) (now (regions .entry)) locations) o h ⌝ }
-{
-    let sought = find(model, index, second, regions, locations, o);
-    let which = sought_which(model, index, second, regions, sought);
-    let row = sought_row(model, index, second, regions, sought, h);
-    Told { which, row }
-}
-
-// What is found after the second sheet's header: its regions are read first.
-fn tell_body(model: &[u8], index: &Index, second: &[u8], o: u32, h: u32) -> Told
-    requires { ⌜ Accepted (now model) (now index) ⌝ }
-    requires { ⌜ (4 ≤ length (now second)) × (length (now second) ≤ 32768) ⌝ }
-    ensures { λ r. ⌜ r ≡ toldAfter (modelFrom (now (model .entry)) (now (index .entry))) (now (second .entry)) o h (readRegions (modelFrom (now (model .entry)) (now (index .entry))) (now (second .entry)) 4) ⌝ }
-{
-    let locations = location_count(model, index);
-    let mut regions = [0u16; REGIONS_LENGTH];
-    match read_regions(
-        second,
-        4,
-        index[VARIABLES_AT] as usize,
-        locations,
-        &mut regions,
-    ) {
-        Next::Refused(number, place) => told_refused(number, 1, place),
-        Next::At(_) => tell_rest(model, index, second, &regions, locations, o, h),
-    }
-}
-
-// What is found: the model goes first, then the second sheet up to its regions, then the two numbers.
-fn tell(model: &[u8], second: &[u8], o: u32, h: u32) -> Told
-    ensures { λ r. ⌜ r ≡ toldFor examLimits (now (model .entry)) (now (second .entry)) o h ⌝ }
-{
-    let mut index = [0u16; INDEX_LENGTH];
-    let opened = open_paper(model, second, 2, &mut index);
+    let opened = open_paper(model, second, 2, index);
     if opened.number != 0 {
-        return told_refused(opened.number, opened.sheet, opened.place as usize);
+        return Opened::Refused(opened.number, opened.sheet, opened.place);
     }
-    tell_body(model, &index, second, o, h)
+    let n = index[VARIABLES_AT] as usize;
+    let locations = index[LOCATIONS_AT] as u32;
+    match read_regions(second, 4, n, locations, regions) {
+        Next::Refused(number, place) => Opened::Refused(number, 1, place as u32),
+        Next::At(_) => Opened::Open,
+    }
 }
 
 // Which obligation has a number.
 pub fn which(model: &[u8], second: &[u8], o: u32) -> Which
     ensures { λ r. ⌜ r ≡ whichObligation examLimits (now (model .entry)) (now (second .entry)) o ⌝ }
 {
-    let told = tell(model, second, o, 0);
-    told.which
+    let mut index = [0u16; INDEX_LENGTH];
+    let mut regions = [0u16; REGIONS_LENGTH];
+    match open_regions(model, second, &mut index, &mut regions) {
+        Opened::Refused(number, sheet, place) => Which {
+            number,
+            sheet,
+            place,
+            kind: 0,
+            subject: 0,
+            line: 0,
+        },
+        Opened::Open => {
+            let sought = find(model, &index, second, &regions, o);
+            sought_which(model, &index, second, &regions, sought)
+        }
+    }
 }
 
-// Where the row of a hypothesis stands, and that it lies inside its sheet.
-pub fn find_row(model: &[u8], second: &[u8], o: u32, h: u32) -> RowFound
-    ensures { λ r. ⌜ r ≡ rowFound (findHypothesis examLimits (now (model .entry)) (now (second .entry)) o h) ⌝ }
-    ensures { λ r. ⌜ RowInside (now (model .entry)) (now (second .entry)) r ⌝ }
-    ensures { λ r. ⌜ rowAnswer r ≡ showAnswer examLimits (now (model .entry)) (now (second .entry)) o h ⌝ }
+// Where the row of a hypothesis stands, with its role and owner; and that it lies inside its sheet.
+pub fn find_row(model: &[u8], second: &[u8], o: u32, h: u32) -> Located
+    ensures { λ r. ⌜ r ≡ hypothesisLocated examLimits (now (model .entry)) (now (second .entry)) o h ⌝ }
+    ensures { λ r. ⌜ RowInside (now (model .entry)) (now (second .entry)) (r .row) ⌝ }
+    ensures { λ r. ⌜ rowAnswer (r .row) ≡ showAnswer examLimits (now (model .entry)) (now (second .entry)) o h ⌝ }
 {
-    let told = tell(model, second, o, h);
-    told.row
+    let mut index = [0u16; INDEX_LENGTH];
+    let mut regions = [0u16; REGIONS_LENGTH];
+    match open_regions(model, second, &mut index, &mut regions) {
+        Opened::Refused(number, sheet, place) => refused_row(number, sheet, place),
+        Opened::Open => {
+            let sought = find(model, &index, second, &regions, o);
+            sought_row(model, &index, second, &regions, sought, h)
+        }
+    }
+}
+
+// A hypothesis by its number: where its row stands, how many bytes it has, its role, and the component or variable that it belongs to.
+pub fn show_hypothesis(model: &[u8], second: &[u8], o: u32, h: u32) -> Shown
+    ensures { λ r. ⌜ r ≡ hypothesisAnswer examLimits (now (model .entry)) (now (second .entry)) o h ⌝ }
+{
+    let located = find_row(model, second, o, h);
+    let role = located.role;
+    let owner = located.owner;
+    let row = located.row;
+    match row {
+        RowFound::InModel(place, size) => Shown {
+            number: 0,
+            sheet: 0,
+            place,
+            size,
+            role,
+            owner,
+        },
+        RowFound::InSecond(place, size) => Shown {
+            number: 0,
+            sheet: 1,
+            place,
+            size,
+            role,
+            owner,
+        },
+        RowFound::Nowhere => Shown {
+            number: 0,
+            sheet: 2,
+            place: 0,
+            size: 0,
+            role,
+            owner,
+        },
+        RowFound::Refused(number, sheet, place) => Shown {
+            number,
+            sheet,
+            place,
+            size: 0,
+            role,
+            owner,
+        },
+    }
 }
 
 // The sister of show row: the number, with the row's sheet and offset.
 pub fn show_answer(model: &[u8], second: &[u8], o: u32, h: u32) -> Answer
     ensures { λ r. ⌜ r ≡ showAnswer examLimits (now (model .entry)) (now (second .entry)) o h ⌝ }
 {
-    match find_row(model, second, o, h) {
-        RowFound::InModel(place, _) => Answer {
-            number: 0,
-            sheet: 0,
-            place,
-            done: 0,
-            score: 0,
-        },
-        RowFound::InSecond(place, _) => Answer {
-            number: 0,
-            sheet: 1,
-            place,
-            done: 0,
-            score: 0,
-        },
-        RowFound::Nowhere => Answer {
-            number: 0,
-            sheet: 2,
-            place: 0,
-            done: 0,
-            score: 0,
-        },
-        RowFound::Refused(number, sheet, place) => Answer {
-            number,
-            sheet,
-            place,
-            done: 0,
-            score: 0,
-        },
+    let shown = show_hypothesis(model, second, o, h);
+    Answer {
+        number: shown.number,
+        sheet: shown.sheet,
+        place: shown.place,
+        done: 0,
+        score: 0,
     }
 }
 
@@ -214,7 +200,9 @@ pub fn show_row<'a>(model: &'a [u8], second: &'a [u8], o: u32, h: u32) -> &'a [u
     ensures { λ r. ⌜ now r ≡ showPart examLimits (now (model .entry)) (now (second .entry)) o h ⌝ }
     ensures { λ r. ⌜ PartIs (now (model .entry)) (now (second .entry)) (rowFound (findHypothesis examLimits (now (model .entry)) (now (second .entry)) o h)) (now r) ⌝ }
 {
-    match find_row(model, second, o, h) {
+    let located = find_row(model, second, o, h);
+    let row = located.row;
+    match row {
         RowFound::InModel(place, size) => {
             let from = place as usize;
             let to = from + size as usize;

@@ -12,9 +12,8 @@ use lib.IntN.{ℤ, pos, _+ℤ_, _-ℤ_, _*ℤ_, *ℤ-zero}
 use lib.ListN.{length, length-map}
 use lib.Signed.{_≤ℤ_}
 use mir.Facts.{and-yes, yes-and}
-use Rattle.farkas.specs.declared.Row.{Row}
 use Rattle.farkas.specs.Lists.{every}
-use Rattle.farkas.specs.Rows.{item, dot, rowHolds}
+use Rattle.farkas.specs.Rows.{Row, item, dot, rowHolds}
 use Rattle.farkas.specs.Farkas.{sameZ}
 use Rattle.farkas.proofs.All.{every-all, all-every}
 use Rattle.farkas.proofs.Integers.{split, by-parts}

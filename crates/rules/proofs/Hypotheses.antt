@@ -5,9 +5,8 @@ use Prim.Native.Nat.{ℕ, _<_}
 use lib.Dec.{T}
 use lib.IntN.{ℤ, pos}
 use lib.ListN.{length}
-use Rattle.farkas.specs.declared.Row.{Row}
 use Rattle.farkas.specs.Lists.{every, All, none, more}
-use Rattle.farkas.specs.Rows.{item, rowHolds}
+use Rattle.farkas.specs.Rows.{Row, item, rowHolds}
 use Rattle.farkas.proofs.All.{all-append, all-map, all-at, every-all, all-every}
 use Rattle.formats.specs.Rows.{Condition}
 use Rattle.formats.specs.Model.{Mode, Switch, Component}

@@ -10,9 +10,8 @@ use lib.Dec.{T}
 use lib.IntN.{ℤ, pos, negsuc, negℤ, _+ℤ_, _-ℤ_, _*ℤ_}
 use lib.ListN.{length, replicate, length-append}
 use lib.Signed.{_≤ℤ_}
-use Rattle.farkas.specs.declared.Row.{Row}
 use Rattle.farkas.specs.Lists.{every, All, none, more}
-use Rattle.farkas.specs.Rows.{item, dot, rowHolds}
+use Rattle.farkas.specs.Rows.{Row, item, dot, rowHolds}
 use Rattle.farkas.proofs.All.{all-append, all-map, every-all, all-every}
 use Rattle.farkas.proofs.Integers.{split, by-parts}
 use Rattle.farkas.proofs.Order.{≤-antisym}

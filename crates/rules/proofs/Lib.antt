@@ -17,3 +17,4 @@ pub mod Movers
 pub mod Twelve
 pub mod PairPaper
 pub mod NotConstant
+pub mod RoleLengths

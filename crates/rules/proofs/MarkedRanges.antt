@@ -10,9 +10,8 @@ use native.Mathlib.Omega.{arith}
 use lib.Dec.{leb, ltb, eqb}
 use lib.ListN.{length, getD}
 use borrow.Author.Tests.{leb-true, leb-false}
-use Rattle.farkas.specs.declared.Row.{Row}
 use Rattle.farkas.specs.Lists.{every, All, none, more}
-use Rattle.farkas.specs.Rows.{zeroRow}
+use Rattle.farkas.specs.Rows.{Row, zeroRow}
 use Rattle.farkas.specs.Farkas.{Proof, farkasTest}
 use Rattle.farkas.proofs.All.{all-append, all-map, all-at}
 use Rattle.farkas.proofs.Promise.{only-three}

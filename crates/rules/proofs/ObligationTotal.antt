@@ -5,7 +5,7 @@ use mathlib.Core.List.{List, [], _∷_}
 use Prim.Native.Nat.{ℕ, suc, _+_, _*_}
 use native.Mathlib.Omega.{arith}
 use lib.ListN.{length, length-append}
-use Rattle.farkas.specs.declared.Row.{Row}
+use Rattle.farkas.specs.Rows.{Row}
 use Rattle.formats.specs.Rows.{Condition}
 use Rattle.formats.specs.Model.{Model}
 use Rattle.formats.specs.Locations.{locationCount, modesAt}

@@ -8,8 +8,7 @@ use lib.Dec.{T}
 use lib.IntN.{ℤ, pos, negsuc, negℤ, _+ℤ_, _-ℤ_, _*ℤ_, +ℤ-idl, +ℤ-idr}
 use lib.ListN.{length, getD, set, replicate, length-append, length-set, length-map}
 use lib.Signed.{_≤ℤ_}
-use Rattle.farkas.specs.declared.Row.{Row}
-use Rattle.farkas.specs.Rows.{item, dot, rowHolds}
+use Rattle.farkas.specs.Rows.{Row, item, dot, rowHolds}
 use Rattle.farkas.specs.Lists.{All, none, more}
 use Rattle.farkas.proofs.Integers.{split, by-parts}
 use Rattle.rules.specs.Runs.{difference}

@@ -13,9 +13,8 @@ use lib.IntN.{ℤ, pos, _+ℤ_, _*ℤ_}
 use lib.ListN.{length, getD, set}
 use lib.Signed.{_<ℤ_, <ℤ-irrefl}
 use mir.Facts.{and-yes, yes-and}
-use Rattle.farkas.specs.declared.Row.{Row}
 use Rattle.farkas.specs.Lists.{every, All, none, more}
-use Rattle.farkas.specs.Rows.{item, dot, rowHolds, zeroRow}
+use Rattle.farkas.specs.Rows.{Row, item, dot, rowHolds, zeroRow}
 use Rattle.farkas.specs.Farkas.{Proof, SumsMeet, sameZ, farkasTest, sumsTest, summed, addEntries, coefficientsAgree, boundPasses, Agree}
 use Rattle.farkas.proofs.All.{all-append, every-all, all-every}
 use Rattle.farkas.proofs.Integers.{split, by-parts}

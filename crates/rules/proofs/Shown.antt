@@ -8,9 +8,8 @@ use Prim.Native.Nat.{ℕ, zero, suc, _≤_, _<_}
 use native.Mathlib.Omega.{arith}
 use lib.Dec.{T, eqb}
 use lib.IntN.{ℤ}
-use Rattle.farkas.specs.declared.Row.{Row}
 use Rattle.farkas.specs.Lists.{every, All, none, more}
-use Rattle.farkas.specs.Rows.{rowHolds, zeroRow}
+use Rattle.farkas.specs.Rows.{Row, rowHolds, zeroRow}
 use Rattle.farkas.specs.Farkas.{Proof, Meets}
 use Rattle.farkas.proofs.All.{all-map}
 use Rattle.farkas.proofs.Promise.{sound, sound-unsafe}

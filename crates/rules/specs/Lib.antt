@@ -5,6 +5,7 @@ pub mod Marking
 pub mod ReadWell
 pub mod Outcomes
 pub mod Beside
+pub mod Roles
 pub mod Program
 pub mod Papers
 pub mod PairPaper

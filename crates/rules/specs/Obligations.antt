@@ -5,9 +5,8 @@ use Prim.Native.Nat.{ℕ, suc, _+_, _*_}
 use lib.Dec.{eqb}
 use lib.IntN.{ℤ, pos, negsuc, negℤ}
 use lib.ListN.{length, getD, set, replicate}
-use Rattle.farkas.specs.declared.Row.{Row}
 use Rattle.farkas.specs.Lists.{every}
-use Rattle.farkas.specs.Rows.{zeroRow}
+use Rattle.farkas.specs.Rows.{Row, zeroRow}
 use Rattle.formats.specs.Rows.{SheetRow, Condition}
 use Rattle.formats.specs.Model.{Mode, Switch, Unsafe, Model}
 use Rattle.formats.specs.Locations.{locationCount, modesAt}

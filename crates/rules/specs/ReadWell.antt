@@ -5,7 +5,7 @@ use mathlib.Core.List.{List, [], _∷_, map}
 use Prim.Native.Nat.{ℕ}
 use lib.Dec.{T}
 use lib.ListN.{length}
-use Rattle.farkas.specs.declared.Row.{Row}
+use Rattle.farkas.specs.Rows.{Row}
 use Rattle.farkas.specs.Farkas.{Proof, Meets}
 use Rattle.formats.specs.Reading.{Reader, got, _>>=_, _>>_, give, many, each, header, finished}
 use Rattle.formats.specs.Rows.{Condition}

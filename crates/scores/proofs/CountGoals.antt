@@ -4,30 +4,27 @@ use mathlib.Core.Path.{_≡_, refl, sym, ap, ap₂, _∙_}
 use mathlib.Core.Bool.{Bool, true, false, cond}
 use mathlib.Core.List.{List, [], _∷_, _++_}
 use Prim.Native.Nat.{ℕ, suc, _+_, _*_, _≤_, _<_}
-use native.Mathlib.Numerals.{add-one}
 use native.Mathlib.Omega.{arith}
 use lib.Dec.{eqb}
-use lib.ListN.{length, getD, drop, length-append, drop-of-length-le}
-use lib.Seq.{drop-cons}
+use lib.ListN.{length, drop, length-append, drop-of-length-le}
 use Rattle.farkas.specs.Lists.{every}
 use Rattle.formats.specs.Rows.{Condition}
-use Rattle.formats.specs.Model.{Component, Unsafe, Model}
-use Rattle.formats.specs.Locations.{locationCount, modesAt, locationOf}
+use Rattle.formats.specs.Model.{Unsafe, Model}
+use Rattle.formats.specs.Locations.{locationCount, modesAt}
 use Rattle.formats.specs.JointTotals.{sumOver}
-use Rattle.formats.specs.Joint.{bit, numbersFrom, modesAfter, switchesOf, JointSwitch, jointsOf, joints, countUp, joinAll, jointFrom}
+use Rattle.formats.specs.Joint.{bit, numbersFrom, JointSwitch, joints, countUp, joinAll}
 use Rattle.models.specs.Index.{entry, unsafePlace, unsafeFrom, componentsFrom, modelFrom, GoodIndex}
 use Rattle.models.specs.Counts.{perComponent}
 use Rattle.second_sheets.specs.CertificateAnswers.{regionsFrom}
 use Rattle.models.proofs.GoodIndexLaws.{counted-length, counted-drop, index-well-formed}
 use Rattle.formats.proofs.SumLaws.{sum-first}
-use Rattle.formats.proofs.JointCounts.{numbers-length, event-length, jointsIn}
-use Rattle.joint_switches.proofs.JointLoops.{switches-few, record-at}
+use Rattle.formats.proofs.JointCounts.{numbers-length}
 use Rattle.rules.specs.Runs.{present, modesIn, modesFit}
 use Rattle.rules.specs.Obligations.{Obligation, startObligations, flowObligations, unsafeObligations, locationObligations, jumpObligations, jumpsObligations, obligationsOver, obligations, regionOf}
 use Rattle.papers.specs.Paper.{GoodPaper, regionsOf}
 use Rattle.scores.specs.Counting.{rowsInto, targetRows}
 use Rattle.rules.proofs.ObligationTotal.{per-row, goalsAt, obligations-total}
-use Rattle.rules.proofs.ListFacts.{joined-few, joined-twice, count-length}
+use Rattle.rules.proofs.ListFacts.{joined-few, count-length}
 use Rattle.papers.proofs.RegionLaws.{region-few}
 
 -- numbers of elements that pass a test: not more than elements
@@ -179,36 +176,6 @@ pub rows-few : (regionAt : ℕ → Condition) → ((l : ℕ) → length (regionA
 unfolding targetRows
 rows-few regionAt h switches = joined-few (λ j. regionAt (j .target)) 16 (λ j. h (j .target)) switches
 
-pub rows-joined : (regionAt : ℕ → Condition) (f : ℕ → List JointSwitch) (xs : List ℕ) → length (joinAll (λ i. targetRows regionAt (f i)) xs) ≡ length (targetRows regionAt (joinAll f xs))
-unfolding targetRows
-rows-joined regionAt f xs = ap (λ (c : Condition). length c) (sym (joined-twice (λ j. regionAt (j .target)) f xs))
-
--- how many joint switches an event has, by the modes of a location
-pub counted-switches : (components : List Component) (e : ℕ) {n : ℕ} {modes here : List ℕ} → n ≡ length (switchesOf components modes e) → modes ≡ here → n ≡ length (switchesOf components here e)
-counted-switches components e p q = p ∙ ap (λ (ms : List ℕ). length (switchesOf components ms e)) q
-
--- of an event, from one of its joint switches on
-module _ (regionAt : ℕ → Condition) (components : List Component) (location e : ℕ) where
-  pub event-turn : (x : ℕ) → x < length (switchesOf components (modesAt components location) e) → length (targetRows regionAt (drop x (jointsOf components location e))) ≡ length (regionAt (locationOf components (modesAfter components (modesAt components location) (getD (switchesOf components (modesAt components location) e) x [])))) + length (targetRows regionAt (drop (x + 1) (jointsOf components location e)))
-  unfolding targetRows joinAll jointFrom
-  event-turn x h =
-      let switches = jointsOf components location e in
-      let found = jointFrom components location e (getD (switchesOf components (modesAt components location) e) x []) in
-      let next : drop x switches ≡ found ∷ drop (x + 1) switches =
-      drop-cons switches x found (omega (arith, event-length components location e)) ∙ ap₂ (λ (j : JointSwitch) (i : ℕ). j ∷ drop i switches) (record-at components location e x found h) (sym (add-one x)) in
-      ap (λ (js : List JointSwitch). length (targetRows regionAt js)) next
-      ∙ length-append (regionAt (found .target)) (targetRows regionAt (drop (x + 1) switches))
-
-  pub event-end : (x : ℕ) → length (switchesOf components (modesAt components location) e) ≤ x → length (targetRows regionAt (drop x (jointsOf components location e))) ≡ 0
-  unfolding targetRows joinAll
-  event-end x h =
-      ap (λ (js : List JointSwitch). length (targetRows regionAt js)) (drop-of-length-le (jointsOf components location e) {i = x} (omega (arith, event-length components location e)))
-
-pub event-few : {model index second regions : List ℕ} → GoodPaper model index second regions → (location e : ℕ) → length (targetRows (regionsOf model index second regions) (jointsOf (componentsFrom model index) location e)) ≤ 16777216
-event-few {model} {index} {second} {regions} g location e =
-    let components = componentsFrom model index in
-    omega (arith, rows-few (regionsOf model index second regions) (region-few model index second regions g) (jointsOf components location e), event-length components location e, switches-few (g .good) (modesAt components location) e)
-
 pub jumps-few : {model index second regions : List ℕ} → GoodPaper model index second regions → length (joints (componentsFrom model index)) ≤ 4096 → length (targetRows (regionsOf model index second regions) (joints (componentsFrom model index))) ≤ 65536
 jumps-few {model} {index} {second} {regions} g h =
     omega (arith, rows-few (regionsOf model index second regions) (region-few model index second regions g) (joints (componentsFrom model index)))
@@ -217,10 +184,3 @@ jumps-few {model} {index} {second} {regions} g h =
 pub goals-few : {model index second regions : List ℕ} → GoodPaper model index second regions → (locations : ℕ) → locations ≡ locationCount (componentsFrom model index) → length (joints (componentsFrom model index)) ≤ 4096 → (n : ℕ) → n ≤ locations → sumOver (goalsFor model index second regions) (countUp 0 n) ≤ 68608
 goals-few {model} {index} {second} {regions} g locations h few n l =
     omega (arith, sum-first (goalsFor model index second regions) n locations l, goals-all second regions (g .good) locations h, obligations-length model index second regions locations h, locations-few g locations h, jumps-few g few)
-
-pub events-few : {model index second regions : List ℕ} → GoodPaper model index second regions → (location : ℕ) → length (targetRows (regionsOf model index second regions) (jointsIn (componentsFrom model index) location)) ≤ 268435456
-unfolding countUp
-events-few {model} {index} {second} {regions} g location =
-    let components = componentsFrom model index in
-    let regionAt = regionsOf model index second regions in
-    omega (arith, joined-few (λ e. targetRows regionAt (jointsOf components location e)) 16777216 (event-few g location) (countUp 0 16), rows-joined regionAt (jointsOf components location) (countUp 0 16))

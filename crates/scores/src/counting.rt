@@ -5,11 +5,6 @@ use joint_switches::into::count_entering;
 use joint_switches::into::joints_into;
 use joint_switches::joints::bit_of;
 use joint_switches::joints::modes_at;
-use joint_switches::joints::target_of;
-use joint_switches::ways::WAYS_LENGTH;
-use joint_switches::ways::list_ways;
-use joint_switches::ways::way_at;
-use joint_switches::ways::ways_count;
 use models::layout::CONDITIONS_AT;
 use models::layout::Index;
 use papers::standing::all_start;
@@ -18,17 +13,16 @@ use second_sheets::ranges::Regions;
 ghost use mathlib.Core.Path.{_≡_};
 ghost use Prim.Native.Nat.{_+_, _*_, _≤_, _<_};
 ghost use lib.ListN.{length};
-ghost use Rattle.formats.specs.Locations.{locationCount, modesAt};
-ghost use Rattle.formats.specs.Joint.{numbersFrom, switchesOf, jointsOf, joints, joinAll, countUp};
+ghost use Rattle.formats.specs.Locations.{locationCount};
+ghost use Rattle.formats.specs.Joint.{numbersFrom, joints};
 ghost use Rattle.models.specs.Index.{entry, componentsFrom, modelFrom, GoodIndex};
 ghost use Rattle.models.specs.Counts.{perComponent};
-ghost use Rattle.joint_switches.specs.Ways.{Ways};
 ghost use Rattle.joint_switches.specs.Numbered.{ByMode};
 ghost use Rattle.rules.specs.Runs.{modesFit};
 ghost use Rattle.rules.specs.Marking.{refusedScore};
 ghost use Rattle.papers.specs.Standing.{Stands};
 ghost use Rattle.papers.specs.Paper.{GoodPaper, regionsOf, locationObligationsFor, obligationsFor};
-ghost use Rattle.scores.specs.Counting.{rowsInto, targetRowsFor, rowsAfter};
+ghost use Rattle.scores.specs.Counting.{rowsInto};
 
 // How many unsafe conditions there are whose modes fit the present ones.
 fn fitting_count(model: &[u8], index: &Index, modes: [u8; 4]) -> u32
@@ -157,121 +151,6 @@ pub fn obligation_count(
     let mut table = [0u8; ENTERING_LENGTH];
     count_entering(model, index, &mut table);
     goals_by(model, index, second, regions, &table, locations)
-}
-
-// How many goals a joint switch has, found by its number from the table of its event's ways: the rows of its target's region.
-pub fn target_goals(
-    model: &[u8],
-    index: &Index,
-    second: &[u8],
-    regions: &Regions,
-    location: u32,
-    modes: [u8; 4],
-    e: u32,
-    ways: &[u8],
-    counts: [u32; 4],
-    x: u32,
-) -> u32
-    requires { ⌜ GoodPaper (now model) (now index) (now second) (now regions) ⌝ }
-    requires { ⌜ (location < locationCount (componentsFrom (now model) (now index))) × (perComponent (now index) modes ≡ modesAt (componentsFrom (now model) (now index)) location) ⌝ }
-    requires { ⌜ (128 ≤ length (now ways)) × Ways (now model) (now index) modes e (now ways) counts ⌝ }
-    requires { ⌜ (e ≤ 15) × (x < length (switchesOf (componentsFrom (now model) (now index)) (modesAt (componentsFrom (now model) (now index)) location) e)) ⌝ }
-    ensures { λ r. ⌜ r ≡ length (rowsAfter (now (model .entry)) (now (index .entry)) (now (second .entry)) (now (regions .entry)) location e x) ⌝ }
-{
-    let switches = way_at(model, index, modes, e, ways, counts, x);
-    let target = target_of(model, index, modes, switches);
-    region_rows(model, index, second, regions, target)
-}
-
-// How many goals the joint switches of an event have, from the table of its ways.
-fn listed_goals(
-    model: &[u8],
-    index: &Index,
-    second: &[u8],
-    regions: &Regions,
-    location: u32,
-    modes: [u8; 4],
-    e: u32,
-    ways: &[u8],
-    counts: [u32; 4],
-) -> u32
-    requires { ⌜ GoodPaper (now model) (now index) (now second) (now regions) ⌝ }
-    requires { ⌜ (location < locationCount (componentsFrom (now model) (now index))) × (perComponent (now index) modes ≡ modesAt (componentsFrom (now model) (now index)) location) ⌝ }
-    requires { ⌜ (128 ≤ length (now ways)) × Ways (now model) (now index) modes e (now ways) counts ⌝ }
-    requires { ⌜ e ≤ 15 ⌝ }
-    ensures { λ r. ⌜ r ≡ length (targetRowsFor (now (model .entry)) (now (index .entry)) (now (second .entry)) (now (regions .entry)) (jointsOf (componentsFrom (now (model .entry)) (now (index .entry))) location e)) ⌝ }
-{
-    let switches = ways_count(model, index, modes, e, ways, counts);
-    let mut count: u32 = 0;
-    let mut x: u32 = 0;
-    while x < switches {
-        count += target_goals(
-            model,
-            index,
-            second,
-            regions,
-            location,
-            modes,
-            e,
-            ways,
-            counts,
-            x,
-        );
-        x += 1;
-    }
-    count
-}
-
-// How many goals the joint switches of an event have, from a location with these modes. Their ways are listed once.
-pub fn event_goals(
-    model: &[u8],
-    index: &Index,
-    second: &[u8],
-    regions: &Regions,
-    location: u32,
-    modes: [u8; 4],
-    e: u32,
-) -> u32
-    requires { ⌜ GoodPaper (now model) (now index) (now second) (now regions) ⌝ }
-    requires { ⌜ (location < locationCount (componentsFrom (now model) (now index))) × (perComponent (now index) modes ≡ modesAt (componentsFrom (now model) (now index)) location) ⌝ }
-    requires { ⌜ e ≤ 15 ⌝ }
-    ensures { λ r. ⌜ r ≡ length (targetRowsFor (now (model .entry)) (now (index .entry)) (now (second .entry)) (now (regions .entry)) (jointsOf (componentsFrom (now (model .entry)) (now (index .entry))) location e)) ⌝ }
-{
-    let mut ways = [0u8; WAYS_LENGTH];
-    let counts = list_ways(model, index, modes, e, &mut ways);
-    listed_goals(
-        model,
-        index,
-        second,
-        regions,
-        location,
-        modes,
-        e,
-        &ways,
-        counts,
-    )
-}
-
-// How many goals the joint switches from a location have.
-pub fn jump_goals(
-    model: &[u8],
-    index: &Index,
-    second: &[u8],
-    regions: &Regions,
-    location: u32,
-) -> u32
-    requires { ⌜ GoodPaper (now model) (now index) (now second) (now regions) ⌝ }
-    requires { ⌜ location < locationCount (componentsFrom (now model) (now index)) ⌝ }
-    ensures { λ r. ⌜ r ≡ length (targetRowsFor (now (model .entry)) (now (index .entry)) (now (second .entry)) (now (regions .entry)) (joinAll (jointsOf (componentsFrom (now (model .entry)) (now (index .entry))) location) (countUp 0 16))) ⌝ }
-{
-    let modes = modes_at(model, index, location);
-    let mut count: u32 = 0;
-    let mut e: u32 = 0;
-    while e < 16 {
-        count += event_goals(model, index, second, regions, location, modes, e);
-        e += 1;
-    }
-    count
 }
 
 // The score of a refused certificate: 100 times the proofs that passed over all obligations, rounded down, or 100 if there are none; at

@@ -7,7 +7,8 @@ use fields::header::header;
 use joint_switches::joints::location_count;
 use libc::STDIN_FILENO;
 use libc::STDOUT_FILENO;
-use model_sheets::sheet::read_model;
+use model_sheets::sheet::model_into;
+use models::layout::INDEX_LENGTH;
 use models::layout::Index;
 use models::layout::VARIABLES_AT;
 use second_sheets::EntryRead;
@@ -42,9 +43,8 @@ fn answer_next(read: Next) {
 
 // Reads a model.
 fn try_model(s: &[u8]) {
-    let read = read_model(s);
-    let next = read.next;
-    answer_next(next);
+    let mut index = [0u16; INDEX_LENGTH];
+    answer_next(model_into(s, &mut index));
 }
 
 // Reads a certificate's header and regions.
@@ -117,10 +117,8 @@ fn try_step(model: &[u8], index: &Index, s: &[u8], at: usize)
 
 // Reads what stands beside a model.
 fn try_beside(model: &[u8], kind: usize, at: usize, s: &[u8]) {
-    let read = read_model(model);
-    let index = read.index;
-    let seen = read.next;
-    match seen {
+    let mut index = [0u16; INDEX_LENGTH];
+    match model_into(model, &mut index) {
         Next::Refused(number, place) => answer(number, place),
         Next::At(_) => {
             if kind == 2 {

@@ -15,7 +15,7 @@ use Rattle.farkas.specs.Rows.{item}
 use Rattle.farkas.proofs.Bits.{size-+, fits, read-back}
 use Rattle.second_sheets.specs.RunAnswers.{KeptValues}
 use Rattle.rules.specs.Runs.{difference}
-use Rattle.papers.proofs.ByteSizes.{size-negated}
+use Rattle.farkas.proofs.Promise.{size-negated}
 use Rattle.steps.specs.Held.{SmallValues, SmallPoint, withChanges, movedOn}
 
 -- a slice from a place on

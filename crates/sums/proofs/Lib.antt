@@ -1,3 +1,4 @@
+pub mod LineLaws
 pub mod RowLaws
 pub mod RowSizes
 pub mod ProofLaws

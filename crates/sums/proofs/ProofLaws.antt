@@ -1,86 +1,47 @@
--- A proof of a certificate, from hypotheses kept in a table: their lines, their rows held in seventeen coefficients, the sums of
--- entries that are read one by one, and how the parts of the marking make the whole. Assumes nothing.
+-- A proof of a certificate: the sums of entries that are read one by one, and how the parts of the marking make the whole. Assumes
+-- nothing.
 use mathlib.Core.Path.{_≡_, refl, sym, ap, ap₂, _∙_}
-use mathlib.Core.Bool.{Bool}
-use mathlib.Core.List.{List, [], _∷_, map}
-use Prim.Native.Nat.{ℕ, zero, suc, _+_, _*_, _-_, _^_, _≤_, _<_}
-use native.Mathlib.Nat.{zero-add}
+use mathlib.Core.Bool.{Bool, true, false, cond}
+use mathlib.Core.List.{List, [], _∷_}
+use Prim.Native.Nat.{ℕ, zero, suc, _+_, _-_, _^_, _≤_, _<_}
 use native.Mathlib.Numerals.{add-one}
 use native.Mathlib.Omega.{arith}
-use lib.ListN.{length, getD, length-map}
-use Rattle.farkas.specs.declared.Row.{Row}
-use Rattle.farkas.specs.Rows.{zeroRow, noSums, Alike}
-use Rattle.farkas.specs.Farkas.{Entry, Proof, addRow, addEntry, addEntries, summed, sumsTest, farkasTest}
-use Rattle.farkas.specs.Lists.{All}
-use Rattle.farkas.proofs.Promise.{alike-refl, alike-padded, alike-no-sums, alike-entries, alike-test}
+use lib.Dec.{leb→le}
+use lib.IntN.{pos}
+use lib.ListN.{length, getD, replicate}
+use Rattle.farkas.specs.Rows.{Row, rowOf, zeroRow, Alike}
+use Rattle.farkas.specs.declared.Verdict.{Verdict}
+use Rattle.farkas.specs.declared.Verdict.the-variants as verdicts
+use Rattle.fields.specs.declared.Next.{Next}
+use Rattle.fields.specs.declared.Next.the-variants as next
+use Rattle.farkas.specs.Farkas.{numberOf, Entry, Proof, addRow, addEntry, addEntries, summed, sumsTest, farkasTest}
+use Rattle.farkas.proofs.Promise.{alike-refl, alike-padded, alike-entries, alike-test}
 use Rattle.second_sheets.specs.declared.EntryRead.{EntryRead}
 use Rattle.second_sheets.specs.declared.EntryRead.the-variants as entries
 use Rattle.second_sheets.specs.declared.HeadRead.{HeadRead}
 use Rattle.second_sheets.specs.declared.HeadRead.the-variants as heads
 use Rattle.formats.specs.Reading.{Got, got, refused, Reader, andThen, _>>=_, give, u8, u32}
-use Rattle.formats.specs.Joint.{countUp}
-use Rattle.models.specs.Index.{entry}
 use Rattle.formats.specs.Certificate.{readEntry, readEntries, readProof}
 use Rattle.second_sheets.specs.CertificateAnswers.{Head, readHead, gotHead, gotEntry}
 use Rattle.formats.proofs.Gives.{Gives, got-value, got-next, passes, gives-any, gives-bind, gives-give, gives-must, gives-below, gives-within, bind-got}
 use Rattle.fields.proofs.Skipping.{bind-refused}
 use Rattle.fields.proofs.ChainLaws.{bind-assoc, bind-same}
-use Rattle.formats.proofs.Members.{all-in, in-map, in-count}
 use Rattle.second_sheets.proofs.CertificateLaws.{proof-reads}
-use Rattle.hypotheses.specs.Tables.{TableLine, linesIn, hypothesisIn, hypothesisOf, hypothesesFrom, hypothesisRows, padded, testWith, markWith}
+use Rattle.hypotheses.specs.Tables.{testWith, markWith}
 use Rattle.papers.specs.Paper.{heldNext}
 use Rattle.sums.specs.Summing.{sumEntries, tested}
-use Rattle.formats.proofs.JointCounts.{mapped-at}
-use Rattle.rules.proofs.ListFacts.{count-length}
 
--- a line of the table
-pub line-has : {P : TableLine → Type 0} (table : List ℕ) (count i : ℕ) → All P (linesIn table count) → i < count → P (record { form = entry table (2 * i); place = entry table (2 * i + 1) })
-unfolding linesIn
-line-has table count i all h =
-    all-in all (in-map (λ i. record { form = entry table (2 * i); place = entry table (2 * i + 1) }) (in-count 0 count i (omega arith) (omega arith)))
-
--- The rows of the table, each by its line
-pub rows-count : (model second : List ℕ) (n : ℕ) (table : List ℕ) (count : ℕ) → length (hypothesisRows (hypothesesFrom model second n table count)) ≡ count
-unfolding hypothesisRows hypothesesFrom linesIn
-rows-count model second n table count =
-    let line : ℕ → TableLine = λ i. record { form = entry table (2 * i); place = entry table (2 * i + 1) } in
-    length-map (map (hypothesisOf model second n) (map line (countUp 0 count))) (λ h. h .row)
-    ∙ length-map (map line (countUp 0 count)) (hypothesisOf model second n)
-    ∙ length-map (countUp 0 count) line
-    ∙ count-length 0 count
-
-count-at : (k n i : ℕ) → i < n → getD (countUp k n) i 0 ≡ k + i
-unfolding countUp
-count-at k zero i h = absurd (omega arith)
-count-at k (suc n) zero h = omega arith
-count-at k (suc n) (suc i) h = count-at (suc k) n i (omega arith) ∙ next k i
-  where
-    next : (k i : ℕ) → suc k + i ≡ k + suc i
-    next k i = omega arith
-
-joined : {A B C D E : Type 0} (f : A → B) (g : B → C) (h : C → D) (k : D → E) (xs : List A) → map k (map h (map g (map f xs))) ≡ map (λ a. k (h (g (f a)))) xs
-joined f g h k [] = refl
-joined f g h k (x ∷ xs) = ap (λ ys. k (h (g (f x))) ∷ ys) (joined f g h k xs)
-
-pub row-listed : (model second : List ℕ) (n : ℕ) (table : List ℕ) (count i : ℕ) → i < count → getD (map padded (hypothesisRows (hypothesesFrom model second n table count))) i zeroRow ≡ padded (hypothesisIn model second n (entry table (2 * i)) (entry table (2 * i + 1)) .row)
-unfolding hypothesisRows hypothesesFrom linesIn hypothesisOf
-row-listed model second n table count i h =
-    let line : ℕ → TableLine = λ i. record { form = entry table (2 * i); place = entry table (2 * i + 1) } in
-    let held : ℕ → Row = λ i. padded (hypothesisIn model second n (entry table (2 * i)) (entry table (2 * i + 1)) .row) in
-    ap (λ xs. getD xs i zeroRow) (joined line (hypothesisOf model second n) (λ h. h .row) padded (countUp 0 count))
-    ∙ mapped-at held (countUp 0 count) i 0 zeroRow (omega (arith, count-length 0 count))
-    ∙ ap held (count-at 0 count i h ∙ zero-add i)
-
--- What an entry has: a hypothesis below the count, and a multiplier below 2 ^ 24
-pub record EntryWithin (hypotheses : ℕ) (e : Entry) : Type 0 where
+-- What an entry has: a hypothesis that is not too low and below the count, and a multiplier below 2 ^ 24
+pub record EntryWithin (hypotheses least : ℕ) (e : Entry) : Type 0 where
+  pub from : least ≤ e .hypothesis
   pub hypothesis : e .hypothesis < hypotheses
   pub multiplier : e .multiplier < 2 ^ 24
 
-pub entry-within : (hypotheses least : ℕ) → Gives (EntryWithin hypotheses) (readEntry hypotheses least)
+pub entry-within : (hypotheses least : ℕ) → Gives (EntryWithin hypotheses least) (readEntry hypotheses least)
 unfolding readEntry
 entry-within hypotheses least =
     gives-bind (gives-must _ 9 (gives-below hypotheses u8))
-    (λ h low. gives-bind (gives-within 1 (2 ^ 24 - 1) u32) (λ m range. gives-give _ (record { hypothesis = low .1; multiplier = omega arith })))
+    (λ h low. gives-bind (gives-within 1 (2 ^ 24 - 1) u32) (λ m range. gives-give _ (record { from = leb→le least h (low .0); hypothesis = low .1; multiplier = omega arith })))
 
 -- Entries read and summed at once are entries read, then summed
 pub entries-summed : (rows : List Row) (hypotheses least : ℕ) (sums : Row) (n : ℕ) (s : List ℕ) (p : ℕ) → sumEntries rows hypotheses least sums n s p ≡ (readEntries hypotheses least n >>= λ es. give (addEntries rows sums es)) s p
@@ -118,6 +79,29 @@ unfolding readHead
 head-few zeroK =
     gives-bind gives-any (λ k u. gives-bind (gives-within 0 128 u8) (λ count range. gives-give _ (range .1)))
 
+-- and where k must be 0, it is
+pub head-zero : (zeroK : Bool) → Gives (λ h. zeroK ≡ true → h .k ≡ 0) (readHead zeroK)
+unfolding readHead
+head-zero true = gives-bind (gives-within 0 0 u32) (λ k low. gives-bind gives-any (λ count u. gives-give _ (λ e. omega (arith, low .1))))
+head-zero false = gives-bind gives-any (λ k u. gives-bind gives-any (λ count w. gives-give _ (λ e. absurd (not-both e))))
+  where
+    not-both : false ≡ true → ⊥
+    not-both e = let z : _≡_ {A = ℕ} 0 1 = ap (λ (b : Bool). cond b 1 0) e in omega (arith, z)
+
+-- a refusal is no place, and only a verdict that the proof holds gives one
+pub refused-not-at : {number place end : ℕ} → next.Refused number place ≡ next.At end → ⊥
+refused-not-at e = let z : _≡_ {A = ℕ} 0 1 = ap kind e in omega (arith, z)
+  where
+    kind : Next → ℕ
+    kind (next.At p) = 1
+    kind (next.Refused n p) = 0
+
+pub tested-holds : (v : Verdict) (at end reached : ℕ) → tested (numberOf v) at end ≡ next.At reached → v ≡ verdicts.Holds
+unfolding tested numberOf
+tested-holds verdicts.Holds at end reached e = refl
+tested-holds verdicts.CoefficientsDiffer at end reached e = absurd (refused-not-at e)
+tested-holds verdicts.BoundFails at end reached e = absurd (refused-not-at e)
+
 -- one more entry read and summed
 module _ (rows : List Row) (hypotheses least : ℕ) (sums : Row) (n : ℕ) (s : List ℕ) (p : ℕ) where
   sum-next : (left : ℕ) (e : Entry) (q : ℕ) → left ≡ suc n → readEntry hypotheses least s p ≡ got e q → sumEntries rows hypotheses least sums left s p ≡ sumEntries rows hypotheses (suc (e .hypothesis)) (addEntry rows sums e) n s q
@@ -138,17 +122,14 @@ pub sum-done : (rows : List Row) (hypotheses least : ℕ) (sums : Row) (left : �
 unfolding sumEntries give
 sum-done rows hypotheses least sums left s p h = ap (λ (k : ℕ). sumEntries rows hypotheses least sums k s p) h
 
--- Rows held in seventeen coefficients are alike
-alike-held : (rows : List Row) (i : ℕ) → Alike (getD (map padded rows) i zeroRow) (getD rows i zeroRow)
-unfolding padded
-alike-held [] i = alike-refl zeroRow
-alike-held (r ∷ rows) zero = alike-padded (17 - length (r .coefficients)) (r .coefficients) (r .bound)
-alike-held (r ∷ rows) (suc i) = alike-held rows i
+-- the test of the sums, from zeros at so many unknowns, is that of the proof
+alike-zeros : (width : ℕ) → Alike (rowOf (replicate width (pos 0)) (pos 0)) zeroRow
+unfolding zeroRow
+alike-zeros width = alike-padded width [] (pos 0)
 
--- so the test of the sums is that of the proof
-test-held : (rows : List Row) (goal : Row) (k : ℕ) (es : List Entry) → farkasTest rows goal (record { k = k; entries = es }) ≡ sumsTest k (addEntries (map padded rows) noSums es) goal
+test-zeros : (width : ℕ) (rows : List Row) (goal : Row) (k : ℕ) (es : List Entry) → farkasTest rows goal (record { k = k; entries = es }) ≡ sumsTest k (addEntries rows (rowOf (replicate width (pos 0)) (pos 0)) es) goal
 unfolding farkasTest summed
-test-held rows goal k es = sym (alike-test k (alike-entries (map padded rows) rows (alike-held rows) es alike-no-sums) (alike-refl goal))
+test-zeros width rows goal k es = sym (alike-test k (alike-entries rows rows (λ i. alike-refl (getD rows i zeroRow)) es (alike-zeros width)) (alike-refl goal))
 
 -- Where reading and summing refuses, so does reading
 refused-first : {A B : Type 0} (r : Reader A) (f : A → B) (s : List ℕ) (p number place : ℕ) → (r >>= λ a. give (f a)) s p ≡ refused number place → r s p ≡ refused number place
@@ -171,26 +152,29 @@ module _ (rows : List Row) (zeroK : Bool) (goal : Row) (s : List ℕ) (at : ℕ)
   unfolding markWith testWith
   head-refused number place e = ap (testWith rows goal at) (read-head ∙ bind-refused (readHead zeroK) (rest (length rows)) s at e)
 
-  module _ (h : Head) (next hypotheses : ℕ) (few : length rows ≡ hypotheses) (head : readHead zeroK s at ≡ got h next) where
-    by-count : sumEntries (map padded rows) (length rows) 0 noSums (h .count) s next ≡ sumEntries (map padded rows) hypotheses 0 noSums (h .count) s next
-    by-count = ap (λ (k : ℕ). sumEntries (map padded rows) k 0 noSums (h .count) s next) few
+  module _ (h : Head) (next hypotheses width : ℕ) (few : length rows ≡ hypotheses) (head : readHead zeroK s at ≡ got h next) where
+    abbrev none : Row
+    none = rowOf (replicate width (pos 0)) (pos 0)
+
+    by-count : sumEntries rows (length rows) 0 none (h .count) s next ≡ sumEntries rows hypotheses 0 none (h .count) s next
+    by-count = ap (λ (k : ℕ). sumEntries rows k 0 none (h .count) s next) few
 
     -- or in an entry
-    pub entries-refused : (number place : ℕ) → sumEntries (map padded rows) hypotheses 0 noSums (h .count) s next ≡ refused number place → markWith rows zeroK goal s at ≡ refused number place
+    pub entries-refused : (number place : ℕ) → sumEntries rows hypotheses 0 none (h .count) s next ≡ refused number place → markWith rows zeroK goal s at ≡ refused number place
     unfolding markWith testWith
     entries-refused number place e =
-        let read = refused-first (readEntries (length rows) 0 (h .count)) (λ es. addEntries (map padded rows) noSums es) s next number place (sym (entries-summed (map padded rows) (length rows) 0 noSums (h .count) s next) ∙ by-count ∙ e) in
+        let read = refused-first (readEntries (length rows) 0 (h .count)) (λ es. addEntries rows none es) s next number place (sym (entries-summed rows (length rows) 0 none (h .count) s next) ∙ by-count ∙ e) in
         ap (testWith rows goal at)
         (read-head ∙ bind-got (readHead zeroK) (rest (length rows)) s at head (bind-refused (readEntries (length rows) 0 (h .count)) _ s next read))
 
     -- or ends with the test
-    pub proof-tested : (sums : Row) (end : ℕ) → sumEntries (map padded rows) hypotheses 0 noSums (h .count) s next ≡ got sums end → heldNext (markWith rows zeroK goal s at) ≡ tested (sumsTest (h .k) sums goal) at end
+    pub proof-tested : (sums : Row) (end : ℕ) → sumEntries rows hypotheses 0 none (h .count) s next ≡ got sums end → heldNext (markWith rows zeroK goal s at) ≡ tested (sumsTest (h .k) sums goal) at end
     unfolding markWith testWith heldNext tested _>>=_ give
     proof-tested sums end e =
-        let w = passes (readEntries (length rows) 0 (h .count) s next) (λ es. give (addEntries (map padded rows) noSums es)) s sums end (sym (entries-summed (map padded rows) (length rows) 0 noSums (h .count) s next) ∙ by-count ∙ e) in
+        let w = passes (readEntries (length rows) 0 (h .count) s next) (λ es. give (addEntries rows none es)) s sums end (sym (entries-summed rows (length rows) 0 none (h .count) s next) ∙ by-count ∙ e) in
         let proof : Proof = record { k = h .k; entries = w .value } in
         let read : readProof (length rows) zeroK s at ≡ got proof (w .place) = read-head ∙ bind-got (readHead zeroK) (rest (length rows)) s at head (bind-got (readEntries (length rows) 0 (h .count)) _ s next (w .first) refl) in
-        let same : farkasTest rows goal proof ≡ sumsTest (h .k) sums goal = test-held rows goal (h .k) (w .value) ∙ ap (λ x. sumsTest (h .k) x goal) (got-value (w .second)) in
+        let same : farkasTest rows goal proof ≡ sumsTest (h .k) sums goal = test-zeros width rows goal (h .k) (w .value) ∙ ap (λ x. sumsTest (h .k) x goal) (got-value (w .second)) in
         ap (λ (g : Got Proof). heldNext (testWith rows goal at g)) read
         ∙ by-number (farkasTest rows goal proof) proof (w .place)
         ∙ ap₂ (λ (number q : ℕ). tested number at q) same (got-next (w .second))

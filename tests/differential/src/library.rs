@@ -1,6 +1,7 @@
 //! The library under test, called as C calls it: slices as pointer and length, structs by value.
 
 use crate::marker::Answer;
+use crate::marker::HypothesisRow;
 use crate::marker::JointSwitch;
 use crate::marker::TypedRow;
 use crate::marker::Which;
@@ -26,6 +27,14 @@ mod entries {
             obligation: u32,
             hypothesis: u32,
         ) -> Answer;
+        pub fn silfoddra_hypothesis(
+            model: *const u8,
+            model_length: usize,
+            second: *const u8,
+            second_length: usize,
+            obligation: u32,
+            hypothesis: u32,
+        ) -> HypothesisRow;
         pub fn silfoddra_which_obligation(
             model: *const u8,
             model_length: usize,
@@ -57,6 +66,10 @@ pub fn joint_list(model: &[u8], table: &mut [JointSwitch]) -> Answer {
 /// The sister of show row: the answer without the bytes.
 pub fn show_row(model: &[u8], second: &[u8], obligation: u32, hypothesis: u32) -> Answer {
     unsafe { entries::silfoddra_show_row(model.as_ptr(), model.len(), second.as_ptr(), second.len(), obligation, hypothesis) }
+}
+
+pub fn hypothesis(model: &[u8], second: &[u8], obligation: u32, hypothesis: u32) -> HypothesisRow {
+    unsafe { entries::silfoddra_hypothesis(model.as_ptr(), model.len(), second.as_ptr(), second.len(), obligation, hypothesis) }
 }
 
 pub fn which(model: &[u8], second: &[u8], obligation: u32) -> Which {

@@ -1,6 +1,6 @@
 //! The independent marker on the examples of document 01's table, and on the fixed papers that must be accepted.
 
-use differential::marker::{Answer, JointSwitch, joint_list, mark_certificate, mark_run, show_row, which};
+use differential::marker::{Answer, HypothesisRow, JointSwitch, hypothesis, joint_list, mark_certificate, mark_run, show_row, which};
 use differential::papers::extremes::{self, all, tank, tank_certificate};
 use differential::papers::models::Switch;
 use differential::papers::sheet::fix_length;
@@ -70,6 +70,27 @@ fn rows_are_shown_and_obligations_named() {
     assert_eq!(show_row(&t, &c, 3, 0), (answer([5, 2, 0, 0, 0]), &[][..]));
     let named = which(&t, &c, 2);
     assert_eq!((named.number, named.kind, named.subject, named.line), (0, 2, 0, 0));
+}
+
+#[test]
+fn rows_of_hypotheses_have_a_role() {
+    let t = tank(-11, vec![]).bytes;
+    let c = tank_certificate(10).bytes;
+    let rows = [
+        (0, 1, [0, 0, 22, 8, 0, 0]),
+        (0, 2, [0, 0, 31, 8, 2, 0]),
+        (1, 0, [0, 1, 6, 8, 1, 0]),
+        (1, 1, [0, 0, 31, 8, 2, 0]),
+        (1, 2, [0, 0, 31, 8, 4, 0]),
+        (1, 4, [0, 0, 48, 8, 5, 0]),
+        (1, 5, [0, 2, 0, 0, 6, 0]),
+        (2, 2, [0, 0, 58, 8, 3, 0]),
+        (2, 3, [5, 2, 0, 0, 0, 0]),
+    ];
+    for (obligation, asked, [number, sheet, place, size, role, owner]) in rows {
+        let expected = HypothesisRow { number, sheet, place, size, role, owner };
+        assert_eq!(hypothesis(&t, &c, obligation, asked), expected, "hypothesis {asked} of obligation {obligation}");
+    }
 }
 
 #[test]

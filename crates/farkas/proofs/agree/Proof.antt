@@ -1,108 +1,117 @@
--- The sums agree at each unknown that the loop has passed; where it stops they differ, and past the last there is nothing to compare.
-use mathlib.Core.Path.{_≡_, sym, ap, _∙_}
-use borrow.Author.Count.{below-none, below-more}
-use borrow.Author.Needs.{needs}
-use Prim.Native.Nat.{ℕ, _≤_, _<_, _-_}
+-- The three tests are the parts of the definition's test: before the goal's unknowns, at them, and past them. Assumes nothing.
+use mathlib.Core.Path.{_≡_, refl, sym, ap, _∙_}
+use mathlib.Core.Bool.{true, false}
+use mathlib.Core.List.{List}
+use Prim.Native.Nat.{ℕ, _+_, _-_, _≤_}
 use native.Mathlib.Omega.{arith}
-use lib.IntN.{pos, _*ℤ_}
-use lib.ListN.{length, getD}
-use mir.Syntax.{w64}
-use mir.Val.{ofZ}
-use Rattle.farkas.specs.Rows.{item}
-use Rattle.farkas.proofs.Bits.{same-bits, times-room, times}
-use Rattle.farkas.proofs.Items.{agree-all, agree-not}
+use borrow.Author.Needs.{needs}
+use borrow.Author.Tests.{not-true, not-false}
+use denote.Ref.{now}
+use lib.IntN.{ℤ, pos}
+use lib.ListN.{length, take, drop, replicate}
+use Rattle.farkas.specs.Lists.{every}
+use Rattle.farkas.specs.Words.{numbersAt}
+use Rattle.farkas.specs.Sums.{isZero, cleared}
+use Rattle.farkas.proofs.SumLaws.{numbers-length}
+use Rattle.farkas.proofs.SumTest.{first-fails, second-fails, third-tells, cleared-length, cleared-past, cleared-zero, zeros-are, whole-part}
 use Rattle.farkas.proofs.agree.Statement.{statement}
 use Rattle.farkas.proofs.agree.Tie as tie
 
-abbrev Inv-loop : tie.InvT-loop
-Inv-loop k left right by unknown₀ unknown = (unknown ≤ 17) × ((j : ℕ) → j < unknown → item left j ≡ pos k *ℤ item right j)
+abbrev goal : tie.Start → List ℤ
+goal s = numbersAt (now (s .args .words)) (s .args .at) (s .args .count)
 
-abbrev μ-loop : tie.MeasureT-loop
-μ-loop k left right by unknown₀ unknown = 17 - unknown
+as-many : (s : tie.Start) → length (goal s) ≡ s .args .count
+as-many s = numbers-length (now (s .args .words)) (s .args .at) (s .args .count)
 
--- both arrays have 17 elements
-sums-length : (c : tie.Start Inv-loop μ-loop) → length (c .args .sums .coefficients) ≡ 17
-sums-length c = search needs
+wide : (s : tie.Start) → s .args .shift + length (goal s) ≤ length (now (s .args .sums))
+wide s = omega (arith, s .pre .0, as-many s)
 
-goal-length : (c : tie.Start Inv-loop μ-loop) → length (c .args .goal .coefficients) ≡ 17
-goal-length c = search needs
+all-zero-requires : tie.Need-all-zero-requires
+all-zero-requires c κs = (omega arith, omega arith)
 
-cast-by : tie.Need-cast-by Inv-loop μ-loop
-cast-by c = omega arith
+-- what the first test says
+before : (c : tie.After-all-zero) → c .all-zero .result ≡ every isZero (take (c .before .before .before .args .shift) (now (c .before .before .before .args .sums)))
+before c = c .all-zero .ensures ∙ ap (λ (n : ℕ). every isZero (take n (now (c .before .before .before .args .sums)))) (same (c .before .before .before .args .shift))
+  where
+    same : (n : ℕ) → n - 0 ≡ n
+    same n = omega arith
 
-loop-holds : tie.Need-loop-holds Inv-loop μ-loop
-loop-holds c = (omega arith, below-none _)
+same-length : tie.Need-same-length
+same-length c = search needs
 
-mul-if1 : tie.Need-mul-if1 Inv-loop μ-loop
-mul-if1 c = omega arith
+never : {A : Type 0} → false ≡ true → A
+never e = absurd (let z : _≡_ {A = ℕ} 0 1 = cc in omega arith)
 
-array-copy-out-if1 : tie.Need-array-copy-out-if1 Inv-loop μ-loop
-array-copy-out-if1 c = omega arith
-
-mul-multiply-add : tie.Need-mul-multiply-add Inv-loop μ-loop
-mul-multiply-add c = omega arith
-
-array-copy-out-multiply-add : tie.Need-array-copy-out-multiply-add Inv-loop μ-loop
-array-copy-out-multiply-add c = omega arith
-
-multiply-add-requires : tie.Need-multiply-add-requires Inv-loop μ-loop
-unfolding item
-multiply-add-requires c κs =
-    let s = c .before .before .before .before .before .before in
-    let u = c .before .before .before .loop .unknown in
-    times-room (s .args .k) (getD (s .args .goal .coefficients) u (pos 0)) (s .fits .k) (record { sfits = c .multiply-add-arg .given }) (s .pre .coefficient u)
-
--- what is computed in a turn is k times the goal's coefficient
-computed : (c : tie.After-multiply-add Inv-loop μ-loop) → c .multiply-add .result ≡ pos (c .before .before .before .before .before .before .before .args .k) *ℤ getD (c .before .before .before .before .before .before .before .args .goal .coefficients) (c .before .before .before .before .loop .unknown) (pos 0)
-computed c =
-    let s = c .before .before .before .before .before .before .before in
-    let g = getD (s .args .goal .coefficients) (c .before .before .before .before .loop .unknown) (pos 0) in
-    c .multiply-add .ensures ∙ times (s .args .k) g (s .fits .k) (record { sfits = c .before .multiply-add-arg .given })
-
-returns : tie.Need-returns Inv-loop μ-loop
-unfolding item
+returns : tie.Need-returns
 returns c =
-    let a = c .before .before .before .before .before .before .before .before .args in
-    let u = c .before .before .before .before .before .loop .unknown in
-    sym (agree-not (a .k) (a .sums .coefficients) (a .goal .coefficients) u (λ e. c .if1 .taken (ap (ofZ w64) (e ∙ sym (computed (c .before))))))
-
-add-unknown : tie.Need-add-unknown Inv-loop μ-loop
-add-unknown c = omega arith
-
-loop-less : tie.Need-loop-less Inv-loop μ-loop
-loop-less c = omega arith
-
-loop-again : tie.Need-loop-again Inv-loop μ-loop
-unfolding item
-loop-again c =
-    let s = c .before .before .before .before .before .before .before .before in
-    let l = c .before .before .before .before .before .loop in
-    let x = getD (s .args .sums .coefficients) (l .unknown) (pos 0) in
-    let r = c .before .multiply-add .result in
-    let e = same-bits x r (record { sfits = c .before .before .before .if12 .given }) (record { sfits = c .before .multiply-add .ok }) (c .if1 .left) in
-    (omega arith, below-more _ (l .unknown) (l .inv .1) (e ∙ computed (c .before)))
-
-returns-2 : tie.Need-returns-2 Inv-loop μ-loop
-returns-2 c =
     let s = c .before .before .before .before in
-    let l = c .before .loop in
-    sym (agree-all (s .args .k) (s .args .sums .coefficients) (s .args .goal .coefficients) (l .unknown) (omega (arith, sums-length s)) (omega (arith, goal-length s)) (l .inv .1))
+    (sym (first-fails (s .args .k) (s .args .shift) (now (s .args .sums)) (goal s) (wide s) (sym (before (c .before)) ∙ not-true _ (c .if1 .taken))), λ e. never e)
+
+take-goal-requires : tie.Need-take-goal-requires
+take-goal-requires c κs = search needs
+
+same-length-2 : tie.Need-same-length-2
+same-length-2 c = search needs
+
+first-passed : (c : tie.Else1) → every isZero (take (c .before .before .before .before .args .shift) (now (c .before .before .before .before .args .sums))) ≡ true
+first-passed c = sym (before (c .before)) ∙ not-false _ (c .if1 .left)
+
+returns-2 : tie.Need-returns-2
+returns-2 c =
+    let s = c .before .before .before .before .before .before .before .before in
+    (sym (second-fails (s .args .k) (s .args .shift) (now (s .args .sums)) (goal s) (wide s) (first-passed (c .before .before .before .before)) (sym (c .before .before .take-goal .ensures .0) ∙ not-true _ (c .if2 .taken))), λ e. never e)
+
+add-all-zero : tie.Need-add-all-zero
+add-all-zero c = search needs
+
+all-zero-requires-2 : tie.Need-all-zero-requires-2
+all-zero-requires-2 c κs = search needs
+
+same-length-3 : tie.Need-same-length-3
+same-length-3 c = search needs
+
+-- the sums where the third test is made, and what it says
+taken : (c : tie.Else2) → c .before .before .take-goal .last .0 ≡ cleared (c .before .before .before .before .before .before .before .before .args .shift) (c .before .before .before .before .before .before .before .before .args .count) (now (c .before .before .before .before .before .before .before .before .args .sums))
+taken c = c .before .before .take-goal .ensures .1 (not-false _ (c .if2 .left))
+
+past : (c : tie.After-all-zero2) → c .all-zero2 .result ≡ every isZero (drop (c .before .before .before .before .before .before .before .before .before .before .args .shift + c .before .before .before .before .before .before .before .before .before .before .args .count) (now (c .before .before .before .before .before .before .before .before .before .before .args .sums)))
+past c =
+    let t = c .before .before in
+    let s = t .before .before .before .before .before .before .before .before in
+    let n = s .args .shift + s .args .count in
+    let last = t .before .before .take-goal .last .0 in
+    c .all-zero2 .ensures
+    ∙ ap (every isZero) (whole-part last n)
+    ∙ ap (λ (ys : List ℤ). every isZero (drop n ys)) (taken t)
+    ∙ ap (every isZero) (cleared-past (s .args .shift) (s .args .count) (now (s .args .sums)) n refl)
+
+returns-3 : tie.Need-returns-3
+returns-3 c =
+    let t = c .before .before in
+    let s = t .before .before .before .before .before .before .before .before in
+    let old = now (s .args .sums) in
+    let first = first-passed (t .before .before .before .before) in
+    let clear = cleared (s .args .shift) (s .args .count) old in (
+      past c
+          ∙ ap (λ (n : ℕ). every isZero (drop (s .args .shift + n) old)) (sym (as-many s))
+          ∙ sym (third-tells (s .args .k) (s .args .shift) old (goal s) (wide s) first (sym (t .before .before .take-goal .ensures .0) ∙ not-false _ (t .if2 .left))),
+      λ e.
+          taken t
+          ∙ zeros-are clear (cleared-zero (s .args .shift) (s .args .count) old (s .args .shift + s .args .count) refl first (sym (past c) ∙ e))
+          ∙ ap (λ (n : ℕ). replicate n (pos 0)) (cleared-length (s .args .shift) (s .args .count) old),
+    )
 
 pub agree-spec : {M : Type 1} → statement M
 agree-spec =
     tie.close
     (tie.spec
-    Inv-loop
-    μ-loop
-    cast-by
-    loop-holds
-    mul-if1
-    array-copy-out-if1
-    mul-multiply-add
-    array-copy-out-multiply-add
-    multiply-add-requires
+    all-zero-requires
+    same-length
     returns
-    add-unknown
-    loop-less
-    loop-again
-    returns-2)
+    take-goal-requires
+    same-length-2
+    returns-2
+    add-all-zero
+    all-zero-requires-2
+    same-length-3
+    returns-3)

@@ -16,11 +16,11 @@ use Rattle.sheets_test.proofs.try_beside.Tie as tie
 good : {s index : List ℕ} {x : Next} {p : ℕ} → gotAs (modelFrom s index) x ≡ readModel examLimits s → x ≡ next.At p → GoodIndex s index
 good {s} {index} {x} {p} e h = index-good examLimits s index p (told-at (modelFrom s index) (readModel examLimits s) e h)
 
-read-model-requires : tie.Need-read-model-requires
-read-model-requires c κs = search needs
+model-into-requires : tie.Need-model-into-requires
+model-into-requires c κs = search needs
 
-enum-known-seen : tie.Need-enum-known-seen
-enum-known-seen c = search needs
+enum-known-number : tie.Need-enum-known-number
+enum-known-number c = search needs
 
 answer-requires : tie.Need-answer-requires
 answer-requires c κs = search needs
@@ -29,13 +29,13 @@ enum-told : tie.Need-enum-told
 enum-told c = search needs
 
 try-regions-requires : tie.Need-try-regions-requires
-try-regions-requires c κs = good (c .before .before .before .before .before .read-model .ensures .0) (c .before .before .enum-told .given .1)
+try-regions-requires c κs = good (c .before .before .before .before .model-into .ensures .0) (c .before .before .enum-told .given .1)
 
 try-opening-requires : tie.Need-try-opening-requires
-try-opening-requires c κs = good (c .before .before .before .before .before .before .read-model .ensures .0) (c .before .before .before .enum-told .given .1)
+try-opening-requires c κs = good (c .before .before .before .before .before .model-into .ensures .0) (c .before .before .before .enum-told .given .1)
 
 try-step-requires : tie.Need-try-step-requires
-try-step-requires c κs = good (c .before .before .before .before .before .before .read-model .ensures .0) (c .before .before .before .enum-told .given .1)
+try-step-requires c κs = good (c .before .before .before .before .before .model-into .ensures .0) (c .before .before .before .enum-told .given .1)
 
 returns : tie.Need-returns
 returns c = search needs
@@ -53,8 +53,8 @@ pub try-beside-spec : {M : Type 1} → statement M
 try-beside-spec =
     tie.close
     (tie.spec
-    read-model-requires
-    enum-known-seen
+    model-into-requires
+    enum-known-number
     answer-requires
     enum-told
     try-regions-requires

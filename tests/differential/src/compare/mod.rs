@@ -58,6 +58,8 @@ pub struct Comparison {
     certificate_numbers: [u64; 16],
     run_numbers: [u64; 16],
     typed_numbers: [u64; 18],
+    /// How often the row of a hypothesis had each role.
+    roles: [u64; 9],
     other_calls: u64,
     fences: Option<Fences>,
 }
@@ -80,6 +82,7 @@ impl Comparison {
             certificate_numbers: [0; 16],
             run_numbers: [0; 16],
             typed_numbers: [0; 18],
+            roles: [0; 9],
             other_calls: 0,
             fences: guard.then(fences),
         }
@@ -111,10 +114,9 @@ impl Comparison {
         println!("{:<32} {compared:>9} {accepted:>9}", "all");
         let calls = [("certificate", &self.certificate_numbers[..]), ("run", &self.run_numbers), ("typed row", &self.typed_numbers)];
         for (call, numbers) in calls {
-            let seen: Vec<String> =
-                numbers.iter().enumerate().filter(|seen| *seen.1 > 0).map(|(n, times)| format!("{n}: {times}")).collect();
-            println!("answers of the {call} call by number: {}", seen.join(", "));
+            println!("answers of the {call} call by number: {}", by_number(numbers));
         }
+        println!("rows of hypotheses by role: {}", by_number(&self.roles));
         println!("calls beside the marking: {}", self.other_calls);
     }
 
@@ -173,4 +175,10 @@ impl Comparison {
             handed: handed.iter().map(|&(name, bytes)| (name, bytes.to_vec())).collect(),
         }))
     }
+}
+
+/// What was seen, by number, and how often.
+fn by_number(times: &[u64]) -> String {
+    let seen: Vec<String> = times.iter().enumerate().filter(|seen| *seen.1 > 0).map(|(n, times)| format!("{n}: {times}")).collect();
+    seen.join(", ")
 }

@@ -1,4 +1,4 @@
-//! Show row's sister and which-obligation, with arguments in range and beside it.
+//! Show row's sister, the row of a hypothesis and which-obligation, with arguments in range and beside it.
 
 use super::{Compared, Comparison};
 use differential::fence::Edge;
@@ -22,7 +22,14 @@ impl Comparison {
             if let Some(sheet) = [model, second].get(answer.sheet as usize).filter(|_| answer.number == 0) {
                 assert!(sheet[answer.place as usize..].starts_with(bytes) && !bytes.is_empty());
             }
-            self.other_calls += 2;
+
+            let row = marker::hypothesis(model, second, obligation, hypothesis);
+            let got = self.on_sheets(edge, model, second, |model, second| library::hypothesis(model, second, obligation, hypothesis));
+            self.same(&format!("silfoddra_hypothesis({obligation}, {hypothesis})"), kind, model, second, got, row)?;
+            if row.number == 0 {
+                self.roles[row.role as usize] += 1;
+            }
+            self.other_calls += 3;
         }
         Ok(())
     }

@@ -1,7 +1,7 @@
 //! The calls beside the marking (01, "Beside the marking").
 
 use super::answer::{Answer, Fault, Refusal, Sheet};
-use super::certificate::{Claim, Group, Hypotheses};
+use super::certificate::{Claim, Group, Hypotheses, Hypothesis};
 use super::joint::{self, JointSwitch};
 use super::model::Model;
 use super::reader::Reader;
@@ -19,6 +19,21 @@ pub struct Which {
     pub subject: u32,
     /// The region row, or the unsafe condition.
     pub line: u32,
+}
+
+/// The row of one hypothesis. The layout is that of the C interface.
+#[derive(Clone, Copy, Debug, Default, PartialEq, Eq)]
+#[repr(C)]
+pub struct HypothesisRow {
+    pub number: u32,
+    pub sheet: u32,
+    pub place: u32,
+    /// The row's bytes, 0 for a row in no sheet.
+    pub size: u32,
+    /// 0 initial, 1 region, 2 invariant on x, 3 unsafe, 4 invariant on x', 5 flow, 6 time, 7 jump, 8 staying.
+    pub role: u32,
+    /// The component, or the variable that stays.
+    pub owner: u32,
 }
 
 /// Fills the table with the joint switches in order. A refusal writes nothing, and later records keep their content.
@@ -41,17 +56,27 @@ pub fn joint_list(model: &[u8], table: &mut [JointSwitch]) -> Answer {
 pub fn show_row<'a>(model: &'a [u8], second: &'a [u8], obligation: u32, hypothesis: u32) -> (Answer, &'a [u8]) {
     let sheets = [model, second];
     let shown = with_claim(model, second, |claim| {
-        let (group, _) = find(claim, obligation)?;
-        let mut hypotheses = Hypotheses::default();
-        claim.list_hypotheses(&group, &mut hypotheses);
-        let hypothesis = hypotheses.get(hypothesis as usize).ok_or(ARGUMENT)?;
-        Ok((hypothesis.sheet, hypothesis.place, hypothesis.length))
+        let found = find_hypothesis(claim, obligation, hypothesis)?;
+        Ok((found.sheet, found.place, found.length))
     });
     match shown {
         Ok((sheet, place, 0)) => (Answer::accepted(sheet, place, 0, 0), &[]),
         Ok((sheet, place, length)) => (Answer::accepted(sheet, place, 0, 0), &sheets[sheet as usize][place..place + length]),
         Err((sheet, refusal)) => (Answer::refused(refusal, sheet, 0, 0), &[]),
     }
+}
+
+/// Where the row of one hypothesis stands, and what it is.
+pub fn hypothesis(model: &[u8], second: &[u8], obligation: u32, hypothesis: u32) -> HypothesisRow {
+    let told = with_claim(model, second, |claim| {
+        let Hypothesis { role, owner, sheet, place, length, .. } = find_hypothesis(claim, obligation, hypothesis)?;
+        let (sheet, place, size) = (sheet as u32, place as u32, length as u32);
+        Ok(HypothesisRow { number: 0, sheet, place, size, role: role as u32, owner: owner as u32 })
+    });
+    told.unwrap_or_else(|(sheet, refusal)| {
+        let (number, sheet, place) = (refusal.fault as u32, sheet as u32, refusal.place as u32);
+        HypothesisRow { number, sheet, place, ..HypothesisRow::default() }
+    })
 }
 
 /// Tells which obligation a number stands for.
@@ -78,6 +103,14 @@ fn with_claim<T>(model: &[u8], second: &[u8], ask: impl FnOnce(&Claim) -> Result
     let mut reader = Reader::open(second, 2).map_err(|refusal| (Sheet::Second, refusal))?;
     let claim = Claim::read(&mut reader, &model).map_err(|refusal| (Sheet::Second, refusal))?;
     ask(&claim)
+}
+
+/// One hypothesis of an obligation.
+fn find_hypothesis<'a>(claim: &'a Claim, obligation: u32, hypothesis: u32) -> Result<Hypothesis<'a>, (Sheet, Refusal)> {
+    let (group, _) = find(claim, obligation)?;
+    let mut hypotheses = Hypotheses::default();
+    claim.list_hypotheses(&group, &mut hypotheses);
+    hypotheses.get(hypothesis as usize).ok_or(ARGUMENT)
 }
 
 /// The group and the line of an obligation.

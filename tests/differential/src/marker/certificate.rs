@@ -3,7 +3,7 @@
 use super::answer::{Answer, Fault, Refusal, Sheet};
 use super::farkas::{Form, Row, Sum};
 use super::joint::{self, JointSwitch};
-use super::model::Model;
+use super::model::{Mode, Model};
 use super::reader::{Condition, Reader};
 use std::ops::Range;
 
@@ -29,10 +29,44 @@ pub struct Group {
     pub lines: Range<usize>,
 }
 
-/// A hypothesis, and where its row stands.
+/// What a row is among the hypotheses.
+#[derive(Clone, Copy, Debug, PartialEq, Eq)]
+pub enum Role {
+    Initial = 0,
+    Region = 1,
+    InvariantBefore = 2,
+    Unsafe = 3,
+    InvariantAfter = 4,
+    Flow = 5,
+    Time = 6,
+    Jump = 7,
+    Staying = 8,
+}
+
+impl Role {
+    /// What the row of a condition with this role says of the unknowns.
+    fn form(self, row: Row<'_>) -> Form<'_> {
+        match self {
+            Role::InvariantAfter => Form::After(row),
+            Role::Flow => Form::Rate(row),
+            Role::Jump => Form::Both(row),
+            _ => Form::Before(row),
+        }
+    }
+
+    /// The sheet that has the conditions with this role.
+    fn sheet(self) -> Sheet {
+        if self == Role::Region { Sheet::Second } else { Sheet::Model }
+    }
+}
+
+/// A hypothesis, what it is, and where its row stands.
 #[derive(Clone, Copy)]
 pub struct Hypothesis<'a> {
     pub form: Form<'a>,
+    pub role: Role,
+    /// The component that the row is of, or the variable that stays; 0 for a row of neither.
+    pub owner: usize,
     pub sheet: Sheet,
     pub place: usize,
     /// The row's bytes, 0 for a row in no sheet.
@@ -53,8 +87,8 @@ struct Part<'a> {
     /// The number of its first row.
     first: usize,
     condition: &'a Condition,
-    form: fn(Row<'a>) -> Form<'a>,
-    sheet: Sheet,
+    role: Role,
+    owner: usize,
 }
 
 impl<'a> Hypotheses<'a> {
@@ -69,12 +103,16 @@ impl<'a> Hypotheses<'a> {
     pub fn get(&self, number: usize) -> Option<Hypothesis<'a>> {
         let Some(&part) = self.part_of.get(number) else {
             let form = *self.unwritten.get(number - self.part_of.len())?;
-            return Some(Hypothesis { form, sheet: Sheet::Call, place: 0, length: 0 });
+            let (role, owner) = match form {
+                Form::NotRaised(variable) | Form::NotLowered(variable) => (Role::Staying, variable),
+                _ => (Role::Time, 0),
+            };
+            return Some(Hypothesis { form, role, owner, sheet: Sheet::Call, place: 0, length: 0 });
         };
-        let part = &self.parts[usize::from(part)];
-        let line = number - part.first;
-        let form = (part.form)(part.condition.row(line));
-        Some(Hypothesis { form, sheet: part.sheet, place: part.condition.place_of(line), length: part.condition.row_length() })
+        let &Part { first, condition, role, owner } = &self.parts[usize::from(part)];
+        let line = number - first;
+        let (place, length) = (condition.place_of(line), condition.row_length());
+        Some(Hypothesis { form: role.form(condition.row(line)), role, owner, sheet: role.sheet(), place, length })
     }
 
     fn clear(&mut self) {
@@ -83,11 +121,18 @@ impl<'a> Hypotheses<'a> {
         self.unwritten.clear();
     }
 
-    fn push(&mut self, sheet: Sheet, condition: &'a Condition, form: fn(Row<'a>) -> Form<'a>) {
+    fn push(&mut self, role: Role, owner: usize, condition: &'a Condition) {
         if !condition.is_empty() {
             let (number, first) = (self.parts.len() as u8, self.part_of.len());
-            self.parts.push(Part { first, condition, form, sheet });
+            self.parts.push(Part { first, condition, role, owner });
             self.part_of.resize(first + condition.len(), number);
+        }
+    }
+
+    /// A condition of each component's mode.
+    fn push_modes(&mut self, role: Role, modes: impl Iterator<Item = &'a Mode>, condition: fn(&Mode) -> &Condition) {
+        for (component, mode) in modes.enumerate() {
+            self.push(role, component, condition(mode));
         }
     }
 }
@@ -142,31 +187,31 @@ impl<'a> Claim<'a> {
         match group.kind {
             Kind::Start => {
                 let location = &model.locations[group.subject];
-                model.modes(location).for_each(|mode| hypotheses.push(Sheet::Model, &mode.initial, Form::Before));
-                model.modes(location).for_each(|mode| hypotheses.push(Sheet::Model, &mode.invariant, Form::Before));
+                hypotheses.push_modes(Role::Initial, model.modes(location), |mode| &mode.initial);
+                hypotheses.push_modes(Role::InvariantBefore, model.modes(location), |mode| &mode.invariant);
             }
             Kind::Flow => {
                 let location = &model.locations[group.subject];
-                hypotheses.push(Sheet::Second, &self.regions[group.subject], Form::Before);
-                model.modes(location).for_each(|mode| hypotheses.push(Sheet::Model, &mode.invariant, Form::Before));
-                model.modes(location).for_each(|mode| hypotheses.push(Sheet::Model, &mode.invariant, Form::After));
-                model.modes(location).for_each(|mode| hypotheses.push(Sheet::Model, &mode.flow, Form::Rate));
+                hypotheses.push(Role::Region, 0, &self.regions[group.subject]);
+                hypotheses.push_modes(Role::InvariantBefore, model.modes(location), |mode| &mode.invariant);
+                hypotheses.push_modes(Role::InvariantAfter, model.modes(location), |mode| &mode.invariant);
+                hypotheses.push_modes(Role::Flow, model.modes(location), |mode| &mode.flow);
                 hypotheses.unwritten.push(Form::TimePasses);
             }
             Kind::Unsafe => {
                 let location = &model.locations[group.subject];
-                hypotheses.push(Sheet::Second, &self.regions[group.subject], Form::Before);
-                model.modes(location).for_each(|mode| hypotheses.push(Sheet::Model, &mode.invariant, Form::Before));
-                hypotheses.push(Sheet::Model, &model.unsafe_conditions[group.lines.start].rows, Form::Before);
+                hypotheses.push(Role::Region, 0, &self.regions[group.subject]);
+                hypotheses.push_modes(Role::InvariantBefore, model.modes(location), |mode| &mode.invariant);
+                hypotheses.push(Role::Unsafe, 0, &model.unsafe_conditions[group.lines.start].rows);
             }
             Kind::Jump => {
                 let joint = &self.joints[group.subject];
                 let source = &model.locations[usize::from(joint.source)];
                 let target = &model.locations[usize::from(joint.target)];
-                hypotheses.push(Sheet::Second, &self.regions[usize::from(joint.source)], Form::Before);
-                model.modes(source).for_each(|mode| hypotheses.push(Sheet::Model, &mode.invariant, Form::Before));
-                model.modes(target).for_each(|mode| hypotheses.push(Sheet::Model, &mode.invariant, Form::After));
-                joint.moving(model).for_each(|switch| hypotheses.push(Sheet::Model, &switch.jump, Form::Both));
+                hypotheses.push(Role::Region, 0, &self.regions[usize::from(joint.source)]);
+                hypotheses.push_modes(Role::InvariantBefore, model.modes(source), |mode| &mode.invariant);
+                hypotheses.push_modes(Role::InvariantAfter, model.modes(target), |mode| &mode.invariant);
+                joint.moving(model).for_each(|(component, switch)| hypotheses.push(Role::Jump, component, &switch.jump));
                 for (variable, &owner) in model.owners.iter().enumerate() {
                     if joint.stays(owner) {
                         hypotheses.unwritten.extend([Form::NotRaised(variable), Form::NotLowered(variable)]);

@@ -17,9 +17,9 @@ pub struct JointSwitch {
 
 impl JointSwitch {
     /// The moving components and their switches.
-    pub fn moving<'a>(&'a self, model: &'a Model) -> impl Iterator<Item = &'a Switch> {
-        let moving = model.components.iter().zip(self.switches).filter(|&(_, number)| number != STAYS);
-        moving.map(|(component, number)| &component.switches[usize::from(number)])
+    pub fn moving<'a>(&'a self, model: &'a Model) -> impl Iterator<Item = (usize, &'a Switch)> {
+        let moving = model.components.iter().zip(self.switches).enumerate().filter(|&(_, (_, number))| number != STAYS);
+        moving.map(|(at, (component, number))| (at, &component.switches[usize::from(number)]))
     }
 
     pub fn stays(&self, component: u8) -> bool {

@@ -15,7 +15,7 @@ pub mod run;
 pub mod typed;
 
 pub use answer::{Answer, Fault, Refusal};
-pub use beside::{Which, joint_list, show_row, which};
+pub use beside::{HypothesisRow, Which, hypothesis, joint_list, show_row, which};
 pub use certificate::mark_certificate;
 pub use joint::JointSwitch;
 pub use model::Model;

@@ -84,7 +84,7 @@ fn jump_allowed(model: &Model, from: &State, event: u8, switches: [u8; MOST_COMP
     let n = model.variables;
     let both = || from.values[..n].iter().chain(&values[..n]).copied();
     let kept = model.owners.iter().enumerate().all(|(v, &owner)| !joint.stays(owner) || values[v] == from.values[v]);
-    kept && joint.moving(model).all(|switch| switch.jump.rows().all(|row| row.holds(both(), q)))
+    kept && joint.moving(model).all(|(_, switch)| switch.jump.rows().all(|row| row.holds(both(), q)))
 }
 
 /// Marks a run sheet: the model, the start, step by step until one fails, then the end.

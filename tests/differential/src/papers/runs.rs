@@ -124,7 +124,7 @@ fn random_step(random: &mut Random, plan: &Plan, model: &Model, joints: &[JointS
 
 /// A bound that a jump row puts on one variable afterwards.
 fn reset_value(model: &Model, joint: &JointSwitch, variable: usize) -> Option<i64> {
-    joint.moving(model).flat_map(|switch| switch.jump.rows()).find_map(|row| {
+    joint.moving(model).flat_map(|(_, switch)| switch.jump.rows()).find_map(|row| {
         let only = row.coefficients.iter().enumerate().all(|(i, &a)| (a != 0) == (i == model.variables + variable));
         only.then(|| i64::from(row.bound) / i64::from(row.coefficients[model.variables + variable]))
     })

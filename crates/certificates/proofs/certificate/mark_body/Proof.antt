@@ -13,8 +13,8 @@ use Rattle.papers.proofs.PaperLaws.{good-paper, regions-for, regions-refused-at
 use Rattle.certificates.proofs.certificate.mark_body.Statement.{statement}
 use Rattle.certificates.proofs.certificate.mark_body.Tie as tie
 
-location-count-requires : tie.Need-location-count-requires
-location-count-requires c κs = search needs
+locations-of-requires : tie.Need-locations-of-requires
+locations-of-requires c κs = search needs
 
 element-copy-out-read-regions : tie.Need-element-copy-out-read-regions
 element-copy-out-read-regions c = search needs
@@ -27,7 +27,7 @@ read-regions-requires : tie.Need-read-regions-requires
 unfolding entry
 read-regions-requires c κs =
     let p = c .before .before .before .before .before .pre in
-    (p .1 .1, (p .0 .good .most, omega (arith, c .before .before .location-count .ensures, p .0 .few)))
+    (p .1 .1, (p .0 .good .most, omega (arith, c .before .before .locations-of .ensures, p .0 .few)))
 
 enum-known-number : tie.Need-enum-known-number
 enum-known-number c = search needs
@@ -41,7 +41,7 @@ on-second-requires c κs =
     let index = now (a .index) in
     let s = now (a .second) in
     let m = modelFrom model index in
-    let count = c .before .before .before .before .before .before .location-count in
+    let count = c .before .before .before .before .before .before .locations-of in
     let read = c .before .before .before .read-regions in
     let regions = regionsFrom s (entry index 0) (read .last .1 .1 .1 .1 .0) (count .result) in
     let told = c .before .number .given in
@@ -60,7 +60,7 @@ mark-rest-requires c κs =
     let index = now (a .index) in
     let s = now (a .second) in
     let m = modelFrom model index in
-    let count = c .before .before .before .before .before .before .before .location-count in
+    let count = c .before .before .before .before .before .before .before .locations-of in
     let read = c .before .before .before .before .read-regions in
     let regions = regionsFrom s (entry index 0) (read .last .1 .1 .1 .1 .0) (count .result) in
     let told = c .before .before .place .given in
@@ -77,7 +77,7 @@ returns c =
     let index = now (a .index) in
     let s = now (a .second) in
     let m = modelFrom model index in
-    let count = c .before .before .before .before .before .before .before .location-count in
+    let count = c .before .before .before .before .before .before .before .locations-of in
     let read = c .before .before .before .before .read-regions in
     let regions = regionsFrom s (entry index 0) (read .last .1 .1 .1 .1 .0) (count .result) in
     let told = c .before .before .number .given in
@@ -93,7 +93,7 @@ returns-2 c =
     let index = now (a .index) in
     let s = now (a .second) in
     let m = modelFrom model index in
-    let count = c .before .before .before .before .before .before .before .before .location-count in
+    let count = c .before .before .before .before .before .before .before .before .locations-of in
     let read = c .before .before .before .before .before .read-regions in
     let regions = regionsFrom s (entry index 0) (read .last .1 .1 .1 .1 .0) (count .result) in
     let told = c .before .before .before .place .given in
@@ -105,7 +105,7 @@ pub mark-body-spec : {M : Type 1} → statement M
 mark-body-spec =
     tie.close
     (tie.spec
-    location-count-requires
+    locations-of-requires
     element-copy-out-read-regions
     cast-read-regions
     read-regions-requires

@@ -1,86 +1,95 @@
 -- What is still to come, marked from here, is the whole; each loop puts its own part in front. Assumes nothing.
-use mathlib.Core.Path.{_≡_, refl, sym, ap, _∙_}
-use mathlib.Core.List.{List, [], _++_, append-nil}
-use Prim.Native.Nat.{ℕ, _+_, _-_, _≤_, _<_}
+use mathlib.Core.Path.{_≡_, refl, sym, ap, _∙_, subst}
+use mathlib.Core.List.{List, [], _∷_, _++_, append-nil}
+use Prim.Native.Nat.{_+_, _-_, _≤_, _<_}
 use native.Mathlib.Omega.{arith}
-use borrow.Author.Needs.{needs}
 use denote.Ref.{now}
-use lib.ListN.{length, getD, drop}
-use Rattle.fields.specs.declared.Next.the-variants as next
+use lib.ListN.{length}
 use Rattle.formats.specs.Locations.{locationCount}
 use Rattle.models.specs.Index.{entry, componentsFrom, modelFrom}
-use Rattle.rules.specs.Marking.{passed, stopped}
-use Rattle.papers.specs.Paper.{heldNext, regionsOf}
-use Rattle.hypotheses.specs.Listing.{Task, noTask, tasksOf, groupTasks, locationTasks, markTask, markTasks}
-use Rattle.certificates.specs.Passed.{standsAt}
-use Rattle.papers.proofs.JoinedLaws.{joined-none, joined-whole}
-use Rattle.certificates.proofs.MarkLaws.{tasks-length, task-advances}
-use Rattle.certificates.proofs.MarkLoops.{locationsLeft, groupsLeft, location-groups, Comes, comes-same, comes-in, comes-out, goals-out, goal-passed, goal-failed, comes-end}
+use Rattle.papers.specs.Paper.{regionsOf}
+use lib.ListN.{getD, drop}
+use Rattle.hypotheses.specs.declared.Group.{Group}
+use Rattle.hypotheses.specs.Tables.{Stacked}
+use Rattle.hypotheses.specs.Listing.{Task, noTask, tasksOf, groupTasks, locationTasks, markTasks, GoodGroup}
+use Rattle.hypotheses.proofs.TableLaws.{stacked-less}
 use Rattle.papers.proofs.StandingLaws.{stands-at}
+use Rattle.papers.proofs.JoinedLaws.{joined-none, joined-whole}
+use Rattle.certificates.specs.Passed.{standsAt, Underway, Fresh}
+use Rattle.certificates.proofs.FreshLaws.{fresh-length}
+use Rattle.certificates.proofs.MarkLaws.{tasks-length, one-task, one-good, goal-low}
+use Rattle.certificates.proofs.MarkLoops.{locationsLeft, groupsLeft, location-groups, Comes, comes-same, comes-in, comes-out, goals-out, goal-first}
+use Rattle.certificates.proofs.JointMarks.{part-underway, part-on, part-stops, marked-end}
+use borrow.Author.Needs.{needs}
+use borrow.Author.Needs.{needs}
 use Rattle.certificates.proofs.obligations.mark_locations.Statement.{statement}
 use Rattle.certificates.proofs.obligations.mark_locations.Tie as tie
 
 abbrev Inv-loop2 : tie.InvT-loop2
-Inv-loop2 model index second regions locations at table n groups number₀ place₀ done₀ location modes g group goals goal₀ number place done goal = (number ≡ 0)
+Inv-loop2 model index second regions locations at table sums₀ n groups number₀ place₀ done₀ location modes g group goals goal₀ sums number place done goal =
+    Underway second (record { number = number; place = place; done = done })
     × ((goal ≤ goals)
-    × ((place ≤ length second)
-    × ((done ≤ place)
-    × Comes second (markTasks (locationsLeft model index second regions locations 0) second at 0) (drop goal (tasksOf model second (entry index 0) table group) ++ (groupsLeft model index second regions location groups (g + 1) ++ locationsLeft model index second regions locations (location + 1))) place done)))
+    × (Fresh sums
+    × Comes second (markTasks (locationsLeft model index second regions locations 0) second at 0) (drop goal (tasksOf model second (entry index 0) table group) ++ (groupsLeft model index second regions location groups (g + 1) ++ locationsLeft model index second regions locations (location + 1))) place done))
 
 abbrev μ-loop2 : tie.MeasureT-loop2
-μ-loop2 model index second regions locations at table n groups number₀ place₀ done₀ location modes g group goals goal₀ number place done goal = goals - goal
+μ-loop2 model index second regions locations at table sums₀ n groups number₀ place₀ done₀ location modes g group goals goal₀ sums number place done goal = goals - goal
 
 abbrev Inv-loop : tie.InvT-loop
-Inv-loop model index second regions locations at table₀ n groups number₀ place₀ done₀ location modes g₀ table number place done g = (number ≡ 0)
+Inv-loop model index second regions locations at table₀ sums₀ n groups number₀ place₀ done₀ location modes g₀ table sums number place done g =
+    Underway second (record { number = number; place = place; done = done })
     × ((g ≤ groups)
-    × ((place ≤ length second)
-    × ((done ≤ place)
-    × Comes second (markTasks (locationsLeft model index second regions locations 0) second at 0) (groupsLeft model index second regions location groups g ++ locationsLeft model index second regions locations (location + 1)) place done)))
+    × (Fresh sums
+    × ((length table ≡ length table₀)
+    × (Stacked table 0
+    × Comes second (markTasks (locationsLeft model index second regions locations 0) second at 0) (groupsLeft model index second regions location groups g ++ locationsLeft model index second regions locations (location + 1)) place done))))
 
 abbrev μ-loop : tie.MeasureT-loop
-μ-loop model index second regions locations at table₀ n groups number₀ place₀ done₀ location modes g₀ table number place done g = groups - g
+μ-loop model index second regions locations at table₀ sums₀ n groups number₀ place₀ done₀ location modes g₀ table sums number place done g = groups - g
 
 abbrev Inv-marking : tie.InvT-marking
-Inv-marking model index second regions locations at table₀ n groups number₀ place₀ done₀ location₀ table number place done location = (number ≡ 0)
+Inv-marking model index second regions locations at table₀ sums₀ n groups number₀ place₀ done₀ location₀ table sums number place done location =
+    Underway second (record { number = number; place = place; done = done })
     × ((location ≤ locations)
-    × ((place ≤ length second)
-    × ((done ≤ place) × Comes second (markTasks (locationsLeft model index second regions locations 0) second at 0) (locationsLeft model index second regions locations location) place done)))
+    × (Fresh sums
+    × ((length table ≡ length table₀)
+    × (Stacked table 0
+    × Comes second (markTasks (locationsLeft model index second regions locations 0) second at 0) (locationsLeft model index second regions locations location) place done))))
 
 abbrev μ-marking : tie.MeasureT-marking
-μ-marking model index second regions locations at table₀ n groups number₀ place₀ done₀ location₀ table number place done location = locations - location
+μ-marking model index second regions locations at table₀ sums₀ n groups number₀ place₀ done₀ location₀ table sums number place done location = locations - location
 
-element-copy-out-n :
-    tie.Need-element-copy-out-n Inv-loop2 μ-loop2 Inv-loop μ-loop Inv-marking μ-marking
+element-copy-out-n : tie.Need-element-copy-out-n Inv-loop2 μ-loop2 Inv-loop μ-loop Inv-marking μ-marking
 element-copy-out-n c = search needs
 
 cast-n : tie.Need-cast-n Inv-loop2 μ-loop2 Inv-loop μ-loop Inv-marking μ-marking
 unfolding entry
-cast-n c = omega (arith, c .before .before .before .pre .0 .good .most)
+cast-n c = omega (arith, c .before .before .before .before .pre .0 .good .most)
 
-element-copy-out-groups :
-    tie.Need-element-copy-out-groups Inv-loop2 μ-loop2 Inv-loop μ-loop Inv-marking μ-marking
+element-copy-out-groups : tie.Need-element-copy-out-groups Inv-loop2 μ-loop2 Inv-loop μ-loop Inv-marking μ-marking
 element-copy-out-groups c = search needs
 
 cast-groups : tie.Need-cast-groups Inv-loop2 μ-loop2 Inv-loop μ-loop Inv-marking μ-marking
 unfolding entry
-cast-groups c = omega (arith, c .before .before .before .before .pre .0 .good .conditions)
+cast-groups c = omega (arith, c .before .before .before .before .before .pre .0 .good .conditions)
 
 add-groups : tie.Need-add-groups Inv-loop2 μ-loop2 Inv-loop μ-loop Inv-marking μ-marking
 unfolding entry
-add-groups c = omega (arith, c .before .before .before .before .pre .0 .good .conditions)
+add-groups c = omega (arith, c .before .before .before .before .before .pre .0 .good .conditions)
 
 marking-holds : tie.Need-marking-holds Inv-loop2 μ-loop2 Inv-loop μ-loop Inv-marking μ-marking
-marking-holds c = (refl, (omega arith, (c .before .before .before .before .pre .1 .1, (omega arith, refl))))
+marking-holds c =
+    let s = c .before .before .before .before .before in
+    (record { number = refl; within = s .pre .1 .0 .1; few = omega arith }, (omega arith, (s .pre .1 .1 .1 .1, (refl, (s .pre .1 .1 .1 .0, refl)))))
 
-modes-at-requires :
-    tie.Need-modes-at-requires Inv-loop2 μ-loop2 Inv-loop μ-loop Inv-marking μ-marking
-modes-at-requires c κs = (c .before .before .before .before .before .before .pre .0 .good, omega (arith, c .marking-test .taken, c .before .before .before .before .before .before .pre .1 .0))
+modes-at-requires : tie.Need-modes-at-requires Inv-loop2 μ-loop2 Inv-loop μ-loop Inv-marking μ-marking
+modes-at-requires c κs = (c .before .before .before .before .before .before .before .pre .0 .good, omega (arith, c .marking-test .taken, c .before .before .before .before .before .before .before .pre .1 .0 .0))
 
 loop-holds : tie.Need-loop-holds Inv-loop2 μ-loop2 Inv-loop μ-loop Inv-marking μ-marking
 unfolding entry
 loop-holds c =
-    let a = c .before .before .before .before .before .before .before .args in
-    let p = c .before .before .before .before .before .before .before .pre in
+    let s = c .before .before .before .before .before .before .before .before in
+    let a = s .args in
     let model = now (a .model) in
     let index = now (a .index) in
     let second = now (a .second) in
@@ -88,91 +97,118 @@ loop-holds c =
     let whole = markTasks (locationsLeft model index second regions (a .locations) 0) second (a .at) 0 in
     let k = c .before .before .marking in
     let i = k .inv in
-    let come = comes-in second whole (locationTasks (modelFrom model index) (regionsOf model index second regions)) (a .locations) (k .location) (groupsLeft model index second regions (k .location) (entry index 2 + 2) 0) [] (k .place) (k .done) (c .before .marking-test .taken) (location-groups model index second regions (k .location) (entry index 2 + 2) refl) (comes-same second whole (k .place) (k .done) (sym (append-nil (locationsLeft model index second regions (a .locations) (k .location)))) (i .1 .1 .1 .1)) in
-    (i .0, (omega arith, (i .1 .1 .0, (i .1 .1 .1 .0, comes-same second whole (k .place) (k .done) (ap (λ (ts : List Task). groupsLeft model index second regions (k .location) (entry index 2 + 2) 0 ++ ts) (append-nil (locationsLeft model index second regions (a .locations) (k .location + 1)))) come))))
+    let come = comes-in second whole (locationTasks (modelFrom model index) (regionsOf model index second regions)) (a .locations) (k .location) (groupsLeft model index second regions (k .location) (entry index 2 + 2) 0) [] (k .place) (k .done) (c .before .marking-test .taken) (location-groups model index second regions (k .location) (entry index 2 + 2) refl) (comes-same second whole (k .place) (k .done) (sym (append-nil (locationsLeft model index second regions (a .locations) (k .location)))) (i .1 .1 .1 .1 .1)) in
+    (i .0, (omega arith, (i .1 .1 .0, (refl, (i .1 .1 .1 .1 .0, comes-same second whole (k .place) (k .done) (ap (λ (ts : List Task). groupsLeft model index second regions (k .location) (entry index 2 + 2) 0 ++ ts) (append-nil (locationsLeft model index second regions (a .locations) (k .location + 1)))) come)))))
 
-group-at-requires :
-    tie.Need-group-at-requires Inv-loop2 μ-loop2 Inv-loop μ-loop Inv-marking μ-marking
+group-at-requires : tie.Need-group-at-requires Inv-loop2 μ-loop2 Inv-loop μ-loop Inv-marking μ-marking
 unfolding entry
 group-at-requires c κs =
-    let a = c .before .before .before .before .before .before .before .before .before .before .args in
-    let p = c .before .before .before .before .before .before .before .before .before .before .pre in
+    let s = c .before .before .before .before .before .before .before .before .before .before .before in
+    let a = s .args in
     let model = now (a .model) in
     let index = now (a .index) in
     let second = now (a .second) in
     let regions = now (a .regions) in
-    let whole = markTasks (locationsLeft model index second regions (a .locations) 0) second (a .at) 0 in
-    let h : c .before .before .before .before .before .marking .location < locationCount (componentsFrom model index) = omega (arith, c .before .before .before .before .marking-test .taken, p .1 .0) in
-    (p .0, (stands-at model index (c .before .before .before .before .before .marking .location) (c .before .before .before .modes-at .result) _ (p .0 .good) h (c .before .before .before .modes-at .ensures), (omega (arith, c .before .loop-test .taken), search needs)))
+    let l = c .before .before .loop in
+    let k = c .before .before .before .before .before .marking in
+    let h : k .location < locationCount (componentsFrom model index) = omega (arith, c .before .before .before .before .marking-test .taken, s .pre .1 .0 .0) in
+    (s .pre .0, (stands-at model index (k .location) (c .before .before .before .modes-at .result) _ (s .pre .0 .good) h (c .before .before .before .modes-at .ensures), (omega (arith, c .before .loop-test .taken), (omega (arith, l .inv .1 .1 .1 .0, k .inv .1 .1 .1 .0, s .pre .1 .1 .0), l .inv .1 .1 .1 .1 .0))))
 
 loop2-holds : tie.Need-loop2-holds Inv-loop2 μ-loop2 Inv-loop μ-loop Inv-marking μ-marking
 unfolding entry
 loop2-holds c =
-    let a = c .before .before .before .before .before .before .before .before .before .before .before .args in
-    let p = c .before .before .before .before .before .before .before .before .before .before .before .pre in
+    let s = c .before .before .before .before .before .before .before .before .before .before .before .before .before .before in
+    let a = s .args in
     let model = now (a .model) in
     let index = now (a .index) in
     let second = now (a .second) in
     let regions = now (a .regions) in
     let whole = markTasks (locationsLeft model index second regions (a .locations) 0) second (a .at) 0 in
-    let l = c .before .before .before .loop in
-    let location = c .before .before .before .before .before .before .marking .location in
+    let l = c .before .before .before .before .before .loop in
+    let location = c .before .before .before .before .before .before .before .before .marking .location in
     let i = l .inv in
     let rest = locationsLeft model index second regions (a .locations) (location + 1) in
-    (i .0, (omega arith, (i .1 .1 .0, (i .1 .1 .1 .0, comes-in second whole (groupTasks (modelFrom model index) (regionsOf model index second regions) location) (entry index 2 + 2) (l .g) _ rest (l .place) (l .done) (c .before .before .loop-test .taken) (sym (c .group-at .ensures .0)) (i .1 .1 .1 .1)))))
+    (i .0, (omega arith, (i .1 .1 .0, comes-in second whole (groupTasks (modelFrom model index) (regionsOf model index second regions) location) (entry index 2 + 2) (l .g) _ rest (l .place) (l .done) (c .before .before .before .before .loop-test .taken) (sym (c .before .before .group-at .ensures .0)) (i .1 .1 .1 .1 .1))))
 
-mark-goal-requires :
-    tie.Need-mark-goal-requires Inv-loop2 μ-loop2 Inv-loop μ-loop Inv-marking μ-marking
+one-of-requires : tie.Need-one-of-requires Inv-loop2 μ-loop2 Inv-loop μ-loop Inv-marking μ-marking
 unfolding entry
-mark-goal-requires c κs = (c .before .before .before .before .before .before .before .before .before .before .before .before .before .before .pre .0 .brief, (c .before .before .before .before .before .before .before .before .before .before .before .before .before .before .pre .0 .good .most, (c .before .before .before .group-at .ensures .1, c .before .loop2-test .taken)))
+one-of-requires c κs =
+    let s = c .before .before .before .before .before .before .before .before .before .before .before .before .before .before .before .before .before in
+    (s .pre .0 .good .most, goal-low (c .before .before .loop2 .goal) (s .pre .0 .good .most) (s .pre .0 .brief) (c .before .loop2-test .taken) (c .before .before .before .before .before .group-at .ensures .1))
 
-enum-known-fault :
-    tie.Need-enum-known-fault Inv-loop2 μ-loop2 Inv-loop μ-loop Inv-marking μ-marking
-enum-known-fault c = search needs
-
-enum-known-next : tie.Need-enum-known-next Inv-loop2 μ-loop2 Inv-loop μ-loop Inv-marking μ-marking
-enum-known-next c = search needs
-
-add-done : tie.Need-add-done Inv-loop2 μ-loop2 Inv-loop μ-loop Inv-marking μ-marking
-add-done c = omega (arith, c .before .before .before .before .before .before .loop2 .inv .1 .1 .0, c .before .before .before .before .before .before .loop2 .inv .1 .1 .1 .0, c .before .before .before .before .before .before .before .before .before .before .before .before .before .before .before .before .before .before .pre .0 .brief)
+mark-group-requires : tie.Need-mark-group-requires Inv-loop2 μ-loop2 Inv-loop μ-loop Inv-marking μ-marking
+unfolding entry
+mark-group-requires c κs =
+    let s = c .before .before .before .before .before .before .before .before .before .before .before .before .before .before .before .before .before .before .before in
+    let a = s .args in
+    let model = now (a .model) in
+    let index = now (a .index) in
+    let second = now (a .second) in
+    let regions = now (a .regions) in
+    let l = c .before .before .before .before .loop2 in
+    let k = c .before .before .before .before .before .before .before .group-at in
+    let good = subst (λ (g : Group). GoodGroup model second (entry index 0) (k .last .1 .1 .1 .1 .1 .1 .1 .0) g) (sym (c .before .one-of .ensures)) (one-good (l .goal) (c .before .before .before .loop2-test .taken) (k .ensures .1)) in
+    ((s .pre .0 .short, (s .pre .0 .brief, (s .pre .0 .good .most, omega (arith, k .kept .1 .1 .1 .1 .1 .1 .1 .0, c .before .before .before .before .before .before .before .before .before .before .loop .inv .1 .1 .1 .0, c .before .before .before .before .before .before .before .before .before .before .before .before .before .marking .inv .1 .1 .1 .0, s .pre .1 .1 .0)))), (good, (l .inv .0, l .inv .1 .1 .0)))
 
 add-goal : tie.Need-add-goal Inv-loop2 μ-loop2 Inv-loop μ-loop Inv-marking μ-marking
-add-goal c = omega (arith, c .before .before .before .before .before .loop2-test .taken, c .before .before .before .before .before .before .before .group-at .ensures .1 .counted)
+add-goal c = omega (arith, c .before .before .before .before .before .before .loop2-test .taken, c .before .before .before .before .before .before .before .before .before .before .group-at .ensures .1 .counted)
 
 loop2-less : tie.Need-loop2-less Inv-loop2 μ-loop2 Inv-loop μ-loop Inv-marking μ-marking
-loop2-less c = omega (arith, c .before .before .before .before .before .loop2-test .taken)
+loop2-less c = omega (arith, c .before .before .before .before .before .before .loop2-test .taken)
+
+-- the tasks of the group, and that of the goal
+abbrev part : tie.At-loop2 Inv-loop2 μ-loop2 Inv-loop μ-loop Inv-marking μ-marking → List Task
+part c = tasksOf (now (c .before .before .before .before .before .before .before .before .before .before .before .before .before .before .before .args .model)) (now (c .before .before .before .before .before .before .before .before .before .before .before .before .before .before .before .args .second)) (entry (now (c .before .before .before .before .before .before .before .before .before .before .before .before .before .before .before .args .index)) 0) (c .before .before .before .group-at .last .1 .1 .1 .1 .1 .1 .1 .0) (c .before .before .before .group-at .result)
+
+abbrev one : tie.At-loop2 Inv-loop2 μ-loop2 Inv-loop μ-loop Inv-marking μ-marking → Task
+one c = getD (part c) (c .loop2 .goal) noTask
+
+short : (c : tie.In-loop2 Inv-loop2 μ-loop2 Inv-loop μ-loop Inv-marking μ-marking) → c .before .loop2 .goal < length (part (c .before))
+short c =
+    let a = c .before .before .before .before .before .before .before .before .before .before .before .before .before .before .before .before .args in
+    omega (arith, c .loop2-test .taken, tasks-length (now (a .model)) (now (a .second)) (entry (now (a .index)) 0) (c .before .before .before .before .group-at .last .1 .1 .1 .1 .1 .1 .1 .0) (c .before .before .before .before .group-at .result))
+
+marked : (c : tie.After-mark-group Inv-loop2 μ-loop2 Inv-loop μ-loop Inv-marking μ-marking) → c .mark-group .result ≡ standsAt (markTasks (one (c .before .before .before .before .before) ∷ []) (now (c .before .before .before .before .before .before .before .before .before .before .before .before .before .before .before .before .before .before .before .before .args .second)) (c .before .before .before .before .before .loop2 .place) (c .before .before .before .before .before .loop2 .done))
+unfolding entry
+marked c =
+    let a = c .before .before .before .before .before .before .before .before .before .before .before .before .before .before .before .before .before .before .before .before .args in
+    let l = c .before .before .before .before .before .loop2 in
+    let table = c .before .before .before .before .before .before .before .before .group-at .last .1 .1 .1 .1 .1 .1 .1 .0 in
+    let tasks : Group → List Task = λ g. tasksOf (now (a .model)) (now (a .second)) (entry (now (a .index)) 0) table g in
+    c .mark-group .ensures .0
+    ∙ ap (λ (g : Group). standsAt (markTasks (tasks g) (now (a .second)) (l .place) (l .done))) (c .before .before .one-of .ensures)
+    ∙ ap (λ (ts : List Task). standsAt (markTasks ts (now (a .second)) (l .place) (l .done))) (one-task (now (a .model)) (now (a .second)) (entry (now (a .index)) 0) table (c .before .before .before .before .before .before .before .before .group-at .result) (l .goal) (c .before .before .before .before .loop2-test .taken))
 
 loop2-again : tie.Need-loop2-again Inv-loop2 μ-loop2 Inv-loop μ-loop Inv-marking μ-marking
 unfolding entry
 loop2-again c =
-    let a = c .before .before .before .before .before .before .before .before .before .before .before .before .before .before .before .before .before .before .args in
-    let p = c .before .before .before .before .before .before .before .before .before .before .before .before .before .before .before .before .before .before .pre in
+    let s = c .before .before .before .before .before .before .before .before .before .before .before .before .before .before .before .before .before .before .before .before .before .before in
+    let a = s .args in
     let model = now (a .model) in
     let index = now (a .index) in
     let second = now (a .second) in
     let regions = now (a .regions) in
     let whole = markTasks (locationsLeft model index second regions (a .locations) 0) second (a .at) 0 in
-    let l = c .before .before .before .before .before .before .loop2 in
-    let i = l .inv in
-    let part = tasksOf model second (entry index 0) (c .before .before .before .before .before .before .before .group-at .last .1 .1 .1 .1 .1 .1 .1 .0) (c .before .before .before .before .before .before .before .group-at .result) in
-    let q = c .before .next .given .0 .0 in
-    let e : heldNext (markTask (getD part (l .goal) noTask) second (l .place)) ≡ next.At q = sym (c .before .before .before .mark-goal .ensures) ∙ c .before .next .given .1 in
-    let ends = task-advances (getD part (l .goal) noTask) second (l .place) q e in
-    let short : l .goal < length part = omega (arith, c .before .before .before .before .before .loop2-test .taken, tasks-length model second (entry index 0) (c .before .before .before .before .before .before .before .group-at .last .1 .1 .1 .1 .1 .1 .1 .0) (c .before .before .before .before .before .before .before .group-at .result)) in
-    (i .0, (omega (arith, c .before .before .before .before .before .loop2-test .taken), (ends .1, (omega (arith, i .1 .1 .1 .0, ends .0), goal-passed second whole part _ (l .goal) short (l .place) (l .done) q e (i .1 .1 .1 .1)))))
+    let l = c .before .before .before .before .before .before .before .loop2 in
+    let location = c .before .before .before .before .before .before .before .before .before .before .before .before .before .before .before .before .marking .location in
+    let rest = groupsLeft model index second regions location (entry index 2 + 2) (c .before .before .before .before .before .before .before .before .before .before .before .before .before .loop .g + 1) ++ locationsLeft model index second regions (a .locations) (location + 1) in
+    let k = c .before .before .mark-group in
+    let t = c .before .before .before .before .before .before .before in
+    let on = part-on second (one t ∷ []) (l .place) (l .done) (k .result) (marked (c .before .before)) (l .inv .0 .within) (l .inv .0 .few) whole (drop (l .goal + 1) (part t) ++ rest) (c .if1 .left) (goal-first second whole (part t) rest (l .goal) (short (c .before .before .before .before .before .before)) (l .place) (l .done) (l .inv .1 .1 .1)) in
+    (part-underway second (one t ∷ []) (l .place) (l .done) (k .result) (marked (c .before .before)) (l .inv .0 .within) (l .inv .0 .few) (c .if1 .left), (omega (arith, c .before .before .before .before .before .before .loop2-test .taken), (k .ensures .1 (c .if1 .left), on)))
 
 add-g : tie.Need-add-g Inv-loop2 μ-loop2 Inv-loop μ-loop Inv-marking μ-marking
 unfolding entry
-add-g c = omega (arith, c .before .before .before .before .loop-test .taken, c .before .before .before .before .before .before .before .before .before .before .before .before .before .pre .0 .good .conditions)
+add-g c = omega (arith, c .before .before .before .before .before .before .loop-test .taken, c .before .before .before .before .before .before .before .before .before .before .before .before .before .before .before .before .pre .0 .good .conditions)
 
 loop-less : tie.Need-loop-less Inv-loop2 μ-loop2 Inv-loop μ-loop Inv-marking μ-marking
-loop-less c = omega (arith, c .before .before .before .before .loop-test .taken)
+loop-less c = omega (arith, c .before .before .before .before .before .before .loop-test .taken)
 
 loop-again : tie.Need-loop-again Inv-loop2 μ-loop2 Inv-loop μ-loop Inv-marking μ-marking
 unfolding entry
 loop-again c =
-    let a = c .before .before .before .before .before .before .before .before .before .before .before .before .before .args in
-    let p = c .before .before .before .before .before .before .before .before .before .before .before .before .before .pre in
+    let s = c .before .before .before .before .before .before .before .before .before .before .before .before .before .before .before .before in
+    let a = s .args in
     let model = now (a .model) in
     let index = now (a .index) in
     let second = now (a .second) in
@@ -180,12 +216,12 @@ loop-again c =
     let whole = markTasks (locationsLeft model index second regions (a .locations) 0) second (a .at) 0 in
     let l = c .before .loop2 in
     let i = l .inv in
-    let part = tasksOf model second (entry index 0) (c .before .before .group-at .last .1 .1 .1 .1 .1 .1 .1 .0) (c .before .before .group-at .result) in
-    let all = tasks-length model second (entry index 0) (c .before .before .group-at .last .1 .1 .1 .1 .1 .1 .1 .0) (c .before .before .group-at .result) in
-    (i .0, (omega (arith, c .before .before .before .before .loop-test .taken), (i .1 .1 .0, (i .1 .1 .1 .0, goals-out second whole part _ (l .goal) (l .place) (l .done) (omega (arith, c .loop2-test .left, all)) (i .1 .1 .1 .1)))))
+    let k = c .before .before .before .before .group-at in
+    let all = tasks-length model second (entry index 0) (k .last .1 .1 .1 .1 .1 .1 .1 .0) (k .result) in
+    (i .0, (omega (arith, c .before .before .before .before .before .before .loop-test .taken), (i .1 .1 .0, (k .kept .1 .1 .1 .1 .1 .1 .1 .0 ∙ c .before .before .before .before .before .before .before .loop .inv .1 .1 .1 .0, (stacked-less 0 (omega arith) (k .ensures .1 .stacked), goals-out second whole (part (c .before)) _ (l .goal) (l .place) (l .done) (omega (arith, c .loop2-test .left, all)) (i .1 .1 .1))))))
 
 add-location : tie.Need-add-location Inv-loop2 μ-loop2 Inv-loop μ-loop Inv-marking μ-marking
-add-location c = omega (arith, c .before .before .before .marking-test .taken, c .before .before .before .before .before .before .before .before .before .pre .1 .0, c .before .before .before .before .before .before .before .before .before .pre .0 .few)
+add-location c = omega (arith, c .before .before .before .marking-test .taken, c .before .before .before .before .before .before .before .before .before .before .pre .1 .0 .0, c .before .before .before .before .before .before .before .before .before .before .pre .0 .few)
 
 marking-less : tie.Need-marking-less Inv-loop2 μ-loop2 Inv-loop μ-loop Inv-marking μ-marking
 marking-less c = omega (arith, c .before .before .before .marking-test .taken)
@@ -193,8 +229,8 @@ marking-less c = omega (arith, c .before .before .before .marking-test .taken)
 marking-again : tie.Need-marking-again Inv-loop2 μ-loop2 Inv-loop μ-loop Inv-marking μ-marking
 unfolding entry
 marking-again c =
-    let a = c .before .before .before .before .before .before .before .before .before .args in
-    let p = c .before .before .before .before .before .before .before .before .before .pre in
+    let s = c .before .before .before .before .before .before .before .before .before .before in
+    let a = s .args in
     let model = now (a .model) in
     let index = now (a .index) in
     let second = now (a .second) in
@@ -202,44 +238,52 @@ marking-again c =
     let whole = markTasks (locationsLeft model index second regions (a .locations) 0) second (a .at) 0 in
     let l = c .before .loop in
     let i = l .inv in
-    (i .0, (omega (arith, c .before .before .before .marking-test .taken), (i .1 .1 .0, (i .1 .1 .1 .0, comes-out second whole (groupTasks (modelFrom model index) (regionsOf model index second regions) (c .before .before .before .before .marking .location)) (entry index 2 + 2) (l .g) _ (l .place) (l .done) (c .loop-test .left) (i .1 .1 .1 .1)))))
+    (i .0, (omega (arith, c .before .before .before .marking-test .taken), (i .1 .1 .0, (i .1 .1 .1 .0 ∙ c .before .before .before .before .marking .inv .1 .1 .1 .0, (i .1 .1 .1 .1 .0, comes-out second whole (groupTasks (modelFrom model index) (regionsOf model index second regions) (c .before .before .before .before .marking .location)) (entry index 2 + 2) (l .g) _ (l .place) (l .done) (c .loop-test .left) (i .1 .1 .1 .1 .1))))))
+
+same-length : tie.Need-same-length Inv-loop2 μ-loop2 Inv-loop μ-loop Inv-marking μ-marking
+same-length c = c .before .marking .inv .1 .1 .1 .0
+
+same-length-2 : tie.Need-same-length-2 Inv-loop2 μ-loop2 Inv-loop μ-loop Inv-marking μ-marking
+same-length-2 c = fresh-length (c .before .marking .inv .1 .1 .0) ∙ sym (fresh-length (c .before .before .before .before .before .before .before .pre .1 .1 .1 .1))
 
 returns : tie.Need-returns Inv-loop2 μ-loop2 Inv-loop μ-loop Inv-marking μ-marking
-unfolding standsAt
 returns c =
-    let a = c .before .before .before .before .before .before .args in
-    let p = c .before .before .before .before .before .before .pre in
+    let s = c .before .before .before .before .before .before .before in
+    let a = s .args in
     let model = now (a .model) in
     let index = now (a .index) in
     let second = now (a .second) in
     let regions = now (a .regions) in
     let whole = markTasks (locationsLeft model index second regions (a .locations) 0) second (a .at) 0 in
     let k = c .before .marking in
-    let i = k .inv in
-    let ended : passed tt (k .place) (k .done) ≡ whole = comes-end second whole _ (k .place) (k .done) (joined-none (locationTasks (modelFrom model index) (regionsOf model index second regions)) (a .locations) (k .location) (c .marking-test .left)) (i .1 .1 .1 .1) in
-    ap (λ (n : ℕ). record { number = n; place = k .place; done = k .done }) (i .0)
-    ∙ ap standsAt ended
-    ∙ ap (λ (ts : List Task). standsAt (markTasks ts second (a .at) 0)) (joined-whole (locationTasks (modelFrom model index) (regionsOf model index second regions)) (a .locations))
+    let f = locationTasks (modelFrom model index) (regionsOf model index second regions) in
+    let over = marked-end second whole (record { number = k .number; place = k .place; done = k .done }) _ (k .inv .0 .number) (joined-none f (a .locations) (k .location) (c .marking-test .left)) (k .inv .1 .1 .1 .1 .1) in
+    (over ∙ ap (λ (ts : List Task). standsAt (markTasks ts second (a .at) 0)) (joined-whole f (a .locations)), λ z. (k .inv .1 .1 .1 .1 .0, k .inv .1 .1 .0))
+
+same-length-3 : tie.Need-same-length-3 Inv-loop2 μ-loop2 Inv-loop μ-loop Inv-marking μ-marking
+same-length-3 c = c .before .before .before .before .before .before .before .before .before .before .group-at .kept .1 .1 .1 .1 .1 .1 .1 .0 ∙ c .before .before .before .before .before .before .before .before .before .before .before .before .before .loop .inv .1 .1 .1 .0 ∙ c .before .before .before .before .before .before .before .before .before .before .before .before .before .before .before .before .marking .inv .1 .1 .1 .0
+
+same-length-4 : tie.Need-same-length-4 Inv-loop2 μ-loop2 Inv-loop μ-loop Inv-marking μ-marking
+same-length-4 c = c .before .before .mark-group .kept .1 .1 .1 .1 .1 .1 .0 ∙ fresh-length (c .before .before .before .before .before .before .before .loop2 .inv .1 .1 .0) ∙ sym (fresh-length (c .before .before .before .before .before .before .before .before .before .before .before .before .before .before .before .before .before .before .before .before .before .before .pre .1 .1 .1 .1))
 
 returns-2 : tie.Need-returns-2 Inv-loop2 μ-loop2 Inv-loop μ-loop Inv-marking μ-marking
-unfolding entry standsAt
+unfolding entry
 returns-2 c =
-    let a = c .before .before .before .before .before .before .before .before .before .before .before .before .before .before .before .before .before .before .args in
-    let p = c .before .before .before .before .before .before .before .before .before .before .before .before .before .before .before .before .before .before .pre in
+    let s = c .before .before .before .before .before .before .before .before .before .before .before .before .before .before .before .before .before .before .before .before .before .before in
+    let a = s .args in
     let model = now (a .model) in
     let index = now (a .index) in
     let second = now (a .second) in
     let regions = now (a .regions) in
     let whole = markTasks (locationsLeft model index second regions (a .locations) 0) second (a .at) 0 in
-    let l = c .before .before .before .before .before .before .loop2 in
-    let i = l .inv in
-    let part = tasksOf model second (entry index 0) (c .before .before .before .before .before .before .before .group-at .last .1 .1 .1 .1 .1 .1 .1 .0) (c .before .before .before .before .before .before .before .group-at .result) in
-    let number = c .before .fault .given .0 .0 in
-    let cut = c .before .fault .given .0 .1 .0 in
-    let e : heldNext (markTask (getD part (l .goal) noTask) second (l .place)) ≡ next.Refused number cut = sym (c .before .before .before .mark-goal .ensures) ∙ c .before .fault .given .1 in
-    let short : l .goal < length part = omega (arith, c .before .before .before .before .before .loop2-test .taken, tasks-length model second (entry index 0) (c .before .before .before .before .before .before .before .group-at .last .1 .1 .1 .1 .1 .1 .1 .0) (c .before .before .before .before .before .before .before .group-at .result)) in
-    let ended : stopped number cut (l .done) ≡ whole = goal-failed second whole part _ (l .goal) short (l .place) (l .done) number cut e (i .1 .1 .1 .1) in
-    ap standsAt ended ∙ ap (λ (ts : List Task). standsAt (markTasks ts second (a .at) 0)) (joined-whole (locationTasks (modelFrom model index) (regionsOf model index second regions)) (a .locations))
+    let l = c .before .before .before .before .before .before .before .loop2 in
+    let location = c .before .before .before .before .before .before .before .before .before .before .before .before .before .before .before .before .marking .location in
+    let rest = groupsLeft model index second regions location (entry index 2 + 2) (c .before .before .before .before .before .before .before .before .before .before .before .before .before .loop .g + 1) ++ locationsLeft model index second regions (a .locations) (location + 1) in
+    let k = c .before .before .mark-group in
+    let t = c .before .before .before .before .before .before .before in
+    let f = locationTasks (modelFrom model index) (regionsOf model index second regions) in
+    let cut = part-stops second (one t ∷ []) (l .place) (l .done) (k .result) (marked (c .before .before)) (l .inv .0 .within) (l .inv .0 .few) whole (drop (l .goal + 1) (part t) ++ rest) (c .if1 .taken) (goal-first second whole (part t) rest (l .goal) (short (c .before .before .before .before .before .before)) (l .place) (l .done) (l .inv .1 .1 .1)) in
+    (cut ∙ ap (λ (ts : List Task). standsAt (markTasks ts second (a .at) 0)) (joined-whole f (a .locations)), λ z. absurd (c .if1 .taken z))
 
 pub mark-locations-spec : {M : Type 1} → statement M
 mark-locations-spec =
@@ -261,10 +305,8 @@ mark-locations-spec =
     loop-holds
     group-at-requires
     loop2-holds
-    mark-goal-requires
-    enum-known-fault
-    enum-known-next
-    add-done
+    one-of-requires
+    mark-group-requires
     add-goal
     loop2-less
     loop2-again
@@ -274,5 +316,9 @@ mark-locations-spec =
     add-location
     marking-less
     marking-again
+    same-length
+    same-length-2
     returns
+    same-length-3
+    same-length-4
     returns-2)

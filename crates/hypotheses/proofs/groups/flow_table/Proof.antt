@@ -1,80 +1,51 @@
--- Each part after the one before. Assumes nothing.
-use mathlib.Core.Path.{_∙_}
-use mathlib.Core.List.{[], _∷_}
-use Prim.Native.Nat.{_≤_}
+-- Region and invariants, invariants on x', flow rows, the time. Assumes nothing.
 use native.Mathlib.Omega.{arith}
 use borrow.Author.Needs.{needs}
 use denote.Ref.{now}
 use lib.ListN.{length}
-use Rattle.models.specs.Index.{entry}
-use Rattle.models.specs.Counts.{perComponent}
-use Rattle.hypotheses.specs.Listing.{line, modeLines, rowSize, hereLines, flowLines}
-use Rattle.hypotheses.proofs.TableLaws.{lines-most, lines-then, lines-count}
 use Rattle.papers.proofs.StandingLaws.{invariant-good, flow-good}
-use Rattle.hypotheses.proofs.GoodLines.{modes-few, here-fine}
-use Rattle.hypotheses.proofs.GroupLaws.{nested}
+use Rattle.hypotheses.specs.Listing.{flowLines}
+use Rattle.hypotheses.proofs.TableLaws.{pushed-then}
+use Rattle.hypotheses.proofs.ModeLines.{few-rows}
+use borrow.Author.Needs.{needs}
 use Rattle.hypotheses.proofs.groups.flow_table.Statement.{statement}
 use Rattle.hypotheses.proofs.groups.flow_table.Tie as tie
 
 push-here-requires : tie.Need-push-here-requires
-push-here-requires c κs = (c .before .before .before .before .pre .0, (c .before .before .before .before .pre .1 .0, c .before .before .before .before .pre .1 .1))
+push-here-requires c κs = search needs
 
 push-modes-requires : tie.Need-push-modes-requires
 push-modes-requires c κs =
-    let a = c .before .before .before .before .before .before .before .before .args in
-    let p = c .before .before .before .before .before .before .before .before .pre in
-    let index = now (a .index) in
+    let s = c .before .before .before .before .before .before .before .before in
     let k = c .before .before .before .push-here in
-    let long : entry index 1 ≤ length (a .modes) = omega (arith, p .0 .good .few, c .before .before .before .before .before .before .before .before .good .1 .1 .1 .1 .1 .0 .1 .0 .1) in
-    let few = here-fine (now (a .model)) index (now (a .second)) (now (a .regions)) (a .modes) (a .location) long (p .1 .0 .1) (p .0) (p .1 .0 .0) .few in
-    let count = lines-most _ (k .result) _ {most = 48} (k .ensures) few in
-    ((p .0 .short, (p .0 .good, invariant-good (now (a .model)) index (a .modes) (p .0 .good) (p .1 .0 .1))), (omega (arith, k .kept .1 .1 .1 .1 .1 .1 .0, p .1 .1), (omega (arith, count), omega arith)))
+    let model = now (s .args .model) in
+    let index = now (s .args .index) in
+    (few-rows model index (s .args .modes) 3 (s .pre .0 .good) (omega arith) (invariant-good model index (s .args .modes) (s .pre .0 .good) (s .pre .1 .0 .1)), (omega (arith, k .kept .1 .1 .1 .1 .1 .1 .0, s .pre .1 .1 .0), (omega (arith, k .ensures .few), k .ensures .stacked)))
 
 push-modes-requires-2 : tie.Need-push-modes-requires-2
 push-modes-requires-2 c κs =
-    let a = c .before .before .before .before .before .before .before .before .before .before .before .before .args in
-    let p = c .before .before .before .before .before .before .before .before .before .before .before .before .pre in
-    let index = now (a .index) in
-    let k = c .before .before .before .before .before .before .before .push-here in
-    let m = c .before .before .before .push-modes in
-    let long : entry index 1 ≤ length (a .modes) = omega (arith, p .0 .good .few, c .before .before .before .before .before .before .before .before .before .before .before .before .good .1 .1 .1 .1 .1 .0 .1 .0 .1) in
-    let few = here-fine (now (a .model)) index (now (a .second)) (now (a .regions)) (a .modes) (a .location) long (p .1 .0 .1) (p .0) (p .1 .0 .0) .few in
-    let count = lines-most _ (k .result) _ {most = 48} (k .ensures) few in
-    let more = modes-few (now (a .model)) (now (a .second)) index (a .modes) long 2 3 (omega arith) (λ e. omega (arith, e)) (invariant-good (now (a .model)) index (a .modes) (p .0 .good) (p .1 .0 .1)) in
-    let after = lines-count _ _ (m .result) (k .result) _ (m .ensures) in
-    ((p .0 .short, (p .0 .good, flow-good (now (a .model)) index (a .modes) (p .0 .good) (p .1 .0 .1))), (omega (arith, k .kept .1 .1 .1 .1 .1 .1 .0, m .kept .1 .1 .1 .1 .1 .0, p .1 .1), (omega (arith, count, after, more, p .0 .good .few), omega arith)))
+    let s = c .before .before .before .before .before .before .before .before .before .before .before .before in
+    let k = c .before .before .before .push-modes in
+    let h = c .before .before .before .before .before .before .before .push-here in
+    let model = now (s .args .model) in
+    let index = now (s .args .index) in
+    (few-rows model index (s .args .modes) 5 (s .pre .0 .good) (omega arith) (flow-good model index (s .args .modes) (s .pre .0 .good) (s .pre .1 .0 .1)), (omega (arith, h .kept .1 .1 .1 .1 .1 .1 .0, k .kept .1 .1 .1 .1 .0, s .pre .1 .1 .0), (omega (arith, h .ensures .few, k .ensures .few), k .ensures .stacked)))
 
 push-requires : tie.Need-push-requires
 push-requires c κs =
-    let a = c .before .before .before .before .before .before .before .before .before .before .before .before .before .before .before .before .args in
-    let p = c .before .before .before .before .before .before .before .before .before .before .before .before .before .before .before .before .pre in
-    let index = now (a .index) in
-    let k = c .before .before .before .before .before .before .before .before .before .before .before .push-here in
-    let m = c .before .before .before .before .before .before .before .push-modes in
+    let s = c .before .before .before .before .before .before .before .before .before .before .before .before .before .before .before .before in
     let r = c .before .before .before .push-modes2 in
-    let long : entry index 1 ≤ length (a .modes) = omega (arith, p .0 .good .few, c .before .before .before .before .before .before .before .before .before .before .before .before .before .before .before .before .good .1 .1 .1 .1 .1 .0 .1 .0 .1) in
-    let few = here-fine (now (a .model)) index (now (a .second)) (now (a .regions)) (a .modes) (a .location) long (p .1 .0 .1) (p .0) (p .1 .0 .0) .few in
-    let count = lines-most _ (k .result) _ {most = 48} (k .ensures) few in
-    let more = modes-few (now (a .model)) (now (a .second)) index (a .modes) long 2 3 (omega arith) (λ e. omega (arith, e)) (invariant-good (now (a .model)) index (a .modes) (p .0 .good) (p .1 .0 .1)) in
-    let rates = modes-few (now (a .model)) (now (a .second)) index (a .modes) long 3 5 (omega arith) (λ e. omega (arith, e)) (flow-good (now (a .model)) index (a .modes) (p .0 .good) (p .1 .0 .1)) in
-    let after = lines-count _ _ (m .result) (k .result) _ (m .ensures) in
-    let last = lines-count _ _ (r .result) (m .result) _ (r .ensures) in
-    (omega (arith, k .kept .1 .1 .1 .1 .1 .1 .0, m .kept .1 .1 .1 .1 .1 .0, r .kept .1 .1 .1 .1 .1 .0, p .1 .1), omega (arith, count, after, more, rates, last, p .0 .good .few))
+    let k = c .before .before .before .before .before .before .before .push-modes in
+    let h = c .before .before .before .before .before .before .before .before .before .before .before .push-here in
+    ((omega (arith, h .kept .1 .1 .1 .1 .1 .1 .0, k .kept .1 .1 .1 .1 .0, r .kept .1 .1 .1 .1 .0, s .pre .1 .1 .0), omega (arith, h .ensures .few, k .ensures .few, r .ensures .few)), (r .ensures .stacked, omega arith))
 
 same-length : tie.Need-same-length
 same-length c = search needs
 
 returns : tie.Need-returns
-unfolding rowSize flowLines
+unfolding flowLines
 returns c =
-    let a = c .before .before .before .before .before .before .before .before .before .before .before .before .before .before .before .before .before .before .before .args in
-    let index = now (a .index) in
-    let k = c .before .before .before .before .before .before .before .before .before .before .before .before .before .before .push-here in
-    let m = c .before .before .before .before .before .before .before .before .before .before .push-modes in
-    let r = c .before .before .before .before .before .before .push-modes2 in
-    let modes = perComponent index (a .modes) in
-    lines-then _ _ (c .before .before .push .result) (r .result) _ _ (c .before .before .push .ensures) (lines-then _ _ (r .result) (m .result) _ _ (r .ensures) (lines-then _ _ (m .result) (k .result) _ _ (m .ensures) (k .ensures)))
-    ∙ nested (hereLines index (now (a .regions)) (a .location) modes) (modeLines 2 (rowSize index) 3 index 0 modes) (modeLines 3 (rowSize index) 5 index 0 modes) (line 4 0 ∷ [])
+    pushed-then (c .before .before .before .before .before .before .before .before .before .before .before .before .before .before .push-here .ensures) (pushed-then {j = 5} {n = 9} (c .before .before .before .before .before .before .before .before .before .before .push-modes .ensures) (pushed-then {n = 5} (c .before .before .before .before .before .before .push-modes2 .ensures) (c .before .before .push .ensures) (omega arith)) (omega arith)) (omega arith)
 
 pub flow-table-spec : {M : Type 1} → statement M
 flow-table-spec =

@@ -1,4 +1,4 @@
--- By its fields. Assumes nothing.
+-- The empty group, as it is. Assumes nothing.
 use mathlib.Core.Path.{refl}
 use Rattle.hypotheses.specs.Listing.{emptyGroup}
 use Rattle.hypotheses.proofs.groups.no_group.Statement.{statement}

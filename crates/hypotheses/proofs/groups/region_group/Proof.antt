@@ -1,55 +1,43 @@
--- By its fields. Assumes nothing.
+-- Two numbers of the regions, and how many hypotheses the table has. Assumes nothing.
 use mathlib.Core.Path.{refl}
-use Prim.Native.Nat.{_+_, _*_}
+use Prim.Native.Nat.{_*_}
 use native.Mathlib.Omega.{arith}
-use borrow.Author.Needs.{needs}
 use Rattle.models.specs.Index.{entry}
 use Rattle.hypotheses.specs.Listing.{regionGroup}
+use borrow.Author.Needs.{needs}
 use Rattle.hypotheses.proofs.groups.region_group.Statement.{statement}
 use Rattle.hypotheses.proofs.groups.region_group.Tie as tie
 
-mul-kept : tie.Need-mul-kept
-mul-kept c = search needs
+lines-requires : tie.Need-lines-requires
+lines-requires c κs = search needs
 
-add-goals : tie.Need-add-goals
-add-goals c = search needs
-
-mul-goals : tie.Need-mul-goals
-mul-goals c = search needs
-
-shared-slice-read-goals : tie.Need-shared-slice-read-goals
-shared-slice-read-goals c = search needs
-
-cast-goals : tie.Need-cast-goals
-cast-goals c = omega (arith, c .shared-slice-known .given (2 * c .before .args .location + 1))
+region-rows-requires : tie.Need-region-rows-requires
+region-rows-requires c κs = search needs
 
 mul-from : tie.Need-mul-from
 mul-from c = search needs
+
+mul-from-2 : tie.Need-mul-from-2
+mul-from-2 c = search needs
 
 shared-slice-read-from : tie.Need-shared-slice-read-from
 shared-slice-read-from c = search needs
 
 cast-from : tie.Need-cast-from
-cast-from c = omega (arith, c .shared-slice-known2 .given (2 * c .before .before .args .location))
-
-cast-t13 : tie.Need-cast-t13
-cast-t13 c = search needs
+cast-from c = omega (arith, c .shared-slice-known3 .given (2 * c .before .before .before .before .before .args .location))
 
 returns : tie.Need-returns
 unfolding regionGroup entry
-returns c = refl
+returns c = rw (c .before .before .lines .ensures, c .before .region-rows .ensures) refl
 
 pub region-group-spec : {M : Type 1} → statement M
 region-group-spec =
     tie.close
     (tie.spec
-    mul-kept
-    add-goals
-    mul-goals
-    shared-slice-read-goals
-    cast-goals
+    lines-requires
+    region-rows-requires
     mul-from
+    mul-from-2
     shared-slice-read-from
     cast-from
-    cast-t13
     returns)

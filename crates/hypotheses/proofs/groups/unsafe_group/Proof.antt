@@ -1,4 +1,4 @@
--- None where the modes do not fit, else the table's. Assumes nothing.
+-- Nothing where the modes do not fit, else the proof that has no goal. Assumes nothing.
 use mathlib.Core.Path.{_≡_, sym, ap, _∙_, subst}
 use Prim.Native.Nat.{_≤_}
 use native.Mathlib.Omega.{arith}
@@ -6,12 +6,13 @@ use borrow.Author.Needs.{needs}
 use denote.Ref.{now}
 use lib.ListN.{length}
 use Rattle.models.specs.Index.{entry}
+use Rattle.rules.proofs.ListFacts.{test-passed, test-failed}
 use Rattle.hypotheses.specs.declared.Group.{Group}
-use Rattle.hypotheses.specs.Listing.{GoodGroup, tasksOf, unsafeGroup, emptyGroup}
-use Rattle.rules.proofs.ListFacts.{test-failed, test-passed}
-use Rattle.hypotheses.proofs.TableLaws.{lines-most}
+use Rattle.hypotheses.specs.Listing.{tasksOf, GoodGroup, emptyGroup, unsafeGroup}
+use Rattle.hypotheses.proofs.TableLaws.{lines-start}
 use Rattle.hypotheses.proofs.GoodLines.{unsafe-fine}
 use Rattle.hypotheses.proofs.GroupLaws.{unsafe-tasks, unsafe-none, empty-good, unsafe-good}
+use borrow.Author.Needs.{needs}
 use Rattle.hypotheses.proofs.groups.unsafe_group.Statement.{statement}
 use Rattle.hypotheses.proofs.groups.unsafe_group.Tie as tie
 
@@ -23,50 +24,55 @@ no-group-requires c κs = search needs
 
 returns : tie.Need-returns
 returns c =
-    let a = c .before .before .before .before .before .before .args in
-    let p = c .before .before .before .before .before .before .pre in
-    let model = now (a .model) in
-    let index = now (a .index) in
-    let second = now (a .second) in
-    let regions = now (a .regions) in
-    let long : entry index 1 ≤ length (a .modes) = omega (arith, p .0 .good .few, c .before .before .before .before .before .before .good .1 .1 .1 .1 .1 .0 .1 .0 .1) in
-    let table = now (a .table) in
-    let same : c .no-group .result ≡ emptyGroup = c .no-group .ensures in
-    (ap (tasksOf model second (entry index 0) table) same ∙ unsafe-none model index second regions (a .modes) (a .location) long (p .1 .0) table (a .u) (p .1 .1 .0) (sym (test-failed (c .before .before .modes-fit .result) (c .before .if1 .taken) (c .before .before .modes-fit .ensures))), subst (λ (g : Group). GoodGroup model second (entry index 0) table g) (sym same) (empty-good model second (entry index 0) table))
+    let s = c .before .before .before .before .before .before in
+    let model = now (s .args .model) in
+    let index = now (s .args .index) in
+    let second = now (s .args .second) in
+    let regions = now (s .args .regions) in
+    let here = s .args .location in
+    let modes = s .args .modes in
+    let long : entry index 1 ≤ length modes = omega (arith, s .pre .0 .good .few, s .good .1 .1 .1 .1 .1 .0 .1 .0 .1) in
+    let table = now (s .args .table) in
+    let same : c .no-group .result ≡ emptyGroup = c .no-group .ensures in (
+      ap (tasksOf model second (entry index 0) table) same ∙ unsafe-none model index second regions modes here long (s .pre .1 .0) table (s .args .u) (s .pre .1 .1 .0) (sym (test-failed (c .before .before .modes-fit .result) (c .before .if1 .taken) (c .before .before .modes-fit .ensures))),
+      subst (λ (g : Group). GoodGroup model second (entry index 0) table g) (sym same) (empty-good model second (entry index 0) table (s .pre .0 .good .most) (s .pre .1 .1 .1 .1)),
+    )
 
 unsafe-table-requires : tie.Need-unsafe-table-requires
-unsafe-table-requires c κs = (c .before .before .before .before .before .before .pre .0, ((c .before .before .before .before .before .before .pre .1 .0 .below, c .before .before .before .before .before .before .pre .1 .0 .known), (c .before .before .before .before .before .before .pre .1 .1 .0, c .before .before .before .before .before .before .pre .1 .1 .1)))
+unsafe-table-requires c κs = let s = c .before .before .before .before .before .before in (s .pre .0, ((s .pre .1 .0 .below, s .pre .1 .0 .known), s .pre .1 .1))
 
-cast-t14 : tie.Need-cast-t14
-cast-t14 c =
-    let a = c .before .before .before .before .before .before .before .before .before .args in
-    let p = c .before .before .before .before .before .before .before .before .before .pre in
-    let model = now (a .model) in
-    let index = now (a .index) in
-    let second = now (a .second) in
-    let regions = now (a .regions) in
-    let long : entry index 1 ≤ length (a .modes) = omega (arith, p .0 .good .few, c .before .before .before .before .before .before .before .before .before .good .1 .1 .1 .1 .1 .0 .1 .0 .1) in
-    let fine = unsafe-fine model index second regions (a .modes) (a .location) long (p .1 .0 .known) (p .0) (p .1 .0 .below) (a .u) (p .1 .1 .0) in
-    let count = lines-most _ (c .before .before .unsafe-table .result) _ {most = 56} (c .before .before .unsafe-table .ensures) (fine .few) in
-    omega (arith, count)
+lines-requires : tie.Need-lines-requires
+lines-requires c κs = let k = c .before .before .before .unsafe-table in (omega (arith, k .kept .1 .1 .1 .1 .1 .1 .1 .0, c .before .before .before .before .before .before .before .before .before .before .pre .1 .1 .1 .0), omega (arith, k .ensures .few))
+
+element-copy-out-t19 : tie.Need-element-copy-out-t19
+element-copy-out-t19 c = search needs
+
+cast-t20 : tie.Need-cast-t20
+unfolding entry
+cast-t20 c = omega (arith, c .before .before .before .before .before .before .before .before .before .before .before .before .pre .0 .good .most)
 
 same-length : tie.Need-same-length
-same-length c = c .before .before .unsafe-table .kept .1 .1 .1 .1 .1 .1 .1 .0
+same-length c = c .before .before .before .before .before .unsafe-table .kept .1 .1 .1 .1 .1 .1 .1 .0
 
 returns-2 : tie.Need-returns-2
-unfolding unsafeGroup
+unfolding entry unsafeGroup
 returns-2 c =
-    let a = c .before .before .before .before .before .before .before .before .before .args in
-    let p = c .before .before .before .before .before .before .before .before .before .pre in
-    let model = now (a .model) in
-    let index = now (a .index) in
-    let second = now (a .second) in
-    let regions = now (a .regions) in
-    let long : entry index 1 ≤ length (a .modes) = omega (arith, p .0 .good .few, c .before .before .before .before .before .before .before .before .before .good .1 .1 .1 .1 .1 .0 .1 .0 .1) in
-    let fine = unsafe-fine model index second regions (a .modes) (a .location) long (p .1 .0 .known) (p .0) (p .1 .0 .below) (a .u) (p .1 .1 .0) in
-    let table = c .before .before .unsafe-table .last .1 .1 .1 .1 .1 .1 .1 .0 in
-    let h = c .before .before .unsafe-table .result in
-    (unsafe-tasks model index second regions (a .modes) (a .location) long (p .1 .0) table h (a .u) (p .1 .1 .0) (c .before .before .unsafe-table .ensures) (sym (test-passed (c .before .before .before .before .before .modes-fit .result) (c .before .before .before .before .if1 .left) (c .before .before .before .before .before .modes-fit .ensures))), unsafe-good model index second table h _ (c .before .before .unsafe-table .ensures) fine (omega arith))
+    let s = c .before .before .before .before .before .before .before .before .before .before .before .before in
+    let model = now (s .args .model) in
+    let index = now (s .args .index) in
+    let second = now (s .args .second) in
+    let regions = now (s .args .regions) in
+    let here = s .args .location in
+    let modes = s .args .modes in
+    let long : entry index 1 ≤ length modes = omega (arith, s .pre .0 .good .few, s .good .1 .1 .1 .1 .1 .0 .1 .0 .1) in
+    let n = entry index 0 in
+    let k = c .before .before .before .before .before .unsafe-table in
+    let table = k .last .1 .1 .1 .1 .1 .1 .1 .0 in
+    let fine = unsafe-fine model index second regions modes here long (s .pre .1 .0 .known) (s .pre .0) (s .pre .1 .0 .below) (s .args .u) (s .pre .1 .1 .0) in
+    rw (c .before .lines .ensures) (
+      unsafe-tasks model index second regions modes here long (s .pre .1 .0) table (k .result) n (s .args .u) (s .pre .1 .1 .0) (lines-start (k .ensures)) (sym (test-passed (c .before .before .before .before .before .before .before .before .modes-fit .result) (c .before .before .before .before .before .before .before .if1 .left) (c .before .before .before .before .before .before .before .before .modes-fit .ensures))),
+      unsafe-good model index second table (k .result) n _ (k .ensures .stacked) (omega (arith, k .ensures .few)) (lines-start (k .ensures)) fine (omega arith) (omega (arith, s .pre .0 .good .most)),
+    )
 
 pub unsafe-group-spec : {M : Type 1} → statement M
 unsafe-group-spec =
@@ -76,6 +82,8 @@ unsafe-group-spec =
     no-group-requires
     returns
     unsafe-table-requires
-    cast-t14
+    lines-requires
+    element-copy-out-t19
+    cast-t20
     same-length
     returns-2)

@@ -16,8 +16,12 @@ cast-count : tie.Need-cast-count
 unfolding entry
 cast-count c = omega (arith, c .before .pre .0 .joined, c .before .pre .1 .1)
 
-cast-t10 : tie.Need-cast-t10
-cast-t10 c = search needs
+cast-if1 : tie.Need-cast-if1
+unfolding entry
+cast-if1 c = omega (arith, c .before .pre .0 .joined, c .before .pre .1 .1)
+
+cast-t11 : tie.Need-cast-t11
+cast-t11 c = search needs
 
 returns : tie.Need-returns
 unfolding answer entry
@@ -35,4 +39,4 @@ returns-2 c =
 
 pub count-answer-spec : {M : Type 1} → statement M
 count-answer-spec =
-    tie.close (tie.spec element-copy-out-count cast-count cast-t10 returns returns-2)
+    tie.close (tie.spec element-copy-out-count cast-count cast-if1 cast-t11 returns returns-2)

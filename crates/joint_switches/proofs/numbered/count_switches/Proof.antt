@@ -51,7 +51,7 @@ same-length c = c .before .loop .inv .1
 returns : tie.Need-returns Inv-loop μ-loop
 returns c =
     let i = c .before .loop .inv in
-    record { components = λ k h. i .2 k (omega (arith, c .loop-test .left, c .before .before .component-count .ensures)) }
+    λ k p h l. i .2 k (omega (arith, c .loop-test .left, c .before .before .component-count .ensures)) .counted p l
 
 pub count-switches-spec : {M : Type 1} → statement M
 count-switches-spec =

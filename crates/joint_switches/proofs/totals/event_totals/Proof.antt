@@ -13,7 +13,8 @@ count-switches-requires c κs =
     ((c .before .before .pre, record { enough = omega arith; few = omega arith }), (omega arith, zeros-blank 64))
 
 totals-by-requires : tie.Need-totals-by-requires
-totals-by-requires c κs = search needs
+totals-by-requires c κs =
+    (c .before .before .before .before .before .pre, record { components = c .before .before .count-switches .ensures })
 
 returns : tie.Need-returns
 returns c = search needs

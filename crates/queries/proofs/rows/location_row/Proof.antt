@@ -1,14 +1,11 @@
--- The table of the group, then its line. Assumes nothing.
-use mathlib.Core.Path.{ap, _∙_}
-use mathlib.Core.List.{List}
+-- The table of the group, then its hypothesis. Assumes nothing.
+use mathlib.Core.Path.{refl, _∙_}
 use native.Mathlib.Omega.{arith}
-use borrow.Author.Needs.{needs}
 use denote.Ref.{now}
-use Rattle.models.specs.Index.{entry, modelFrom}
-use Rattle.rules.specs.Obligations.{Hypothesis}
-use Rattle.papers.specs.Paper.{regionsOf}
-use Rattle.queries.specs.Finding.{rowFound, hypothesisFound}
+use Rattle.models.specs.Index.{entry}
 use Rattle.papers.proofs.StandingLaws.{stands-at}
+use Rattle.queries.proofs.HeldLaws.{empty-stacked, held-row}
+use borrow.Author.Needs.{needs}
 use Rattle.queries.proofs.rows.location_row.Statement.{statement}
 use Rattle.queries.proofs.rows.location_row.Tie as tie
 
@@ -26,6 +23,7 @@ slice-aggregate-table-at : tie.Need-slice-aggregate-table-at
 slice-aggregate-table-at c = search needs
 
 table-at-requires : tie.Need-table-at-requires
+unfolding entry
 table-at-requires c κs =
     let a = c .before .before .before .before .before .args in
     let p = c .before .before .before .before .before .pre in
@@ -33,23 +31,23 @@ table-at-requires c κs =
     let index = now (a .index) in
     let second = now (a .second) in
     let regions = now (a .regions) in
-    let m = modelFrom model index in
-    let regionAt = regionsOf model index second regions in
     let modes = c .before .before .modes-at in
-    (p .0, (stands-at model index (a .location) (modes .result) _ (p .0 .good) (p .1 .0) (modes .ensures), (p .1 .1, search needs)))
+    (p .0, (stands-at model index (a .location) (modes .result) _ (p .0 .good) (p .1 .0) (modes .ensures), (p .1 .1, (search needs, empty-stacked _ refl))))
 
-slice-aggregate-line-row : tie.Need-slice-aggregate-line-row
-slice-aggregate-line-row c = search needs
+slice-aggregate-row-in : tie.Need-slice-aggregate-row-in
+slice-aggregate-row-in c = search needs
 
-line-row-requires : tie.Need-line-row-requires
+row-in-requires : tie.Need-row-in-requires
 unfolding entry
-line-row-requires c κs = (c .before .before .before .before .before .before .before .before .pre .0 .good .most, (c .before .before .table-at .ensures .1, search needs))
+row-in-requires c κs =
+    let told = c .before .before .table-at in
+    (c .before .before .before .before .before .before .before .before .pre .0 .good .most, (omega (arith, told .kept .1 .1 .1 .1 .1 .1 .1 .0), told .ensures .1))
 
 returns : tie.Need-returns
 unfolding entry
 returns c =
     let a = c .before .before .before .before .before .before .before .before .before .args in
-    c .line-row .ensures ∙ ap (λ (hs : List Hypothesis). rowFound (hypothesisFound hs (a .h))) (c .before .before .before .table-at .ensures .0)
+    c .row-in .ensures ∙ held-row (c .before .before .before .table-at .ensures .0) (a .h)
 
 pub location-row-spec : {M : Type 1} → statement M
 location-row-spec =
@@ -60,6 +58,6 @@ location-row-spec =
     cast-n
     slice-aggregate-table-at
     table-at-requires
-    slice-aggregate-line-row
-    line-row-requires
+    slice-aggregate-row-in
+    row-in-requires
     returns)

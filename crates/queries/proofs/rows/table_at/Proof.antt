@@ -1,21 +1,21 @@
 -- By its number. Assumes nothing.
-use mathlib.Core.Path.{_≡_, sym, ap, _∙_}
+use mathlib.Core.Path.{_≡_, sym}
 use Prim.Native.Nat.{ℕ, suc, _-_, _≤_, _<_}
 use native.Mathlib.Omega.{arith}
-use borrow.Author.Needs.{needs}
 use denote.Ref.{now}
 use lib.ListN.{length}
 use Rattle.models.specs.Index.{entry, modelFrom}
 use Rattle.papers.specs.Paper.{regionsOf}
-use Rattle.queries.specs.Finding.{groupHypotheses}
-use Rattle.hypotheses.proofs.TableLaws.{lines-most}
-use Rattle.hypotheses.proofs.GoodLines.{start-fine, flow-fine, unsafe-fine}
-use Rattle.queries.proofs.ShowLaws.{start-held, flow-held, unsafe-held}
+use Rattle.hypotheses.proofs.TableLaws.{lines-start}
+use Rattle.queries.proofs.HeldLaws.{start-held, flow-held, unsafe-held, held-at}
+use borrow.Author.Needs.{needs}
 use Rattle.queries.proofs.rows.table_at.Statement.{statement}
 use Rattle.queries.proofs.rows.table_at.Tie as tie
 
 start-table-requires : tie.Need-start-table-requires
-start-table-requires c κs = search needs
+start-table-requires c κs =
+    let s = c .before .before .before .before .before in
+    ((s .pre .0 .good, s .pre .1 .0 .known), s .pre .1 .1 .1)
 
 same-length : tie.Need-same-length
 same-length c = search needs
@@ -35,12 +35,12 @@ returns c =
     let stands = p .1 .0 in
     let e : a .g ≡ 0 = c .before .before .before .before .if1 .taken in
     let made = c .before .before .start-table in
-    let fine = start-fine model index second regions (a .modes) (a .location) long (stands .known) (p .0) in
-    let few = lines-most _ (made .result) _ {most = 64} (made .ensures) (fine .few) in
-    (start-held model index second regions (a .modes) (a .location) long stands _ (made .result) (made .ensures) ∙ ap (groupHypotheses m regionAt (a .location)) (sym e), omega (arith, few))
+    (held-at model index second regions (a .modes) (a .location) long stands _ (made .result) (sym e) (start-held model index second regions (a .modes) (a .location) long stands _ (made .result) (lines-start (made .ensures))), (made .ensures .stacked, omega (arith, made .ensures .few)))
 
 flow-table-requires : tie.Need-flow-table-requires
-flow-table-requires c κs = search needs
+flow-table-requires c κs =
+    let s = c .before .before .before .before .before .before in
+    (s .pre .0, ((s .pre .1 .0 .below, s .pre .1 .0 .known), s .pre .1 .1 .1))
 
 same-length-2 : tie.Need-same-length-2
 same-length-2 c = search needs
@@ -60,9 +60,7 @@ returns-2 c =
     let stands = p .1 .0 in
     let e : a .g ≡ 1 = c .before .before .before .before .if2 .taken in
     let made = c .before .before .flow-table in
-    let fine = flow-fine model index second regions (a .modes) (a .location) long (stands .known) (p .0) (stands .below) in
-    let few = lines-most _ (made .result) _ {most = 113} (made .ensures) (fine .few) in
-    (flow-held model index second regions (a .modes) (a .location) long stands _ (made .result) (made .ensures) ∙ ap (groupHypotheses m regionAt (a .location)) (sym e), omega (arith, few))
+    (held-at model index second regions (a .modes) (a .location) long stands _ (made .result) (sym e) (flow-held model index second regions (a .modes) (a .location) long stands _ (made .result) (lines-start (made .ensures))), (made .ensures .stacked, omega (arith, made .ensures .few)))
 
 sub-unsafe-table : tie.Need-sub-unsafe-table
 sub-unsafe-table c = search needs
@@ -95,9 +93,7 @@ returns-3 c =
     let low : u < entry index 2 = omega (arith, p .1 .1 .0, c .before .before .before .before .if2 .left, c .before .before .before .before .before .if1 .left) in
     let same : suc (suc u) ≡ a .g = omega (arith, c .before .before .before .before .if2 .left, c .before .before .before .before .before .if1 .left) in
     let made = c .before .before .unsafe-table in
-    let fine = unsafe-fine model index second regions (a .modes) (a .location) long (stands .known) (p .0) (stands .below) u low in
-    let few = lines-most _ (made .result) _ {most = 56} (made .ensures) (fine .few) in
-    (unsafe-held model index second regions (a .modes) (a .location) long stands _ (made .result) u (a .g) low same (made .ensures), omega (arith, few))
+    (held-at model index second regions (a .modes) (a .location) long stands _ (made .result) same (unsafe-held model index second regions (a .modes) (a .location) long stands _ (made .result) u low (lines-start (made .ensures))), (made .ensures .stacked, omega (arith, made .ensures .few)))
 
 pub table-at-spec : {M : Type 1} → statement M
 table-at-spec =

@@ -12,7 +12,8 @@ count-entering-requires : tie.Need-count-entering-requires
 count-entering-requires c κs = (c .before .before .before .pre .0 .good, (omega arith, zeros-blank 512))
 
 goals-by-requires : tie.Need-goals-by-requires
-goals-by-requires c κs = search needs
+goals-by-requires c κs =
+    ((c .before .before .before .before .before .before .pre .0, record { components = c .before .before .count-entering .ensures }), c .before .before .before .before .before .before .pre .1)
 
 returns : tie.Need-returns
 returns c = search needs

@@ -1,0 +1,74 @@
+-- Hypotheses of a table found by their segment: each is the line of its number, and its row that of the same number. Assumes nothing.
+use mathlib.Core.Path.{_≡_, ap, _∙_, subst}
+use mathlib.Core.List.{List, map}
+use Prim.Native.Nat.{ℕ, _-_, _≤_, _<_}
+use native.Mathlib.Decide.{decLe}
+use native.Mathlib.Omega.{arith}
+use lib.ListN.{length, getD, length-map}
+use Rattle.farkas.specs.Rows.{zeroRow}
+use Rattle.farkas.specs.Lists.{All}
+use Rattle.formats.proofs.Members.{all-below}
+use Rattle.formats.proofs.JointCounts.{mapped-at}
+use Rattle.rules.specs.Obligations.{Hypothesis}
+use Rattle.hypotheses.specs.Tables.{TableLine, line, linesIn, endOf, formOf, placeOf, ownerOf, Stacked, hypothesisOf, hypothesisIn, hypothesesFrom, hypothesisRows, GoodLine}
+use Rattle.hypotheses.proofs.TableLaws.{lines-length, line-at}
+use Rattle.sums.specs.Summing.{InSegment, lineIn, tableLine}
+
+-- a segment that ends before the hypothesis is not the last
+pub not-last : (table : List ℕ) (g segments h : ℕ) → g ≤ segments → endOf table g ≤ h → h < endOf table segments → g < segments
+not-last table g segments h a b u = go (decLe segments g)
+  where
+    same : (g s : ℕ) → g ≤ s → s ≤ g → g ≡ s
+    same g s a b = omega arith
+
+    go : Dec (segments ≤ g) → g < segments
+    go (yes k) = let e : endOf table g ≡ endOf table segments = ap (endOf table) (same g segments a k) in absurd (omega (arith, e))
+    go (no k) = omega arith
+
+module _ (table : List ℕ) (segments g h : ℕ) (s : Stacked table segments) (i : InSegment table segments g h) where
+  pub line-there : (d : TableLine) → getD (linesIn table segments) h d ≡ line (formOf table g) (placeOf table g) (ownerOf table g) (h - endOf table (g - 1))
+  line-there d = line-at table segments s g h d (i .least) (i .most) (i .from) (i .below)
+
+  -- where all rows lie within their sheets, its row does
+  pub line-within : {model second : List ℕ} {n width : ℕ} → All (GoodLine model second n width) (linesIn table segments) → h < endOf table segments → GoodLine model second n width (tableLine (lineIn table g h))
+  unfolding lineIn line
+  line-within {model} {second} {n} {width} all l =
+      let d : TableLine = line 0 0 0 0 in
+      let good = subst (GoodLine model second n width) (line-there d) (all-below all h d (omega (arith, lines-length table segments s))) in
+      record {
+        inModel = good .inModel;
+        inSecond = good .inSecond;
+        jump = good .jump;
+        staying = good .staying;
+        before = good .before;
+        after = good .after;
+        timed = good .timed;
+      }
+
+  pub row-listed : (model second : List ℕ) (n : ℕ) → h < endOf table segments → getD (hypothesisRows (hypothesesFrom model second n table segments)) h zeroRow ≡ hypothesisIn model second n (lineIn table g h .form) (lineIn table g h .place) (lineIn table g h .row) .row
+  unfolding hypothesisRows hypothesesFrom hypothesisOf lineIn line
+  row-listed model second n l =
+      let d : TableLine = line 0 0 0 0 in
+      let lines = linesIn table segments in
+      let hs = map (hypothesisOf model second n) lines in
+      let long : h < length lines = omega (arith, lines-length table segments s) in
+      mapped-at (λ k. k .row) hs h (hypothesisOf model second n d) zeroRow (omega (arith, length-map lines (hypothesisOf model second n)))
+      ∙ ap (λ (k : Hypothesis). k .row) (mapped-at (hypothesisOf model second n) lines h d (hypothesisOf model second n d) long ∙ ap (hypothesisOf model second n) (line-there d))
+
+pub rows-count : (model second : List ℕ) (n : ℕ) (table : List ℕ) (segments : ℕ) → Stacked table segments → length (hypothesisRows (hypothesesFrom model second n table segments)) ≡ endOf table segments
+unfolding hypothesisRows hypothesesFrom
+rows-count model second n table segments s =
+    length-map (map (hypothesisOf model second n) (linesIn table segments)) (λ h. h .row)
+    ∙ length-map (linesIn table segments) (hypothesisOf model second n)
+    ∙ lines-length table segments s
+
+-- where there is a hypothesis there is a segment
+pub some-segment : (table : List ℕ) (segments h : ℕ) → Stacked table segments → h < endOf table segments → 1 ≤ segments
+some-segment table segments h s l = go (decLe 1 segments)
+  where
+    none : (k : ℕ) → (1 ≤ k → ⊥) → k ≡ 0
+    none k n = omega arith
+
+    go : Dec (1 ≤ segments) → 1 ≤ segments
+    go (yes k) = k
+    go (no k) = absurd (omega (arith, ap (endOf table) (none segments k), s .first))
