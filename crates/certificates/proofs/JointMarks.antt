@@ -2,6 +2,7 @@
 use mathlib.Core.Path.{_≡_, refl, sym, ap, ap₂, _∙_, subst}
 use mathlib.Core.List.{List, [], _∷_, _++_, map-append}
 use Prim.Native.Nat.{ℕ, suc, _+_, _*_, _≤_, _<_}
+use lib.IntN.{ℤ}
 use native.Mathlib.Numerals.{add-one}
 use native.Mathlib.Omega.{arith}
 use lib.ListN.{length, getD, drop, drop-of-length-le}
@@ -10,12 +11,14 @@ use Rattle.fields.specs.declared.Next.the-variants as next
 use Rattle.formats.specs.Rows.{Condition}
 use Rattle.formats.specs.Model.{Component, Model}
 use Rattle.formats.specs.Locations.{locationCount, modesAt, locationOf}
-use Rattle.formats.specs.Joint.{countUp, joinAll, switchesOf, modesAfter, fourSwitches, JointSwitch, jointsOf, joints, jointFrom}
+use Rattle.formats.specs.Joint.{countUp, joinAll, switchesOf, modesAfter, JointSwitch, jointsOf, joints, jointFrom}
 use Rattle.models.specs.Index.{entry, componentsFrom, modelFrom, GoodIndex, Kept}
-use Rattle.models.specs.Counts.{perComponent, KnownSwitches}
+use Rattle.models.specs.Counts.{perComponent}
 use Rattle.joint_switches.specs.declared.Landing.{Landing}
-use Rattle.joint_switches.specs.Slots.{landingOf}
-use Rattle.papers.proofs.FoundLaws.{found-first, found-switches, found-below}
+use Rattle.joint_switches.specs.declared.Slot.{Slot}
+use Rattle.joint_switches.specs.Slots.{landingIn, Listed}
+use Rattle.papers.specs.Standing.{Stands}
+use Rattle.papers.proofs.LandedLaws.{landed-first, landed-target}
 use Rattle.papers.proofs.JoinedLaws.{joinedOn, joined-first, joined-whole}
 use Rattle.hypotheses.proofs.TableLaws.{stacked-kept, lines-kept}
 use Rattle.second_sheets.specs.CertificateAnswers.{regionsFrom}
@@ -29,7 +32,8 @@ use Rattle.rules.specs.Obligations.{locationObligations, jumpObligations, jumps
 use Rattle.rules.specs.Marking.{Marked, passed, stopped, markProofs}
 use Rattle.papers.specs.Paper.{regionsOf, obligationsFor}
 use Rattle.hypotheses.specs.Listing.{Task, tasks, taskOf, locationTasks, jumpTasks, jointTasks, markTasks, HereIn}
-use Rattle.certificates.specs.Passed.{standsAt, markedFrom, leavingTasks, Underway}
+use Rattle.certificates.specs.Passed.{standsAt, markedFrom, leavingTasks, Underway, Ready, Fresh}
+use Rattle.certificates.specs.declared.Leaving.{Leaving}
 use Rattle.rules.proofs.ListFacts.{joined-twice, joined-alike, joined-told}
 use Rattle.hypotheses.proofs.GroupLaws.{row-tasks}
 use Rattle.certificates.proofs.MarkLaws.{mark-tasks, Goes, goes, parts-passed, parts-stopped, stands-passed, stands-stopped}
@@ -100,24 +104,35 @@ module _ (model index : List ℕ) (regionAt : ℕ → Condition) (location e : �
   jumps-end x h = ap (joinAll (jumpOf (modelFrom model index) regionAt)) (drop-of-length-le here {i = x} (omega (arith, h, event-length (componentsFrom model index) location e)))
 
 -- a part that was marked by itself: where it passed, the rest comes from there
-module _ (s : List ℕ) (ts : List Task) (p d : ℕ) (r : declared.Marking) (told : r ≡ standsAt (markTasks ts s p d)) (within : p ≤ length s) (few : d ≤ p) where
-  part-passed : r .number ≡ 0 → markTasks ts s p d ≡ passed tt (r .place) (r .done)
+module _ {s : List ℕ} {m r : declared.Marking} (ts : List Task) (u : Underway s m) (told : r ≡ markedFrom ts s m) where
+  part-passed : r .number ≡ 0 → markTasks ts s (m .place) (m .done) ≡ passed tt (r .place) (r .done)
   part-passed z =
-      stands-passed (markTasks ts s p d) s (goes ts s p d within few) (ap (λ (k : declared.Marking). k .number) (sym told) ∙ z)
+      stands-passed (markTasks ts s (m .place) (m .done)) s (goes ts s (m .place) (m .done) (u .within) (u .few)) (ap (λ (k : declared.Marking). k .number) (sym told) ∙ z)
       ∙ ap (λ (k : declared.Marking). passed tt (k .place) (k .done)) (sym told)
 
   pub part-underway : r .number ≡ 0 → Underway s r
-  part-underway z = let w = subst (Goes s) (part-passed z) (goes ts s p d within few) in record { number = z; within = w .0; few = w .1 }
+  part-underway z = let w = subst (Goes s) (part-passed z) (goes ts s (m .place) (m .done) (u .within) (u .few)) in record { number = z; within = w .0; few = w .1 }
 
-  module _ (whole : Marked (Unit {0})) (rest : List Task) where
-    pub part-on : r .number ≡ 0 → Comes s whole (ts ++ rest) p d → Comes s whole rest (r .place) (r .done)
-    part-on z c = sym (parts-passed ts rest s p d (r .place) (r .done) (part-passed z)) ∙ c
+  module _ {whole : Marked (Unit {0})} (rest : List Task) (c : Comes s whole (ts ++ rest) (m .place) (m .done)) where
+    pub part-on : r .number ≡ 0 → Comes s whole rest (r .place) (r .done)
+    part-on z = sym (parts-passed ts rest s (m .place) (m .done) (r .place) (r .done) (part-passed z)) ∙ c
 
-    pub part-stops : (r .number ≡ 0 → ⊥) → Comes s whole (ts ++ rest) p d → r ≡ standsAt whole
+    pub part-stops : (r .number ≡ 0 → ⊥) → r ≡ standsAt whole
     unfolding standsAt
-    part-stops f c =
-        let cut : markTasks ts s p d ≡ stopped (r .number) (r .place) (r .done) = stands-stopped (markTasks ts s p d) (λ z. f (ap (λ (k : declared.Marking). k .number) told ∙ z)) ∙ ap (λ (k : declared.Marking). stopped (k .number) (k .place) (k .done)) (sym told) in
-        ap standsAt (sym (parts-stopped ts rest s p d (r .number) (r .place) (r .done) cut) ∙ c)
+    part-stops f =
+        let cut : markTasks ts s (m .place) (m .done) ≡ stopped (r .number) (r .place) (r .done) = stands-stopped (markTasks ts s (m .place) (m .done)) (λ z. f (ap (λ (k : declared.Marking). k .number) told ∙ z)) ∙ ap (λ (k : declared.Marking). stopped (k .number) (k .place) (k .done)) (sym told) in
+        ap standsAt (sym (parts-stopped ts rest s (m .place) (m .done) (r .number) (r .place) (r .done) cut) ∙ c)
+
+-- the first part of what a loop over numbers has still to do
+module _ {s : List ℕ} {m r : declared.Marking} {whole : Marked (Unit {0})} (f : ℕ → List Task) (n i : ℕ) (h : i < n) (u : Underway s m) (told : r ≡ markedFrom (f i) s m) (c : Comes s whole (joinedOn f n i) (m .place) (m .done)) where
+  abbrev first : Comes s whole (f i ++ joinedOn f n (i + 1)) (m .place) (m .done)
+  first = comes-same s whole (m .place) (m .done) (joined-first f n i h) c
+
+  pub turn-on : r .number ≡ 0 → Comes s whole (joinedOn f n (i + 1)) (r .place) (r .done)
+  turn-on = part-on (f i) u told (joinedOn f n (i + 1)) first
+
+  pub turn-stops : (r .number ≡ 0 → ⊥) → r ≡ standsAt whole
+  turn-stops = part-stops (f i) u told (joinedOn f n (i + 1)) first
 
 -- nothing to prove leaves marking where it stands, and so does coming to the end
 pub marked-none : (s : List ℕ) (m : declared.Marking) (ts : List Task) → m .number ≡ 0 → ts ≡ [] → m ≡ markedFrom ts s m
@@ -126,8 +141,8 @@ marked-none s m ts z e =
     ap (λ (n : ℕ). record { number = n; place = m .place; done = m .done }) z
     ∙ ap (λ (xs : List Task). standsAt (markTasks xs s (m .place) (m .done))) (sym e)
 
-pub marked-end : (s : List ℕ) (whole : Marked (Unit {0})) (m : declared.Marking) (left : List Task) → m .number ≡ 0 → left ≡ [] → Comes s whole left (m .place) (m .done) → m ≡ standsAt whole
-marked-end s whole m left z e c = marked-none s m left z e ∙ ap standsAt c
+pub marked-end : {s : List ℕ} {whole : Marked (Unit {0})} {m : declared.Marking} (left : List Task) → Underway s m → left ≡ [] → Comes s whole left (m .place) (m .done) → m ≡ standsAt whole
+marked-end {s} {whole} {m} left u e c = marked-none s m left (u .number) e ∙ ap standsAt c
 
 -- all obligations: those of the locations, then those of the joint switches
 pub all-parts :
@@ -143,40 +158,25 @@ all-parts model index second regions locations e =
     ∙ ap (λ (ts : List Task). ts ++ jointTasks m regionAt (joints components)) (joined-told taskOf (locationObligations m regionAt) (countUp 0 (locationCount components)))
     ∙ ap (λ (n : ℕ). joinAll (locationTasks m regionAt) (countUp 0 n) ++ jointTasks m regionAt (joints components)) (sym e)
 
--- a joint switch as a table tells it, by its number
-module _ {model index : List ℕ} (g : GoodIndex model index) (location e x : ℕ) (modes : List ℕ) (h : location < locationCount (componentsFrom model index)) (p : perComponent index modes ≡ modesAt (componentsFrom model index) location) (k : e ≤ 15) (l : x < length (switchesOf (componentsFrom model index) (modesAt (componentsFrom model index) location) e)) (r : Landing) (told : r ≡ landingOf (componentsFrom model index) (perComponent index modes) (getD (switchesOf (componentsFrom model index) (perComponent index modes) e) x [])) where
-  four : r .switches ≡ fourSwitches (getD (switchesOf (componentsFrom model index) (perComponent index modes) e) x [])
-  unfolding landingOf
-  four = ap (λ (k : Landing). k .switches) told
-
-  pub landing-known : KnownSwitches index (r .switches)
-  landing-known = found-switches g location e x modes h p k l (r .switches) four
-
-  landing-first : perComponent index (r .switches) ≡ foundAt model index location e x
-  landing-first = found-first g location e x modes h p k l (r .switches) four
-
-  landing-target : r .target ≡ locationOf (componentsFrom model index) (modesAfter (componentsFrom model index) (modesAt (componentsFrom model index) location) (foundAt model index location e x))
-  unfolding landingOf
-  landing-target =
-      ap (λ (k : Landing). k .target) told
-      ∙ ap (λ (ms : List ℕ). locationOf (componentsFrom model index) (modesAfter (componentsFrom model index) ms (getD (switchesOf (componentsFrom model index) ms e) x []))) p
-
-  pub landing-below : r .target < locationCount (componentsFrom model index)
-  landing-below = subst (λ (t : ℕ). t < locationCount (componentsFrom model index)) (sym landing-target) (found-below g location e x modes h p k l)
-
-  -- its proofs come first among those that are left
-  pub landing-next : (regionAt : ℕ → Condition) → jumpsLeft model index regionAt location e x ≡ jumpTasks (modelFrom model index) regionAt location (perComponent index (r .switches)) (r .target) ++ jumpsLeft model index regionAt location e (x + 1)
-  landing-next regionAt =
-      jumps-next model index regionAt location e x l
-      ∙ ap₂ (λ (switches : List ℕ) (target : ℕ). jumpTasks (modelFrom model index) regionAt location switches target ++ jumpsLeft model index regionAt location e (x + 1)) (sym landing-first) (sym landing-target)
+-- the proofs of a joint switch, as a table tells it, come first among those that are left
+pub landing-next :
+    {model index modes ways : List ℕ} {location e : ℕ} {slot : Slot} {landing : Landing} → GoodIndex model index → Stands model index location modes → e ≤ 15 → Listed model index modes e ways slot
+    → (x : ℕ) → x < length (switchesOf (componentsFrom model index) (modesAt (componentsFrom model index) location) e) → landing ≡ landingIn index slot ways x → (regionAt : ℕ → Condition)
+    → jumpsLeft model index regionAt location e x ≡ jumpTasks (modelFrom model index) regionAt location (perComponent index (landing .switches)) (landing .target) ++ jumpsLeft model index regionAt location e (x + 1)
+landing-next {model} {index} {location = location} {e = e} g stands k listed x l q regionAt =
+    jumps-next model index regionAt location e x l
+    ∙ ap₂ (λ (switches : List ℕ) (target : ℕ). jumpTasks (modelFrom model index) regionAt location switches target ++ jumpsLeft model index regionAt location e (x + 1)) (sym (landed-first g stands k listed x l q)) (sym (landed-target g stands k listed x l q))
 
 -- what stands in the table of a location stays, whatever is pushed after it
 pub here-kept : {model index regions before after : List ℕ} {location here : ℕ} → Kept (4 * here + 4) 96 before after → HereIn model index regions location here before → HereIn model index regions location here after
 here-kept {here = here} k h = record { below = h .below; few = h .few; stacked = stacked-kept k (h .stacked); told = lines-kept here (omega arith) k ∙ h .told }
 
--- the first part of what a loop over numbers has still to do
-pub comes-first : (s : List ℕ) (whole : Marked (Unit {0})) (f : ℕ → List Task) (n i p d : ℕ) → i < n → Comes s whole (joinedOn f n i) p d → Comes s whole (f i ++ joinedOn f n (i + 1)) p d
-comes-first s whole f n i p d h c = comes-same s whole p d (joined-first f n i h) c
+-- so all is ready for the next part once one has passed
+pub ready-again :
+    {model index second regions table after : List ℕ} {sums left : List ℤ} {from : Leaving} {r : declared.Marking} (ts : List Task) → Ready model index second regions from table sums
+    → length after ≡ length table → Kept (4 * from .here + 4) 96 table after → Fresh left → r ≡ markedFrom ts second (from .marking) → r .number ≡ 0
+    → Ready model index second regions (record { location = from .location; modes = from .modes; here = from .here; marking = r }) after left
+ready-again ts w same k fresh told z = record { long = omega (arith, same, w .long); here = here-kept k (w .here); underway = part-underway ts (w .underway) told z; fresh = fresh }
 
 -- an event without joint switches has nothing to prove
 pub joint-none : {model index : List ℕ} → GoodIndex model index → (m : Model) (regionAt : ℕ → Condition) (location e : ℕ) → location < locationCount (componentsFrom model index) → eventTotal (componentsFrom model index) e ≡ 0 → jointTasks m regionAt (jointsOf (componentsFrom model index) location e) ≡ []

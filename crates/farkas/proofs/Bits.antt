@@ -46,9 +46,6 @@ fits (negsuc n) h = record { sfits = omega arith }
 pub read-back : (z : ℤ) → natAbs z < 2 ^ 63 → toZ w64 (ofZ w64 z) ≡ z
 read-back z h = toZ-ofZ (fits z h)
 
-pub read-size : (z : ℤ) → natAbs z ≤ 2 ^ 31 → natAbs (toZ w64 (ofZ w64 z)) ≤ 2 ^ 31
-read-size z h = rw (read-back z (omega arith)) h
-
 -- equal bits are equal numbers
 pub same-bits : (x y : ℤ) → SFits w64 x → SFits w64 y → ofZ w64 x ≡ ofZ w64 y → x ≡ y
 same-bits x y f g e = sym (toZ-ofZ f) ∙ ap (toZ w64) e ∙ toZ-ofZ g

@@ -155,6 +155,10 @@ module _ (model index second regions : List ℕ) where
 true-false : true ≡ false → ⊥
 true-false e = let z : _≡_ {A = ℕ} 0 1 = ap (λ (b : Bool). cond b 0 1) e in omega (arith, z)
 
+-- a group by another name has the same tasks, and is as good
+pub same-group : (model second : List ℕ) (n : ℕ) (table : List ℕ) {g h : Group} {ts : List Task} → g ≡ h → tasksOf model second n table h ≡ ts → GoodGroup model second n table h → (tasksOf model second n table g ≡ ts) × GoodGroup model second n table g
+same-group model second n table e t w = (ap (tasksOf model second n table) e ∙ t, subst (GoodGroup model second n table) (sym e) w)
+
 pub empty-good : (model second : List ℕ) (n : ℕ) (table : List ℕ) → n ≤ 8 → Stacked table 0 → GoodGroup model second n table emptyGroup
 unfolding emptyGroup linesIn
 empty-good model second n table few s =

@@ -10,7 +10,7 @@ use lib.Seq.{getD-append-add}
 use Rattle.models.specs.Index.{entry, Kept}
 use Rattle.models.proofs.GoodIndexLaws.{counted-length, counted-at}
 use Rattle.models.proofs.IndexLaws.{entry-same, entry-other, kept-none, kept-set, kept-then, kept-wider}
-use Rattle.hypotheses.specs.Tables.{TableLine, line, segment, endOf, formOf, placeOf, ownerOf, segmentIn, linesIn, Stacked, Pushed}
+use Rattle.hypotheses.specs.Tables.{Onto, TableLine, line, segment, endOf, formOf, placeOf, ownerOf, segmentIn, linesIn, Stacked}
 
 -- a segment's hypotheses
 pub segment-length : (form place owner count : ℕ) → length (segment form place owner count) ≡ count
@@ -101,6 +101,17 @@ stacked-kept {before} {after} {at} w s =
       small = λ g b. rw (w .kept (4 * g) (λ p q. omega arith)) (s .small g b);
     }
 
+-- hypotheses pushed onto the first segments of a table, by at most so many segments: what a push promises, as one
+pub record Pushed (before : List ℕ) (at : ℕ) (lines : List TableLine) (most : ℕ) (after : List ℕ) (r : ℕ) : Type 0 where
+  pub told : linesIn after r ≡ linesIn before at ++ lines
+  pub onto : Onto before at most after r
+
+pub pushed : {a b : List ℕ} {at r n : ℕ} {xs : List TableLine} → (linesIn b r ≡ linesIn a at ++ xs) × Onto a at n b r → Pushed a at xs n b r
+pushed p = record { told = p .0; onto = p .1 }
+
+pub as-promised : {a b : List ℕ} {at r n : ℕ} {xs : List TableLine} → Pushed a at xs n b r → (linesIn b r ≡ linesIn a at ++ xs) × Onto a at n b r
+as-promised p = (p .told, p .onto)
+
 -- one segment more: four numbers are written after those of the earlier segments
 module _ (table : List ℕ) (n form place owner count : ℕ) (long : 4 * n + 7 < length table) (few : n ≤ 22) where
   unfoldable pub after : List ℕ
@@ -185,28 +196,33 @@ module _ (table : List ℕ) (n form place owner count : ℕ) (long : 4 * n + 7 <
   pub pushed-one : count ≤ 16 → Stacked table n → Pushed table n (segment form place owner count) 1 after (n + 1)
   pushed-one short s =
       record {
-        stacked = rw (add-one n) (push-stacked short s);
         told = rw (add-one n) push-lines;
-        kept = kept;
-        least = omega arith;
-        few = omega arith;
+        onto = record { stacked = rw (add-one n) (push-stacked short s); kept = kept; least = omega arith; few = omega arith };
       }
 
 -- nothing pushed, one part after the other, and what a push is named by
 pub pushed-none : (table : List ℕ) (at most : ℕ) → Stacked table at → Pushed table at [] most table at
 pushed-none table at most s =
-    record { stacked = s; told = sym (append-nil (linesIn table at)); kept = kept-none (4 * at + 4) 96 table; least = omega arith; few = omega arith }
+    record {
+      told = sym (append-nil (linesIn table at));
+      onto = record { stacked = s; kept = kept-none (4 * at + 4) 96 table; least = omega arith; few = omega arith };
+    }
 
 pub pushed-then :
     {a b c : List ℕ} {at k r i j n : ℕ} {xs ys : List TableLine} → Pushed a at xs i b k → Pushed b k ys j c r → i + j ≤ n
     → Pushed a at (xs ++ ys) n c r
 pushed-then {a} {b} {c} {at} {k} {r} {i} {j} {n} {xs} {ys} p q h =
+    let f = p .onto in
+    let g = q .onto in
     record {
-      stacked = q .stacked;
       told = q .told ∙ ap (λ (zs : List TableLine). zs ++ ys) (p .told) ∙ append-assoc (linesIn a at) xs ys;
-      kept = kept-then (p .kept) (kept-wider (omega (arith, p .least)) (omega arith) (q .kept));
-      least = omega (arith, p .least, q .least);
-      few = omega (arith, p .few, q .few);
+      onto =
+          record {
+            stacked = g .stacked;
+            kept = kept-then (f .kept) (kept-wider (omega (arith, f .least)) (omega arith) (g .kept));
+            least = omega (arith, f .least, g .least);
+            few = omega (arith, f .few, g .few);
+          };
     }
 
 pub pushed-as : {a b : List ℕ} {at r n : ℕ} {xs ys : List TableLine} → xs ≡ ys → Pushed a at xs n b r → Pushed a at ys n b r
@@ -218,4 +234,32 @@ unfolding linesIn
 lines-start p = p .told
 
 pub pushed-fewer : {a b : List ℕ} {at r i j : ℕ} {xs : List TableLine} → i ≤ j → Pushed a at xs i b r → Pushed a at xs j b r
-pushed-fewer h p = record { stacked = p .stacked; told = p .told; kept = p .kept; least = p .least; few = omega (arith, p .few) }
+pushed-fewer h p =
+    let f = p .onto in
+    record { told = p .told; onto = record { stacked = f .stacked; kept = f .kept; least = f .least; few = omega (arith, f .few) } }
+
+-- A loop that pushes one segment in a turn: what is there, with what is still to push from number k on, is the whole
+pub record Pushing (on : ℕ → List TableLine) (n : ℕ) (before : List ℕ) (at k : ℕ) (after : List ℕ) (r : ℕ) : Type 0 where
+  pub same : length after ≡ length before
+  pub within : k ≤ n
+  pub lines : List TableLine
+  pub pushed : Pushed before at lines k after r
+  pub whole : lines ++ on k ≡ on 0
+
+pub pushing-none : {on : ℕ → List TableLine} {n at : ℕ} {table : List ℕ} → Stacked table at → Pushing on n table at 0 table at
+pushing-none {at = at} {table = table} s = record { same = refl; within = omega arith; lines = []; pushed = pushed-none table at 0 s; whole = refl }
+
+module _ {on : ℕ → List TableLine} {n at k r : ℕ} {before after : List ℕ} (w : Pushing on n before at k after r) where
+  pub pushing-on : {next : List ℕ} {to : ℕ} {xs : List TableLine} → length next ≡ length after → k < n → on k ≡ xs ++ on (k + 1) → Pushed after r xs 1 next to → Pushing on n before at (k + 1) next to
+  pushing-on {xs = xs} same h e p =
+      record {
+        same = same ∙ w .same;
+        within = omega (arith, h);
+        lines = w .lines ++ xs;
+        pushed = pushed-then (w .pushed) p (omega arith);
+        whole = append-assoc (w .lines) xs (on (k + 1)) ∙ ap (λ (ys : List TableLine). w .lines ++ ys) (sym e) ∙ w .whole;
+      }
+
+  pub pushing-end : {most : ℕ} → on k ≡ [] → n ≤ most → Pushed before at (on 0) most after r
+  pushing-end e h =
+      pushed-as (sym (append-nil (w .lines)) ∙ ap (λ (ys : List TableLine). w .lines ++ ys) (sym e) ∙ w .whole) (pushed-fewer (omega (arith, w .within, h)) (w .pushed))

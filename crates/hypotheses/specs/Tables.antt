@@ -57,10 +57,9 @@ pub record Stacked (table : List ℕ) (count : ℕ) : Type 0 where
   pub ascending : (g : ℕ) → 1 ≤ g → g ≤ count → endOf table (g - 1) ≤ endOf table g
   pub small : (g : ℕ) → g ≤ count → endOf table g ≤ 16 * g
 
--- hypotheses pushed onto the first segments of a table, by at most so many segments: those before stay
-pub record Pushed (before : List ℕ) (at : ℕ) (lines : List TableLine) (most : ℕ) (after : List ℕ) (r : ℕ) : Type 0 where
+-- a table onto whose first segments at most so many others were pushed: those before stay
+pub record Onto (before : List ℕ) (at most : ℕ) (after : List ℕ) (r : ℕ) : Type 0 where
   pub stacked : Stacked after r
-  pub told : linesIn after r ≡ linesIn before at ++ lines
   pub kept : Kept (4 * at + 4) 96 before after
   pub least : at ≤ r
   pub few : r ≤ at + most

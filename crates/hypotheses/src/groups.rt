@@ -20,12 +20,13 @@ use papers::standing::all_start;
 use papers::standing::modes_fit;
 use second_sheets::ranges::Regions;
 ghost use mathlib.Core.Path.{_≡_};
+ghost use mathlib.Core.List.{_++_};
 ghost use Prim.Native.Nat.{_+_, _*_, _≤_, _<_};
 ghost use lib.ListN.{length};
 ghost use Rattle.formats.specs.Locations.{locationCount};
 ghost use Rattle.models.specs.Index.{entry, componentsFrom, conditionsIn, variablesIn, GoodIndex, Kept};
 ghost use Rattle.models.specs.Counts.{perComponent, KnownSwitches};
-ghost use Rattle.hypotheses.specs.Tables.{Stacked, Pushed};
+ghost use Rattle.hypotheses.specs.Tables.{Stacked, linesIn, Onto};
 ghost use Rattle.hypotheses.specs.Listing.{hereLines, startLines, flowLines, unsafeLines, landingLines, tasksOf, GoodGroup, emptyGroup, regionGroup, groupTasksFor, jumpTasksFor, HereIn};
 ghost use Rattle.papers.specs.Standing.{KnownModes, Stands};
 ghost use Rattle.papers.specs.Paper.{GoodPaper};
@@ -61,7 +62,8 @@ pub fn push_here(
     requires { ⌜ GoodPaper (now model) (now index) (now second) (now regions) ⌝ }
     requires { ⌜ (location < locationCount (componentsFrom (now model) (now index))) × KnownModes (now index) modes ⌝ }
     requires { ⌜ (96 ≤ length (now table)) × Stacked (now table) 0 ⌝ }
-    ensures { λ r. ⌜ Pushed (now (table .entry)) 0 (hereLines (now (index .entry)) (now (regions .entry)) location (perComponent (now (index .entry)) modes)) 5 (now (table .exit)) r ⌝ }
+    ensures { λ r. ⌜ linesIn (now (table .exit)) r ≡ linesIn (now (table .entry)) 0 ++ (hereLines (now (index .entry)) (now (regions .entry)) location (perComponent (now (index .entry)) modes)) ⌝ }
+    ensures { λ r. ⌜ Onto (now (table .entry)) 0 5 (now (table .exit)) r ⌝ }
 {
     let at = push_kept(
         regions,
@@ -78,7 +80,8 @@ pub fn push_here(
 pub fn start_table(model: &[u8], index: &Index, modes: [u8; 4], table: &mut [u16]) -> usize
     requires { ⌜ GoodIndex (now model) (now index) × KnownModes (now index) modes ⌝ }
     requires { ⌜ (96 ≤ length (now table)) × Stacked (now table) 0 ⌝ }
-    ensures { λ r. ⌜ Pushed (now (table .entry)) 0 (startLines (now (index .entry)) (perComponent (now (index .entry)) modes)) 8 (now (table .exit)) r ⌝ }
+    ensures { λ r. ⌜ linesIn (now (table .exit)) r ≡ linesIn (now (table .entry)) 0 ++ (startLines (now (index .entry)) (perComponent (now (index .entry)) modes)) ⌝ }
+    ensures { λ r. ⌜ Onto (now (table .entry)) 0 8 (now (table .exit)) r ⌝ }
 {
     let at = push_modes(index, modes, INITIAL_AT, INITIAL_FORM, table, 0);
     push_modes(index, modes, INVARIANT_AT, INVARIANT_FORM, table, at)
@@ -97,7 +100,8 @@ pub fn flow_table(
     requires { ⌜ GoodPaper (now model) (now index) (now second) (now regions) ⌝ }
     requires { ⌜ (location < locationCount (componentsFrom (now model) (now index))) × KnownModes (now index) modes ⌝ }
     requires { ⌜ (96 ≤ length (now table)) × Stacked (now table) 0 ⌝ }
-    ensures { λ r. ⌜ Pushed (now (table .entry)) 0 (flowLines (now (index .entry)) (now (regions .entry)) location (perComponent (now (index .entry)) modes)) 14 (now (table .exit)) r ⌝ }
+    ensures { λ r. ⌜ linesIn (now (table .exit)) r ≡ linesIn (now (table .entry)) 0 ++ (flowLines (now (index .entry)) (now (regions .entry)) location (perComponent (now (index .entry)) modes)) ⌝ }
+    ensures { λ r. ⌜ Onto (now (table .entry)) 0 14 (now (table .exit)) r ⌝ }
 {
     let here = push_here(model, index, second, regions, location, modes, table);
     let after = push_modes(index, modes, INVARIANT_AT, NEXT_FORM, table, here);
@@ -119,7 +123,8 @@ pub fn unsafe_table(
     requires { ⌜ GoodPaper (now model) (now index) (now second) (now regions) ⌝ }
     requires { ⌜ (location < locationCount (componentsFrom (now model) (now index))) × KnownModes (now index) modes ⌝ }
     requires { ⌜ (u < conditionsIn (now index)) × ((96 ≤ length (now table)) × Stacked (now table) 0) ⌝ }
-    ensures { λ r. ⌜ Pushed (now (table .entry)) 0 (unsafeLines (now (index .entry)) (now (regions .entry)) location (perComponent (now (index .entry)) modes) u) 6 (now (table .exit)) r ⌝ }
+    ensures { λ r. ⌜ linesIn (now (table .exit)) r ≡ linesIn (now (table .entry)) 0 ++ (unsafeLines (now (index .entry)) (now (regions .entry)) location (perComponent (now (index .entry)) modes) u) ⌝ }
+    ensures { λ r. ⌜ Onto (now (table .entry)) 0 6 (now (table .exit)) r ⌝ }
 {
     let here = push_here(model, index, second, regions, location, modes, table);
     push_kept(
@@ -143,7 +148,8 @@ pub fn jump_table(
 ) -> usize
     requires { ⌜ GoodIndex (now model) (now index) × (KnownModes (now index) targets × KnownSwitches (now index) switches) ⌝ }
     requires { ⌜ (96 ≤ length (now table)) × ((here ≤ 5) × Stacked (now table) here) ⌝ }
-    ensures { λ r. ⌜ Pushed (now (table .entry)) here (landingLines (now (index .entry)) (perComponent (now (index .entry)) targets) switches) 16 (now (table .exit)) r ⌝ }
+    ensures { λ r. ⌜ linesIn (now (table .exit)) r ≡ linesIn (now (table .entry)) here ++ (landingLines (now (index .entry)) (perComponent (now (index .entry)) targets) switches) ⌝ }
+    ensures { λ r. ⌜ Onto (now (table .entry)) here 16 (now (table .exit)) r ⌝ }
 {
     let after = push_modes(index, targets, INVARIANT_AT, NEXT_FORM, table, here);
     let moved = push_switches(index, switches, table, after);

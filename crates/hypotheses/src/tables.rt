@@ -8,17 +8,16 @@ use models::layout::VARIABLES_AT;
 use papers::standing::mode_place;
 use papers::standing::switch_place;
 ghost use mathlib.Core.Path.{_≡_};
+ghost use mathlib.Core.List.{_++_};
 ghost use Prim.Native.Nat.{ℕ, _+_, _*_, _≤_, _<_};
 ghost use lib.ListN.{length};
 ghost use Rattle.models.specs.Index.{entry, componentsIn, variablesIn, ownerPlace};
 ghost use Rattle.models.specs.Counts.{perComponent};
-ghost use Rattle.hypotheses.specs.Tables.{segment, endOf, Stacked, Pushed};
+ghost use Rattle.hypotheses.specs.Tables.{segment, endOf, Stacked, linesIn, Onto};
 ghost use Rattle.hypotheses.specs.Listing.{keptLines, modeLines, switchLine, switchLines, stayingLine, stayingLines, FewRows, FewJumps, FewJump};
 
 // A table has room for 23 segments, after one that is empty.
 pub const TABLE_LENGTH: usize = 96;
-
-pub type Table = [u16; TABLE_LENGTH];
 
 // The form of the rows of a jump, and of the rows of a staying variable.
 const JUMP_FORM: u16 = 7;
@@ -29,7 +28,8 @@ const STAYING_FORM: u16 = 8;
 pub fn push(table: &mut [u16], at: usize, form: u16, place: u16, owner: u16, count: u16) -> usize
     requires { ⌜ (96 ≤ length (now table)) × (at ≤ 22) ⌝ }
     requires { ⌜ Stacked (now table) at × (count ≤ 16) ⌝ }
-    ensures { λ r. ⌜ Pushed (now (table .entry)) at (segment form place owner count) 1 (now (table .exit)) r ⌝ }
+    ensures { λ r. ⌜ linesIn (now (table .exit)) r ≡ linesIn (now (table .entry)) at ++ (segment form place owner count) ⌝ }
+    ensures { λ r. ⌜ Onto (now (table .entry)) at 1 (now (table .exit)) r ⌝ }
 {
     let first = table[4 * at];
     table[4 * at + 4] = first + count;
@@ -58,7 +58,8 @@ pub fn push_kept(
 ) -> usize
     requires { ⌜ (kept + 1 < length (now index)) × (entry (now index) (kept + 1) ≤ 16) ⌝ }
     requires { ⌜ (96 ≤ length (now table)) × ((at ≤ 22) × Stacked (now table) at) ⌝ }
-    ensures { λ r. ⌜ Pushed (now (table .entry)) at (keptLines form owner (now (index .entry)) kept) 1 (now (table .exit)) r ⌝ }
+    ensures { λ r. ⌜ linesIn (now (table .exit)) r ≡ linesIn (now (table .entry)) at ++ (keptLines form owner (now (index .entry)) kept) ⌝ }
+    ensures { λ r. ⌜ Onto (now (table .entry)) at 1 (now (table .exit)) r ⌝ }
 {
     push(table, at, form, index[kept], owner, index[kept + COUNT_AT])
 }
@@ -74,7 +75,8 @@ pub fn push_modes(
 ) -> usize
     requires { ⌜ FewRows (now index) modes offset ⌝ }
     requires { ⌜ (96 ≤ length (now table)) × ((at ≤ 19) × Stacked (now table) at) ⌝ }
-    ensures { λ r. ⌜ Pushed (now (table .entry)) at (modeLines form offset (now (index .entry)) 0 (perComponent (now (index .entry)) modes)) 4 (now (table .exit)) r ⌝ }
+    ensures { λ r. ⌜ linesIn (now (table .exit)) r ≡ linesIn (now (table .entry)) at ++ (modeLines form offset (now (index .entry)) 0 (perComponent (now (index .entry)) modes)) ⌝ }
+    ensures { λ r. ⌜ Onto (now (table .entry)) at 4 (now (table .exit)) r ⌝ }
 {
     let components = index[COMPONENTS_AT] as usize;
     let mut to = at;
@@ -98,7 +100,8 @@ pub fn push_modes(
 fn push_switch(index: &Index, k: usize, i: u8, table: &mut [u16], at: usize) -> usize
     requires { ⌜ (k < 4) × FewJump (now index) k i ⌝ }
     requires { ⌜ (96 ≤ length (now table)) × ((at ≤ 22) × Stacked (now table) at) ⌝ }
-    ensures { λ r. ⌜ Pushed (now (table .entry)) at (switchLine (now (index .entry)) k i) 1 (now (table .exit)) r ⌝ }
+    ensures { λ r. ⌜ linesIn (now (table .exit)) r ≡ linesIn (now (table .entry)) at ++ (switchLine (now (index .entry)) k i) ⌝ }
+    ensures { λ r. ⌜ Onto (now (table .entry)) at 1 (now (table .exit)) r ⌝ }
 {
     if i == 255 {
         return at;
@@ -110,7 +113,8 @@ fn push_switch(index: &Index, k: usize, i: u8, table: &mut [u16], at: usize) -> 
 pub fn push_switches(index: &Index, switches: [u8; 4], table: &mut [u16], at: usize) -> usize
     requires { ⌜ (componentsIn (now index) ≤ 4) × FewJumps (now index) switches ⌝ }
     requires { ⌜ (96 ≤ length (now table)) × ((at ≤ 19) × Stacked (now table) at) ⌝ }
-    ensures { λ r. ⌜ Pushed (now (table .entry)) at (switchLines (now (index .entry)) 0 (perComponent (now (index .entry)) switches)) 4 (now (table .exit)) r ⌝ }
+    ensures { λ r. ⌜ linesIn (now (table .exit)) r ≡ linesIn (now (table .entry)) at ++ (switchLines (now (index .entry)) 0 (perComponent (now (index .entry)) switches)) ⌝ }
+    ensures { λ r. ⌜ Onto (now (table .entry)) at 4 (now (table .exit)) r ⌝ }
 {
     let components = index[COMPONENTS_AT] as usize;
     let mut to = at;
@@ -126,7 +130,8 @@ pub fn push_switches(index: &Index, switches: [u8; 4], table: &mut [u16], at: us
 fn push_variable(index: &Index, switches: [u8; 4], v: usize, table: &mut [u16], at: usize) -> usize
     requires { ⌜ (v < 8) × (entry (now index) (ownerPlace v) < 4) ⌝ }
     requires { ⌜ (96 ≤ length (now table)) × ((at ≤ 22) × Stacked (now table) at) ⌝ }
-    ensures { λ r. ⌜ Pushed (now (table .entry)) at (stayingLine (now (index .entry)) switches v) 1 (now (table .exit)) r ⌝ }
+    ensures { λ r. ⌜ linesIn (now (table .exit)) r ≡ linesIn (now (table .entry)) at ++ (stayingLine (now (index .entry)) switches v) ⌝ }
+    ensures { λ r. ⌜ Onto (now (table .entry)) at 1 (now (table .exit)) r ⌝ }
 {
     let owner = index[FIRST_OWNER + v] as usize;
     if switches[owner] != 255 {
@@ -140,7 +145,8 @@ fn push_variable(index: &Index, switches: [u8; 4], v: usize, table: &mut [u16], 
 pub fn push_staying(index: &Index, switches: [u8; 4], table: &mut [u16], at: usize) -> usize
     requires { ⌜ (variablesIn (now index) ≤ 8) × ((v : ℕ) → v < variablesIn (now index) → entry (now index) (ownerPlace v) < 4) ⌝ }
     requires { ⌜ (96 ≤ length (now table)) × ((at ≤ 15) × Stacked (now table) at) ⌝ }
-    ensures { λ r. ⌜ Pushed (now (table .entry)) at (stayingLines (now (index .entry)) switches) 8 (now (table .exit)) r ⌝ }
+    ensures { λ r. ⌜ linesIn (now (table .exit)) r ≡ linesIn (now (table .entry)) at ++ (stayingLines (now (index .entry)) switches) ⌝ }
+    ensures { λ r. ⌜ Onto (now (table .entry)) at 8 (now (table .exit)) r ⌝ }
 {
     let n = index[VARIABLES_AT] as usize;
     let mut to = at;

@@ -4,3 +4,4 @@ pub mod OpenLaws
 pub mod JoinedLaws
 pub mod RegionLaws
 pub mod FoundLaws
+pub mod LandedLaws

@@ -376,37 +376,46 @@ module _ (model index : List ℕ) (regionAt : ℕ → Condition) (location : ℕ
   unfolding modesIn modelFrom
   start-there modes stands = ap (λ (ms : List ℕ). every (λ mode. eqb (mode .start) 1) (present (componentsFrom model index) ms)) (stands .here)
 
--- A search among joint switches: what has the obligation among the first has it in all
-module _ (model index : List ℕ) (regionAt : ℕ → Condition) {all : List JointSwitch} {first o number left : ℕ} (xs ys : List JointSwitch) {r : Sought} (p : Passing (modelFrom model index) regionAt all (xs ++ ys) first o number left) (w : SoughtIn model index regionAt xs number left r) where
-  pub in-location : (location g line : ℕ) → r ≡ sought.AtLocation location g line → SoughtIn model index regionAt all first o (sought.AtLocation location g line)
-  unfolding SoughtIn soughtOne
-  in-location location g line e =
-      let v = subst (SoughtIn model index regionAt xs number left) e w in
-      (v .0, passing-found (modelFrom model index) regionAt xs ys p (v .1))
+-- A turn of a search among joint switches: what has the obligation among the first has it in all
+module _ (model index : List ℕ) (f : ℕ → List JointSwitch) (n i : ℕ) {regionAt : ℕ → Condition} {all : List JointSwitch} {first o number left : ℕ} (h : i < n) (p : Passing (modelFrom model index) regionAt all (joinedOn f n i) first o number left) where
+  abbrev parts : Passing (modelFrom model index) regionAt all (f i ++ joinedOn f n (i + 1)) first o number left
+  parts = passing-split (modelFrom model index) regionAt f n i h p
 
-  pub in-joint : (j location e x line : ℕ) → r ≡ sought.AtJoint j location e x line → SoughtIn model index regionAt all first o (sought.AtJoint j location e x line)
-  unfolding SoughtIn soughtOne
-  in-joint j location e x line q =
-      let v = subst (SoughtIn model index regionAt xs number left) q w in
-      (v .0, (passing-found (modelFrom model index) regionAt xs ys p (v .1 .0), passing-number (modelFrom model index) regionAt xs ys p (v .1 .1)))
+  pub few-here : first + length all ≤ 4096 → number + length (f i) ≤ 4096
+  few-here = passing-few (modelFrom model index) regionAt (f i) (joinedOn f n (i + 1)) parts
 
-  pub in-rest : (next right : ℕ) → r ≡ sought.Beyond next right → Passing (modelFrom model index) regionAt all ys first o next right
-  unfolding SoughtIn
-  in-rest next right e =
-      let v = subst (SoughtIn model index regionAt xs number left) e w in
-      passing-on (modelFrom model index) regionAt xs ys p v
+  module _ {r : Sought} (w : SoughtIn model index regionAt (f i) number left r) where
+    pub in-location : (location g line : ℕ) → r ≡ sought.AtLocation location g line → SoughtIn model index regionAt all first o (sought.AtLocation location g line)
+    unfolding SoughtIn soughtOne
+    in-location location g line e =
+        let v = subst (SoughtIn model index regionAt (f i) number left) e w in
+        (v .0, passing-found (modelFrom model index) regionAt (f i) (joinedOn f n (i + 1)) parts (v .1))
+
+    pub in-joint : (j location e x line : ℕ) → r ≡ sought.AtJoint j location e x line → SoughtIn model index regionAt all first o (sought.AtJoint j location e x line)
+    unfolding SoughtIn soughtOne
+    in-joint j location e x line q =
+        let v = subst (SoughtIn model index regionAt (f i) number left) q w in
+        (v .0, (passing-found (modelFrom model index) regionAt (f i) (joinedOn f n (i + 1)) parts (v .1 .0), passing-number (modelFrom model index) regionAt (f i) (joinedOn f n (i + 1)) parts (v .1 .1)))
+
+    pub in-rest : (next right : ℕ) → r ≡ sought.Beyond next right → Passing (modelFrom model index) regionAt all (joinedOn f n (i + 1)) first o next right
+    unfolding SoughtIn
+    in-rest next right e =
+        let v = subst (SoughtIn model index regionAt (f i) number left) e w in
+        passing-on (modelFrom model index) regionAt (f i) (joinedOn f n (i + 1)) parts v
 
 -- what a search that has ended tells
-module _ (model index : List ℕ) (regionAt : ℕ → Condition) (all : List JointSwitch) (first o : ℕ) where
-  pub sought-beyond : (number left : ℕ) → Passing (modelFrom model index) regionAt all [] first o number left → SoughtIn model index regionAt all first o (sought.Beyond number left)
-  unfolding SoughtIn
-  sought-beyond number left p = p
+sought-beyond : (model index : List ℕ) {regionAt : ℕ → Condition} {all : List JointSwitch} {first o number left : ℕ} → Passing (modelFrom model index) regionAt all [] first o number left → SoughtIn model index regionAt all first o (sought.Beyond number left)
+unfolding SoughtIn
+sought-beyond model index p = p
 
-  pub sought-one : (r : Sought) → SoughtIn model index regionAt all first o r → soughtOne model index regionAt r ≡ oneAt (jumpsObligations (modelFrom model index) regionAt first all) o
-  unfolding SoughtIn soughtOne jumpsObligations oneAt
-  sought-one (sought.AtLocation location g line) w = w .1
-  sought-one (sought.AtJoint number location e x line) w = w .1 .0
-  sought-one (sought.Beyond number left) w = w .leads
+pub in-none : (model index : List ℕ) (f : ℕ → List JointSwitch) (n i : ℕ) {regionAt : ℕ → Condition} {all : List JointSwitch} {first o number left : ℕ} → n ≤ i → Passing (modelFrom model index) regionAt all (joinedOn f n i) first o number left → SoughtIn model index regionAt all first o (sought.Beyond number left)
+in-none model index f n i {regionAt} h p = sought-beyond model index (passing-end (modelFrom model index) regionAt f n i h p)
+
+pub sought-one : (model index : List ℕ) (regionAt : ℕ → Condition) (all : List JointSwitch) (first o : ℕ) (r : Sought) → SoughtIn model index regionAt all first o r → soughtOne model index regionAt r ≡ oneAt (jumpsObligations (modelFrom model index) regionAt first all) o
+unfolding SoughtIn soughtOne jumpsObligations oneAt
+sought-one model index regionAt all first o (sought.AtLocation location g line) w = w .1
+sought-one model index regionAt all first o (sought.AtJoint number location e x line) w = w .1 .0
+sought-one model index regionAt all first o (sought.Beyond number left) w = w .leads
 
 numbered-at : (all : List JointSwitch) (number : ℕ) (j : JointSwitch) → NumberedIn all 0 number j → getD all number noJoint ≡ j
 numbered-at all number j w =
@@ -420,57 +429,64 @@ sought-known model index regionAt o (sought.AtJoint number location e x line) w 
 sought-known model index regionAt o (sought.Beyond number left) w = tt
 
 -- the joint switches of one event, one by one
-module _ (model index : List ℕ) (regionAt : ℕ → Condition) (location e first o : ℕ) where
-  abbrev pub eachOn : ℕ → List JointSwitch
-  eachOn = joinedOn (λ x. jointHere model index location e x ∷ []) (length (switchesOf (componentsFrom model index) (modesAt (componentsFrom model index) location) e))
+abbrev pub eventSize : List ℕ → List ℕ → ℕ → ℕ → ℕ
+eventSize model index location e = length (switchesOf (componentsFrom model index) (modesAt (componentsFrom model index) location) e)
 
+abbrev pub eachOn : List ℕ → List ℕ → ℕ → ℕ → ℕ → List JointSwitch
+eachOn model index location e = joinedOn (λ x. jointHere model index location e x ∷ []) (eventSize model index location e)
+
+module _ (model index : List ℕ) (regionAt : ℕ → Condition) (location e first o : ℕ) where
+  pub each-starts : Passing (modelFrom model index) regionAt (jointsOf (componentsFrom model index) location e) (eachOn model index location e 0) first o (first + 0) o
+  each-starts =
+      let m = modelFrom model index in
+      let event = jointsOf (componentsFrom model index) location e in
+      subst (λ (k : ℕ). Passing m regionAt event (eachOn model index location e 0) first o k o) (none first)
+      (subst (λ (xs : List JointSwitch). Passing m regionAt event xs first o first o) (sym (event-each model index location e)) (passing-starts m regionAt event first o))
+    where
+      none : (n : ℕ) → n ≡ n + 0
+      none n = omega arith
+
+  -- an event that has none
+  pub none-there : jointsOf (componentsFrom model index) location e ≡ [] → SoughtIn model index regionAt (jointsOf (componentsFrom model index) location e) first o (sought.Beyond first o)
+  none-there h =
+      let m = modelFrom model index in
+      let event = jointsOf (componentsFrom model index) location e in
+      sought-beyond model index (subst (λ (xs : List JointSwitch). Passing m regionAt event xs first o first o) h (passing-starts m regionAt event first o))
+
+module _ (model index : List ℕ) (location e at : ℕ) where
   abbrev event : List JointSwitch
   event = jointsOf (componentsFrom model index) location e
 
   abbrev m : Model
   m = modelFrom model index
 
-  pub each-starts : Passing m regionAt event (eachOn 0) first o (first + 0) o
-  each-starts =
-      subst (λ (k : ℕ). Passing m regionAt event (eachOn 0) first o k o) (none first)
-      (subst (λ (xs : List JointSwitch). Passing m regionAt event xs first o first o) (sym (event-each model index location e)) (passing-starts m regionAt event first o))
-    where
-      none : (n : ℕ) → n ≡ n + 0
-      none n = omega arith
+  abbrev here : JointSwitch
+  here = jointHere model index location e at
 
-  module _ (at left goals : ℕ) (h : at < length (switchesOf (componentsFrom model index) (modesAt (componentsFrom model index) location) e)) (q : goals ≡ length (regionAt (jointHere model index location e at .target))) (p : Passing m regionAt event (eachOn at) first o (first + at) left) where
-    abbrev here : JointSwitch
-    here = jointHere model index location e at
-
-    abbrev whole : Passing m regionAt event ((here ∷ []) ++ eachOn (at + 1)) first o (first + at) left
-    whole = passing-split m regionAt (λ x. jointHere model index location e x ∷ []) (length (switchesOf (componentsFrom model index) (modesAt (componentsFrom model index) location) e)) at h p
-
-    passed : goals ≤ left → Passing m regionAt (here ∷ []) [] (first + at) left (first + (at + 1)) (left - goals)
-    passed l =
-        let rows : length (targetRows regionAt (here ∷ [])) ≡ goals = joint-lines m regionAt location here ∙ sym q in
-        record {
-          passed = here ∷ [];
-          parted = refl;
-          leads = none-one m regionAt (first + (at + 1)) (left - goals) ∙ sym (one-gone (jumpsObligations m regionAt (first + at) (here ∷ [])) left (omega (arith, l, rows, jumps-length m regionAt (first + at) (here ∷ []))));
-          counted = omega arith;
-          rows = omega (arith, l, rows, none-rows m regionAt);
-        }
-
-    pub each-on : goals ≤ left → Passing m regionAt event (eachOn (at + 1)) first o (first + (at + 1)) (left - goals)
-    each-on l = passing-on m regionAt (here ∷ []) (eachOn (at + 1)) whole (passed l)
+  module _ {regionAt : ℕ → Condition} {first o left : ℕ} (h : at < eventSize model index location e) (p : Passing m regionAt event (eachOn model index location e at) first o (first + at) left) where
+    abbrev whole : Passing m regionAt event ((here ∷ []) ++ eachOn model index location e (at + 1)) first o (first + at) left
+    whole = passing-split m regionAt (λ x. jointHere model index location e x ∷ []) (eventSize model index location e) at h p
 
     pub each-few : first + length event ≤ 4096 → first + at < 4096
-    each-few l = omega (arith, passing-few m regionAt (here ∷ []) (eachOn (at + 1)) whole l)
+    each-few l = omega (arith, passing-few m regionAt (here ∷ []) (eachOn model index location e (at + 1)) whole l)
 
-    pub each-found : location < locationCount (componentsFrom model index) → e ≤ 15 → left < goals → SoughtIn model index regionAt event first o (sought.AtJoint (first + at) location e at left)
-    unfolding SoughtIn soughtOne KnownSought
-    each-found a b l =
-        let alone : NumberedIn (here ∷ []) (first + at) (first + at) here = record { before = []; after = []; parted = refl; counted = omega arith } in
-        ((a, (b, h)), (passing-found m regionAt (here ∷ []) (eachOn (at + 1)) whole (sym (joint-one m regionAt location (first + at) here left (omega (arith, l, q)))), passing-number m regionAt (here ∷ []) (eachOn (at + 1)) whole alone))
+    module _ {goals : ℕ} (q : goals ≡ length (regionAt (here .target))) where
+      passed : goals ≤ left → Passing m regionAt (here ∷ []) [] (first + at) left (first + (at + 1)) (left - goals)
+      passed l =
+          let rows : length (targetRows regionAt (here ∷ [])) ≡ goals = joint-lines m regionAt location here ∙ sym q in
+          record {
+            passed = here ∷ [];
+            parted = refl;
+            leads = none-one m regionAt (first + (at + 1)) (left - goals) ∙ sym (one-gone (jumpsObligations m regionAt (first + at) (here ∷ [])) left (omega (arith, l, rows, jumps-length m regionAt (first + at) (here ∷ []))));
+            counted = omega arith;
+            rows = omega (arith, l, rows, none-rows m regionAt);
+          }
 
-  pub each-end : (at left : ℕ) → length (switchesOf (componentsFrom model index) (modesAt (componentsFrom model index) location) e) ≤ at → Passing m regionAt event (eachOn at) first o (first + at) left → SoughtIn model index regionAt event first o (sought.Beyond (first + at) left)
-  each-end at left h p = sought-beyond model index regionAt event first o (first + at) left (passing-end m regionAt (λ x. jointHere model index location e x ∷ []) (length (switchesOf (componentsFrom model index) (modesAt (componentsFrom model index) location) e)) at h p)
+      pub each-on : goals ≤ left → Passing m regionAt event (eachOn model index location e (at + 1)) first o (first + (at + 1)) (left - goals)
+      each-on l = passing-on m regionAt (here ∷ []) (eachOn model index location e (at + 1)) whole (passed l)
 
-  -- an event that has none
-  pub none-there : event ≡ [] → SoughtIn model index regionAt event first o (sought.Beyond first o)
-  none-there h = sought-beyond model index regionAt event first o first o (subst (λ (xs : List JointSwitch). Passing m regionAt event xs first o first o) h (passing-starts m regionAt event first o))
+      pub each-found : location < locationCount (componentsFrom model index) → e ≤ 15 → left < goals → SoughtIn model index regionAt event first o (sought.AtJoint (first + at) location e at left)
+      unfolding SoughtIn soughtOne KnownSought
+      each-found a b l =
+          let alone : NumberedIn (here ∷ []) (first + at) (first + at) here = record { before = []; after = []; parted = refl; counted = omega arith } in
+          ((a, (b, h)), (passing-found m regionAt (here ∷ []) (eachOn model index location e (at + 1)) whole (sym (joint-one m regionAt location (first + at) here left (omega (arith, l, q)))), passing-number m regionAt (here ∷ []) (eachOn model index location e (at + 1)) whole alone))

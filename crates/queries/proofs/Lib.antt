@@ -1,4 +1,3 @@
 pub mod FindLaws
-pub mod LandedLaws
 pub mod HeldLaws
 pub mod ShowLaws

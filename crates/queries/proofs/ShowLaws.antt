@@ -311,11 +311,3 @@ part-size s place size = ap (λ (n : ℕ). take n (drop place s)) (same place si
   where
     same : (place size : ℕ) → place + size - place ≡ size
     same place size = omega arith
-
--- the part that is shown has the row's length
-pub part-sized : (model second : List ℕ) (r : RowFound) (part : List ℕ) → PartIs model second r part → length part ≡ rowLength r
-unfolding PartIs rowLength
-part-sized model second (row.InModel place size) part w = w .1 .1
-part-sized model second (row.InSecond place size) part w = w .1 .1
-part-sized model second row.Nowhere part w = ap (λ (l : List ℕ). length l) w
-part-sized model second (row.Refused number sheet place) part w = ap (λ (l : List ℕ). length l) w

@@ -1,11 +1,11 @@
--- Every hypothesis has a role: the roles of an obligation are as many as its hypotheses. And the part that show row gives has the size that is
--- told of the hypothesis. Assumes nothing.
+-- Every hypothesis has a role: the roles of an obligation are as many as its hypotheses. The part that show row gives has the size that is
+-- told of the hypothesis, and where show row refuses no role is told. Assumes nothing.
 use mathlib.Core.Path.{_≡_, refl, sym, ap, ap₂, _∙_, subst}
-use mathlib.Core.Bool.{Bool, true, false}
+use mathlib.Core.Bool.{Bool, true, false, _&&_}
 use mathlib.Core.List.{List, [], _∷_, _++_, map, append-assoc}
 use Prim.Native.Nat.{ℕ, suc, _+_, _≤_}
 use native.Mathlib.Omega.{arith}
-use lib.Dec.{eqb}
+use lib.Dec.{eqb, ltb}
 use lib.ListN.{length, getD, take, drop, length-map, length-append, length-drop}
 use lib.Seq.{length-take-le}
 use Rattle.farkas.specs.Lists.{every, All, none, more}
@@ -15,12 +15,14 @@ use Rattle.formats.specs.Rows.{Condition}
 use Rattle.formats.specs.Model.{Mode, Switch, Component, Unsafe, Model}
 use Rattle.formats.specs.Locations.{modesAt}
 use Rattle.formats.specs.Joint.{stays, switchOf, JointSwitch, joints, joinAll}
-use Rattle.formats.specs.ModelSheet.{Limits}
+use Rattle.formats.specs.ModelSheet.{Limits, readModel}
+use Rattle.formats.specs.Certificate.{readRegions}
+use Rattle.formats.specs.Reading.{Got, got, refused, _>>_, header}
 use Rattle.formats.proofs.Members.{all-members}
 use Rattle.rules.specs.Runs.{modesIn, movers, stayingVariables, modesFit}
 use Rattle.rules.specs.Obligations.{Hypothesis, nowhere, standing, onX, onNext, onRates, stayingRows, modeRows, startHypotheses, flowHypotheses, unsafeHypotheses, jumpHypotheses, Kind, atStart, afterFlow, clearOfUnsafe, afterJump, Obligation, perRow, startObligations, flowObligations, unsafeObligations, locationObligations, jumpObligations, jumpsObligations, obligationsOver, obligations, regionOf}
-use Rattle.rules.specs.Beside.{Found, found, unfound, findHypothesis, sheetOf, partOf, showPart}
-use Rattle.rules.specs.Roles.{Role, owned, rowRoles, modeRoles, moverRoles, stayingRole, startRoles, flowRoles, unsafeRoles, jumpRoles, noUnsafe, noJoint, jointRoles, kindRoles, rolesOf, foundSize, hypothesisSize}
+use Rattle.rules.specs.Beside.{Found, found, unfound, noObligation, findIn, findAfter, findHypothesis, sheetOf, partOf, showPart}
+use Rattle.rules.specs.Roles.{Role, owned, noRole, rowRoles, modeRoles, moverRoles, stayingRole, startRoles, flowRoles, unsafeRoles, jumpRoles, noUnsafe, noJoint, jointRoles, kindRoles, rolesOf, roleIn, roleAfter, hypothesisRole, foundSize, hypothesisSize}
 use Rattle.rules.proofs.Hypotheses.{join-all}
 use Rattle.rules.proofs.MarkedRanges.{found-within}
 
@@ -195,3 +197,29 @@ found-part limits model second o h (unfound number sheet place) e = refl
 pub shown-size : (limits : Limits) (model second : List ℕ) (o h : ℕ) → length (showPart limits model second o h) ≡ hypothesisSize limits model second o h
 unfolding showPart hypothesisSize
 shown-size limits model second o h = found-part limits model second o h (findHypothesis limits model second o h) refl
+
+-- Where show row refuses, the role and the owner are 0
+abbrev isFound : Found → ℕ
+isFound (found h) = 1
+isFound (unfound number sheet place) = 0
+
+in-refused : (roles : Obligation → List Role) (all : List Obligation) (o h number sheet place : ℕ) → findIn all o h ≡ unfound number sheet place → roleIn roles all o h ≡ noRole
+unfolding findIn roleIn
+in-refused roles all o h number sheet place e = go (ltb o (length all) && ltb h (length (getD all o noObligation .hypotheses))) e
+  where
+    go : (b : Bool) → (elim b as (λ x. Found) [ true ↦ found (getD (getD all o noObligation .hypotheses) h (nowhere zeroRow)) | false ↦ unfound 5 2 0 ]) ≡ unfound number sheet place → (elim b as (λ x. Role) [ true ↦ getD (roles (getD all o noObligation)) h noRole | false ↦ noRole ]) ≡ noRole
+    go true k = let z : _≡_ {A = ℕ} 1 0 = ap isFound k in absurd (omega (arith, z))
+    go false k = refl
+
+after-refused : (m : Model) (o h number sheet place : ℕ) (g : Got (List Condition)) → findAfter m o h g ≡ unfound number sheet place → roleAfter m o h g ≡ noRole
+unfolding findAfter roleAfter
+after-refused m o h number sheet place (refused n at) e = refl
+after-refused m o h number sheet place (got regions next) e = in-refused (rolesOf m (regionOf regions)) (obligations m regions) o h number sheet place e
+
+pub refused-role : (limits : Limits) (model second : List ℕ) (o h number sheet place : ℕ) → findHypothesis limits model second o h ≡ unfound number sheet place → hypothesisRole limits model second o h ≡ noRole
+unfolding findHypothesis hypothesisRole
+refused-role limits model second o h number sheet place e = go (readModel limits model) e
+  where
+    go : (g : Got Model) → (elim g as (λ x. Found) [ got m next ↦ findAfter m o h ((header 2 >> readRegions m) second 0) | refused n at ↦ unfound n 0 at ]) ≡ unfound number sheet place → (elim g as (λ x. Role) [ got m next ↦ roleAfter m o h ((header 2 >> readRegions m) second 0) | refused n at ↦ noRole ]) ≡ noRole
+    go (got m next) k = after-refused m o h number sheet place ((header 2 >> readRegions m) second 0) k
+    go (refused n at) k = refl

@@ -1,8 +1,11 @@
 -- The regions, then the rest: once they are read the paper is good. Assumes nothing.
 use mathlib.Core.Path.{_≡_, sym, _∙_}
+use mathlib.Core.List.{List}
+use Prim.Native.Nat.{ℕ}
 use native.Mathlib.Omega.{arith}
 use borrow.Author.Needs.{needs}
 use denote.Ref.{now}
+use Rattle.formats.specs.Rows.{Condition}
 use Rattle.formats.specs.Reading.{got, refused}
 use Rattle.models.specs.Index.{entry, modelFrom}
 use Rattle.formats.specs.Certificate.{readRegions}
@@ -32,21 +35,37 @@ read-regions-requires c κs =
 enum-known-number : tie.Need-enum-known-number
 enum-known-number c = search needs
 
-on-second-requires : tie.Need-on-second-requires
+-- a refusal of the regions is that of the second sheet
+refusal : (c : tie.After-number) → readRegions (modelFrom (now (c .before .before .before .before .before .before .before .before .args .model)) (now (c .before .before .before .before .before .before .before .before .args .index))) (now (c .before .before .before .before .before .before .before .before .args .second)) 4 ≡ refused (c .number .given .0 .0) (c .number .given .0 .1 .0)
 unfolding entry
+refusal c =
+    let a = c .before .before .before .before .before .before .before .before .args in
+    let count = c .before .before .before .before .before .locations-of in
+    let read = c .before .before .read-regions in
+    told-refused (regionsFrom (now (a .second)) (entry (now (a .index)) 0) (read .last .1 .1 .1 .1 .0) (count .result)) _ (read .ensures .0 ∙ regions-for (now (a .model)) (now (a .index)) (now (a .second)) (count .result) 4 (count .ensures)) (c .number .given .1)
+
+-- regions that are read are those of the second sheet
+module _ (c : tie.After-place) where
+  abbrev s : tie.Start
+  s = c .before .before .before .before .before .before .before .before
+
+  abbrev locations : ℕ
+  locations = c .before .before .before .before .before .locations-of .result
+
+  abbrev regions : List Condition
+  regions = regionsFrom (now (s .args .second)) (entry (now (s .args .index)) 0) (c .before .before .read-regions .last .1 .1 .1 .1 .0) locations
+
+  told : regionsFor locations (entry (now (s .args .index)) 0) (now (s .args .second)) 4 ≡ got regions (c .place .given .0 .0)
+  unfolding entry
+  told = told-at regions (regionsFor locations (entry (now (s .args .index)) 0) (now (s .args .second)) 4) (c .before .before .read-regions .ensures .0) (c .place .given .1)
+
+  reads : readRegions (modelFrom (now (s .args .model)) (now (s .args .index))) (now (s .args .second)) 4 ≡ got regions (c .place .given .0 .0)
+  reads = sym (regions-for (now (s .args .model)) (now (s .args .index)) (now (s .args .second)) locations 4 (c .before .before .before .before .before .locations-of .ensures)) ∙ told
+
+on-second-requires : tie.Need-on-second-requires
 on-second-requires c κs =
-    let a = c .before .before .before .before .before .before .before .before .before .args in
     let p = c .before .before .before .before .before .before .before .before .before .pre in
-    let model = now (a .model) in
-    let index = now (a .index) in
-    let s = now (a .second) in
-    let m = modelFrom model index in
-    let count = c .before .before .before .before .before .before .locations-of in
-    let read = c .before .before .before .read-regions in
-    let regions = regionsFrom s (entry index 0) (read .last .1 .1 .1 .1 .0) (count .result) in
-    let told = c .before .number .given in
-    let e : readRegions m s 4 ≡ refused (told .0 .0) (told .0 .1 .0) = told-refused regions (readRegions m s 4) (read .ensures .0 ∙ regions-for model index s (count .result) 4 (count .ensures)) (told .1) in
-    omega (arith, regions-refused-at m s 4 (told .0 .0) (told .0 .1 .0) (p .1 .0) e, p .1 .1)
+    omega (arith, regions-refused-at _ _ 4 _ _ (p .1 .0) (refusal (c .before)), p .1 .1)
 
 enum-known-place : tie.Need-enum-known-place
 enum-known-place c = search needs
@@ -54,52 +73,16 @@ enum-known-place c = search needs
 mark-rest-requires : tie.Need-mark-rest-requires
 unfolding entry
 mark-rest-requires c κs =
-    let a = c .before .before .before .before .before .before .before .before .before .before .args in
     let p = c .before .before .before .before .before .before .before .before .before .before .pre in
-    let model = now (a .model) in
-    let index = now (a .index) in
-    let s = now (a .second) in
-    let m = modelFrom model index in
     let count = c .before .before .before .before .before .before .before .locations-of in
-    let read = c .before .before .before .before .read-regions in
-    let regions = regionsFrom s (entry index 0) (read .last .1 .1 .1 .1 .0) (count .result) in
-    let told = c .before .before .place .given in
-    let e : regionsFor (count .result) (entry index 0) s 4 ≡ got regions (told .0 .0) = told-at regions (regionsFor (count .result) (entry index 0) s 4) (read .ensures .0) (told .1) in
-    let reads : readRegions m s 4 ≡ got regions (told .0 .0) = sym (regions-for model index s (count .result) 4 (count .ensures)) ∙ e in
-    (good-paper (count .result) 4 (told .0 .0) (p .0) (p .1 .1) (count .ensures) e, ((count .ensures, p .0 .joined), regions-end-at m s 4 regions (told .0 .0) (p .1 .0) reads))
+    (good-paper (count .result) 4 _ (p .0) (p .1 .1) (count .ensures) (told (c .before .before)), ((count .ensures, p .0 .joined), regions-end-at _ _ 4 _ _ (p .1 .0) (reads (c .before .before))))
 
 returns : tie.Need-returns
-unfolding entry
-returns c =
-    let a = c .before .before .before .before .before .before .before .before .before .before .args in
-    let p = c .before .before .before .before .before .before .before .before .before .before .pre in
-    let model = now (a .model) in
-    let index = now (a .index) in
-    let s = now (a .second) in
-    let m = modelFrom model index in
-    let count = c .before .before .before .before .before .before .before .locations-of in
-    let read = c .before .before .before .before .read-regions in
-    let regions = regionsFrom s (entry index 0) (read .last .1 .1 .1 .1 .0) (count .result) in
-    let told = c .before .before .number .given in
-    let e : readRegions m s 4 ≡ refused (told .0 .0) (told .0 .1 .0) = told-refused regions (readRegions m s 4) (read .ensures .0 ∙ regions-for model index s (count .result) 4 (count .ensures)) (told .1) in
-    c .on-second .ensures ∙ regions-stop m s (readRegions m s 4) (told .0 .0) (told .0 .1 .0) e
+returns c = c .on-second .ensures ∙ regions-stop _ _ _ _ _ (refusal (c .before .before))
 
 returns-2 : tie.Need-returns-2
 unfolding entry
-returns-2 c =
-    let a = c .before .before .before .before .before .before .before .before .before .before .before .args in
-    let p = c .before .before .before .before .before .before .before .before .before .before .before .pre in
-    let model = now (a .model) in
-    let index = now (a .index) in
-    let s = now (a .second) in
-    let m = modelFrom model index in
-    let count = c .before .before .before .before .before .before .before .before .locations-of in
-    let read = c .before .before .before .before .before .read-regions in
-    let regions = regionsFrom s (entry index 0) (read .last .1 .1 .1 .1 .0) (count .result) in
-    let told = c .before .before .before .place .given in
-    let e : regionsFor (count .result) (entry index 0) s 4 ≡ got regions (told .0 .0) = told-at regions (regionsFor (count .result) (entry index 0) s 4) (read .ensures .0) (told .1) in
-    let reads : readRegions m s 4 ≡ got regions (told .0 .0) = sym (regions-for model index s (count .result) 4 (count .ensures)) ∙ e in
-    c .mark-rest .ensures ∙ regions-rest m s (readRegions m s 4) regions (told .0 .0) reads
+returns-2 c = c .mark-rest .ensures ∙ regions-rest _ _ _ _ _ (reads (c .before .before .before))
 
 pub mark-body-spec : {M : Type 1} → statement M
 mark-body-spec =

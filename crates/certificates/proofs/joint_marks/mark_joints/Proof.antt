@@ -1,18 +1,19 @@
 -- The locations that are left, marked from here, are the whole. Assumes nothing.
 use mathlib.Core.Path.{_≡_, refl, sym, ap, _∙_}
 use mathlib.Core.List.{List}
-use Prim.Native.Nat.{_+_, _-_, _≤_}
+use Prim.Native.Nat.{_-_, _≤_}
 use native.Mathlib.Omega.{arith}
 use denote.Ref.{now}
 use lib.ListN.{length}
 use Rattle.formats.specs.Joint.{joints}
+use Rattle.models.specs.Index.{componentsFrom}
 use Rattle.hypotheses.specs.Tables.{Stacked}
-use Rattle.hypotheses.specs.Listing.{Task, markTasks}
+use Rattle.hypotheses.specs.Listing.{Task, jointTasksFor, markTasks}
 use Rattle.papers.proofs.JoinedLaws.{joinedOn, joined-none}
-use Rattle.certificates.specs.Passed.{standsAt, leavingTasks, Underway, Fresh}
+use Rattle.certificates.specs.Passed.{markedFrom, leavingTasks, Underway, Fresh}
 use Rattle.certificates.proofs.FreshLaws.{fresh-length}
 use Rattle.certificates.proofs.MarkLoops.{Comes}
-use Rattle.certificates.proofs.JointMarks.{part-underway, part-on, part-stops, marked-end, comes-first, joints-left}
+use Rattle.certificates.proofs.JointMarks.{part-underway, turn-on, turn-stops, marked-end, joints-left}
 use Rattle.certificates.proofs.joint_marks.mark_joints.Statement.{statement}
 use Rattle.certificates.proofs.joint_marks.mark_joints.Tie as tie
 
@@ -27,6 +28,10 @@ Inv-loop model index second regions locations table₀ sums₀ marking₀ locati
 
 abbrev μ-loop : tie.MeasureT-loop
 μ-loop model index second regions locations table₀ sums₀ marking₀ location₀ table sums marking location = locations - location
+
+-- the joint switches of all locations are all joint switches
+whole : (s : tie.Start Inv-loop μ-loop) → markedFrom (joinedOn (leavingTasks (now (s .args .model)) (now (s .args .index)) (now (s .args .second)) (now (s .args .regions))) (s .args .locations) 0) (now (s .args .second)) (s .args .from) ≡ markedFrom (jointTasksFor (now (s .args .model)) (now (s .args .index)) (now (s .args .second)) (now (s .args .regions)) (joints (componentsFrom (now (s .args .model)) (now (s .args .index))))) (now (s .args .second)) (s .args .from)
+whole s = ap (λ (ts : List Task). markedFrom ts (now (s .args .second)) (s .args .from)) (sym (joints-left _ _ _ _ _ (s .pre .1 .0 .0)))
 
 loop-holds : tie.Need-loop-holds Inv-loop μ-loop
 loop-holds c =
@@ -51,18 +56,9 @@ same-length-2 c = c .before .before .before .before .before .mark-leaving .kept 
 
 returns : tie.Need-returns Inv-loop μ-loop
 returns c =
-    let s = c .before .before .before .before .before .before .before .before .before .before .before .before .before in
-    let a = s .args in
-    let l = c .before .before .before .before .before .before .before .before .before .loop in
-    let k = c .before .before .before .before .before .mark-leaving in
-    let model = now (a .model) in
-    let index = now (a .index) in
-    let second = now (a .second) in
-    let regions = now (a .regions) in
-    let f = leavingTasks model index second regions in
-    let whole = markTasks (joinedOn f (a .locations) 0) second (a .from .place) (a .from .done) in
-    let cut = part-stops second (f (l .location)) (l .marking .place) (l .marking .done) (k .result) (k .ensures .0) (l .inv .1 .0 .within) (l .inv .1 .0 .few) whole (joinedOn f (a .locations) (l .location + 1)) (c .if1 .taken) (comes-first second whole f (a .locations) (l .location) (l .marking .place) (l .marking .done) (c .before .before .before .before .before .before .before .before .loop-test .taken) (l .inv .1 .1 .1 .1 .1)) in
-    cut ∙ ap (λ (ts : List Task). standsAt (markTasks ts second (a .from .place) (a .from .done))) (sym (joints-left model index second regions (a .locations) (s .pre .1 .0 .0)))
+    let at = c .before .before .before .before .before .before .before .before in
+    let i = at .before .loop .inv .1 in
+    turn-stops _ _ _ (at .loop-test .taken) (i .0) (c .before .before .before .before .before .mark-leaving .ensures .0) (i .1 .1 .1 .1) (c .if1 .taken) ∙ whole (at .before .before .before .before .before)
 
 add-location : tie.Need-add-location Inv-loop μ-loop
 add-location c = omega (arith, c .before .before .before .before .before .before .before .before .loop-test .taken, c .before .before .before .before .before .before .before .before .before .before .before .before .before .pre .1 .0 .0, c .before .before .before .before .before .before .before .before .before .before .before .before .before .pre .0 .few)
@@ -72,19 +68,12 @@ loop-less c = omega (arith, c .before .before .before .before .before .before .b
 
 loop-again : tie.Need-loop-again Inv-loop μ-loop
 loop-again c =
-    let s = c .before .before .before .before .before .before .before .before .before .before .before .before .before in
-    let a = s .args in
-    let l = c .before .before .before .before .before .before .before .before .before .loop in
+    let at = c .before .before .before .before .before .before .before .before in
+    let i = at .before .loop .inv .1 in
     let k = c .before .before .before .before .before .mark-leaving in
-    let model = now (a .model) in
-    let index = now (a .index) in
-    let second = now (a .second) in
-    let regions = now (a .regions) in
-    let f = leavingTasks model index second regions in
-    let whole = markTasks (joinedOn f (a .locations) 0) second (a .from .place) (a .from .done) in
-    let on = part-on second (f (l .location)) (l .marking .place) (l .marking .done) (k .result) (k .ensures .0) (l .inv .1 .0 .within) (l .inv .1 .0 .few) whole (joinedOn f (a .locations) (l .location + 1)) (c .if1 .left) (comes-first second whole f (a .locations) (l .location) (l .marking .place) (l .marking .done) (c .before .before .before .before .before .before .before .before .loop-test .taken) (l .inv .1 .1 .1 .1 .1)) in
-    let again = k .ensures .1 (c .if1 .left) in
-    (omega (arith, c .before .before .before .before .before .before .before .before .loop-test .taken), (part-underway second (f (l .location)) (l .marking .place) (l .marking .done) (k .result) (k .ensures .0) (l .inv .1 .0 .within) (l .inv .1 .0 .few) (c .if1 .left), (again .1, (k .kept .1 .1 .1 .1 .1 .1 .0 ∙ l .inv .1 .1 .1 .0, (again .0, on)))))
+    let z = c .if1 .left in
+    let again = k .ensures .1 z in
+    (omega (arith, at .loop-test .taken), (part-underway _ (i .0) (k .ensures .0) z, (again .1, (k .kept .1 .1 .1 .1 .1 .1 .0 ∙ i .1 .1 .0, (again .0, turn-on _ _ _ (at .loop-test .taken) (i .0) (k .ensures .0) (i .1 .1 .1 .1) z)))))
 
 same-length-3 : tie.Need-same-length-3 Inv-loop μ-loop
 same-length-3 c = c .before .loop .inv .1 .1 .1 .0
@@ -94,17 +83,8 @@ same-length-4 c = sums-same (c .before)
 
 returns-2 : tie.Need-returns-2 Inv-loop μ-loop
 returns-2 c =
-    let s = c .before .before .before .before .before in
-    let a = s .args in
-    let l = c .before .loop in
-    let model = now (a .model) in
-    let index = now (a .index) in
-    let second = now (a .second) in
-    let regions = now (a .regions) in
-    let f = leavingTasks model index second regions in
-    let whole = markTasks (joinedOn f (a .locations) 0) second (a .from .place) (a .from .done) in
-    let over = marked-end second whole (l .marking) (joinedOn f (a .locations) (l .location)) (l .inv .1 .0 .number) (joined-none f (a .locations) (l .location) (c .loop-test .left)) (l .inv .1 .1 .1 .1 .1) in
-    over ∙ ap (λ (ts : List Task). standsAt (markTasks ts second (a .from .place) (a .from .done))) (sym (joints-left model index second regions (a .locations) (s .pre .1 .0 .0)))
+    let i = c .before .loop .inv .1 in
+    marked-end _ (i .0) (joined-none _ _ _ (c .loop-test .left)) (i .1 .1 .1 .1) ∙ whole (c .before .before .before .before .before)
 
 pub mark-joints-spec : {M : Type 1} → statement M
 mark-joints-spec =

@@ -1,7 +1,7 @@
 -- The events that are left, marked from here, are the whole; the location's own lines stay in the table. Assumes nothing.
 use mathlib.Core.Path.{_≡_, refl, sym, ap, _∙_}
 use mathlib.Core.List.{List}
-use Prim.Native.Nat.{ℕ, _+_, _-_, _≤_}
+use Prim.Native.Nat.{ℕ, _-_, _≤_}
 use native.Mathlib.Omega.{arith}
 use denote.Ref.{now}
 use lib.ListN.{length}
@@ -9,14 +9,14 @@ use Rattle.models.specs.Index.{componentsFrom}
 use Rattle.certificates.specs.declared.Leaving.{Leaving}
 use Rattle.formats.specs.Joint.{jointsOf}
 use Rattle.hypotheses.specs.Listing.{Task, jointTasksFor, hereLines, markTasks}
-use Rattle.hypotheses.proofs.TableLaws.{lines-start, stacked-less}
+use Rattle.hypotheses.proofs.TableLaws.{pushed, lines-start, stacked-less}
 use Rattle.papers.specs.Standing.{Stands}
 use Rattle.papers.proofs.StandingLaws.{stands-at}
 use Rattle.papers.proofs.JoinedLaws.{joinedOn, joined-none, joined-whole}
-use Rattle.certificates.specs.Passed.{standsAt, leavingTasks, Ready}
+use Rattle.certificates.specs.Passed.{markedFrom, leavingTasks, Ready}
 use Rattle.certificates.proofs.FreshLaws.{fresh-length}
 use Rattle.certificates.proofs.MarkLoops.{Comes}
-use Rattle.certificates.proofs.JointMarks.{part-underway, part-on, part-stops, marked-end, here-kept, comes-first}
+use Rattle.certificates.proofs.JointMarks.{turn-on, turn-stops, marked-end, ready-again}
 use Rattle.certificates.proofs.joint_marks.mark_leaving.Statement.{statement}
 use Rattle.certificates.proofs.joint_marks.mark_leaving.Tie as tie
 
@@ -31,6 +31,11 @@ Inv-loop model index second regions location table₀ sums₀ modes here marking
 
 abbrev μ-loop : tie.MeasureT-loop
 μ-loop model index second regions location table₀ sums₀ modes here marking₀ e₀ table sums marking e = 16 - e
+
+-- the events together are what leaves the location
+whole : (s : tie.Start Inv-loop μ-loop) → markedFrom (joinedOn (λ e. jointTasksFor (now (s .args .model)) (now (s .args .index)) (now (s .args .second)) (now (s .args .regions)) (jointsOf (componentsFrom (now (s .args .model)) (now (s .args .index))) (s .args .location) e)) 16 0) (now (s .args .second)) (s .args .from) ≡ markedFrom (leavingTasks (now (s .args .model)) (now (s .args .index)) (now (s .args .second)) (now (s .args .regions)) (s .args .location)) (now (s .args .second)) (s .args .from)
+unfolding leavingTasks
+whole s = ap (λ (ts : List Task). markedFrom ts (now (s .args .second)) (s .args .from)) (joined-whole _ 16)
 
 modes-at-requires : tie.Need-modes-at-requires Inv-loop μ-loop
 modes-at-requires c κs = (c .before .before .before .pre .0 .good, c .before .before .before .pre .1 .0 .0)
@@ -57,7 +62,7 @@ loop-holds c =
     let k = c .before .before .push-here in
     let same = stands (c .before .before .before .before) in
     let ready : Ready (now (a .model)) (now (a .index)) (now (a .second)) (now (a .regions)) (record { location = a .location; modes = c .before .before .before .before .modes-at .result; here = k .result; marking = a .from }) (k .last .1 .1 .1 .1 .1 .1 .0) (now (a .sums)) =
-    record { long = omega (arith, k .kept .1 .1 .1 .1 .1 .1 .0, s .pre .1 .1 .0); here = record { below = s .pre .1 .0 .0; few = k .ensures .few; stacked = k .ensures .stacked; told = lines-start (k .ensures) ∙ ap (hereLines (now (a .index)) (now (a .regions)) (a .location)) (same .here) }; underway = s .pre .1 .0 .1 .0; fresh = s .pre .1 .0 .1 .1 } in
+    record { long = omega (arith, k .kept .1 .1 .1 .1 .1 .1 .0, s .pre .1 .1 .0); here = record { below = s .pre .1 .0 .0; few = k .ensures .1 .few; stacked = k .ensures .1 .stacked; told = lines-start (pushed (k .ensures)) ∙ ap (hereLines (now (a .index)) (now (a .regions)) (a .location)) (same .here) }; underway = s .pre .1 .0 .1 .0; fresh = s .pre .1 .0 .1 .1 } in
     (omega arith, (ready, (refl, refl)))
 
 mark-event-requires : tie.Need-mark-event-requires Inv-loop μ-loop
@@ -72,20 +77,10 @@ same-length-2 : tie.Need-same-length-2 Inv-loop μ-loop
 same-length-2 c = c .before .before .before .before .before .mark-event .kept .1 .1 .1 .1 .1 .1 .1 .0 ∙ sums-same (c .before .before .before .before .before .before .before .before .before)
 
 returns : tie.Need-returns Inv-loop μ-loop
-unfolding leavingTasks
 returns c =
-    let s = c .before .before .before .before .before .before .before .before .before .before .before .before .before .before .before .before .before .before in
-    let a = s .args in
-    let l = c .before .before .before .before .before .before .before .before .before .loop in
-    let k = c .before .before .before .before .before .mark-event in
-    let model = now (a .model) in
-    let index = now (a .index) in
-    let second = now (a .second) in
-    let regions = now (a .regions) in
-    let events : ℕ → List Task = (λ e. jointTasksFor (now (a .model)) (now (a .index)) (now (a .second)) (now (a .regions)) (jointsOf (componentsFrom (now (a .model)) (now (a .index))) (a .location) e)) in
-    let whole = markTasks (joinedOn events 16 0) second (a .from .place) (a .from .done) in
-    let cut = part-stops second (events (l .e)) (l .marking .place) (l .marking .done) (k .result) (k .ensures .0) (l .inv .1 .0 .underway .within) (l .inv .1 .0 .underway .few) whole (joinedOn events 16 (l .e + 1)) (c .if1 .taken) (comes-first second whole events 16 (l .e) (l .marking .place) (l .marking .done) (c .before .before .before .before .before .before .before .before .loop-test .taken) (l .inv .1 .1 .1)) in
-    (cut ∙ ap (λ (ts : List Task). standsAt (markTasks ts second (a .from .place) (a .from .done))) (joined-whole events 16), λ z. absurd (c .if1 .taken z))
+    let at = c .before .before .before .before .before .before .before .before in
+    let i = at .before .loop .inv .1 in
+    (turn-stops _ _ _ (at .loop-test .taken) (i .0 .underway) (c .before .before .before .before .before .mark-event .ensures .0) (i .1 .1) (c .if1 .taken) ∙ whole (at .before .before .before .before .before .before .before .before .before .before), λ z. absurd (c .if1 .taken z))
 
 add-e : tie.Need-add-e Inv-loop μ-loop
 add-e c = omega (arith, c .before .before .before .before .before .before .before .before .loop-test .taken)
@@ -95,23 +90,12 @@ loop-less c = omega (arith, c .before .before .before .before .before .before .b
 
 loop-again : tie.Need-loop-again Inv-loop μ-loop
 loop-again c =
-    let s = c .before .before .before .before .before .before .before .before .before .before .before .before .before .before .before .before .before .before in
-    let a = s .args in
-    let l = c .before .before .before .before .before .before .before .before .before .loop in
+    let at = c .before .before .before .before .before .before .before .before in
+    let i = at .before .loop .inv .1 in
     let k = c .before .before .before .before .before .mark-event in
-    let model = now (a .model) in
-    let index = now (a .index) in
-    let second = now (a .second) in
-    let regions = now (a .regions) in
-    let events : ℕ → List Task = (λ e. jointTasksFor (now (a .model)) (now (a .index)) (now (a .second)) (now (a .regions)) (jointsOf (componentsFrom (now (a .model)) (now (a .index))) (a .location) e)) in
-    let whole = markTasks (joinedOn events 16 0) second (a .from .place) (a .from .done) in
-    let within = l .inv .1 .0 .underway .within in
-    let few = l .inv .1 .0 .underway .few in
-    let on = part-on second (events (l .e)) (l .marking .place) (l .marking .done) (k .result) (k .ensures .0) within few whole (joinedOn events 16 (l .e + 1)) (c .if1 .left) (comes-first second whole events 16 (l .e) (l .marking .place) (l .marking .done) (c .before .before .before .before .before .before .before .before .loop-test .taken) (l .inv .1 .1 .1)) in
+    let z = c .if1 .left in
     let same = k .kept .1 .1 .1 .1 .1 .1 .0 in
-    let ready : Ready model index second regions (record { location = a .location; modes = c .before .before .before .before .before .before .before .before .before .before .before .before .before .before .modes-at .result; here = c .before .before .before .before .before .before .before .before .before .before .before .before .push-here .result; marking = k .result }) (k .last .1 .1 .1 .1 .1 .1 .0) (k .last .1 .1 .1 .1 .1 .1 .1 .0) =
-    record { long = omega (arith, same, l .inv .1 .0 .long); here = here-kept (k .ensures .1 .1) (l .inv .1 .0 .here); underway = part-underway second (events (l .e)) (l .marking .place) (l .marking .done) (k .result) (k .ensures .0) within few (c .if1 .left); fresh = k .ensures .1 .0 (c .if1 .left) } in
-    (omega (arith, c .before .before .before .before .before .before .before .before .loop-test .taken), (ready, (same ∙ l .inv .1 .1 .0, on)))
+    (omega (arith, at .loop-test .taken), (ready-again _ (i .0) same (k .ensures .1 .1) (k .ensures .1 .0 z) (k .ensures .0) z, (same ∙ i .1 .0, turn-on _ _ _ (at .loop-test .taken) (i .0 .underway) (k .ensures .0) (i .1 .1) z)))
 
 same-length-3 : tie.Need-same-length-3 Inv-loop μ-loop
 same-length-3 c = c .before .loop .inv .1 .1 .0 ∙ c .before .before .before .before .push-here .kept .1 .1 .1 .1 .1 .1 .0
@@ -120,19 +104,9 @@ same-length-4 : tie.Need-same-length-4 Inv-loop μ-loop
 same-length-4 c = sums-same (c .before)
 
 returns-2 : tie.Need-returns-2 Inv-loop μ-loop
-unfolding leavingTasks
 returns-2 c =
-    let s = c .before .before .before .before .before .before .before .before .before .before in
-    let a = s .args in
-    let l = c .before .loop in
-    let model = now (a .model) in
-    let index = now (a .index) in
-    let second = now (a .second) in
-    let regions = now (a .regions) in
-    let events : ℕ → List Task = (λ e. jointTasksFor (now (a .model)) (now (a .index)) (now (a .second)) (now (a .regions)) (jointsOf (componentsFrom (now (a .model)) (now (a .index))) (a .location) e)) in
-    let whole = markTasks (joinedOn events 16 0) second (a .from .place) (a .from .done) in
-    let over = marked-end second whole (l .marking) (joinedOn events 16 (l .e)) (l .inv .1 .0 .underway .number) (joined-none events 16 (l .e) (c .loop-test .left)) (l .inv .1 .1 .1) in
-    (over ∙ ap (λ (ts : List Task). standsAt (markTasks ts second (a .from .place) (a .from .done))) (joined-whole events 16), λ z. (stacked-less 0 (omega arith) (l .inv .1 .0 .here .stacked), l .inv .1 .0 .fresh))
+    let i = c .before .loop .inv .1 in
+    (marked-end _ (i .0 .underway) (joined-none _ _ _ (c .loop-test .left)) (i .1 .1) ∙ whole (c .before .before .before .before .before .before .before .before .before .before), λ z. (stacked-less 0 (omega arith) (i .0 .here .stacked), i .0 .fresh))
 
 pub mark-leaving-spec : {M : Type 1} → statement M
 mark-leaving-spec =

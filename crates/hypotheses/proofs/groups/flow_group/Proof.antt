@@ -1,19 +1,21 @@
 -- Nothing where the region has no rows, else the region's rows on x'. Assumes nothing.
-use mathlib.Core.Path.{_≡_, sym, ap, _∙_, subst}
-use Prim.Native.Nat.{_+_, _≤_}
+use mathlib.Core.Path.{sym, _∙_}
+use Prim.Native.Nat.{_≤_}
 use native.Mathlib.Omega.{arith}
 use borrow.Author.Needs.{needs}
 use denote.Ref.{now}
 use lib.ListN.{length}
 use Rattle.models.specs.Index.{entry}
-use Rattle.hypotheses.specs.declared.Group.{Group}
-use Rattle.hypotheses.specs.Listing.{tasksOf, GoodGroup, emptyGroup, regionGroup}
-use Rattle.hypotheses.proofs.TableLaws.{lines-start}
+use Rattle.hypotheses.proofs.TableLaws.{pushed, lines-start}
 use Rattle.hypotheses.proofs.GoodLines.{flow-fine}
-use Rattle.hypotheses.proofs.GroupLaws.{flow-tasks, no-rows-flow, empty-good, region-good}
-use borrow.Author.Needs.{needs}
+use Rattle.hypotheses.proofs.GroupLaws.{same-group, flow-tasks, no-rows-flow, empty-good, region-good}
 use Rattle.hypotheses.proofs.groups.flow_group.Statement.{statement}
 use Rattle.hypotheses.proofs.groups.flow_group.Tie as tie
+
+-- there is a mode for each component
+long : (s : tie.Start) → entry (now (s .args .index)) 1 ≤ length (s .args .modes)
+unfolding entry
+long s = omega (arith, s .pre .0 .good .few, s .good .1 .1 .1 .1 .1 .0 .1 .0 .1)
 
 region-rows-requires : tie.Need-region-rows-requires
 region-rows-requires c κs = let s = c .before .before .before .before in (search needs, omega (arith, s .pre .1 .0 .below, s .pre .0 .few))
@@ -23,18 +25,8 @@ no-group-requires c κs = search needs
 
 returns : tie.Need-returns
 returns c =
-    let s = c .before .before .before .before .before .before .before in
-    let model = now (s .args .model) in
-    let index = now (s .args .index) in
-    let second = now (s .args .second) in
-    let regions = now (s .args .regions) in
-    let here = s .args .location in
-    let modes = s .args .modes in
-    let table = now (s .args .table) in
-    let same : c .no-group .result ≡ emptyGroup = c .no-group .ensures in (
-      ap (tasksOf model second (entry index 0) table) same ∙ no-rows-flow model index second regions table here (s .pre .1 .0 .below) (sym (c .before .before .region-rows .ensures) ∙ c .before .if1 .taken),
-      subst (λ (g : Group). GoodGroup model second (entry index 0) table g) (sym same) (empty-good model second (entry index 0) table (s .pre .0 .good .most) (s .pre .1 .1 .1)),
-    )
+    let p = c .before .before .before .before .before .before .before .pre in
+    same-group _ _ _ _ (c .no-group .ensures) (no-rows-flow _ _ _ _ _ _ (p .1 .0 .below) (sym (c .before .before .region-rows .ensures) ∙ c .before .if1 .taken)) (empty-good _ _ _ _ (p .0 .good .most) (p .1 .1 .1))
 
 flow-table-requires : tie.Need-flow-table-requires
 flow-table-requires c κs = let s = c .before .before .before .before .before .before .before in (s .pre .0, ((s .pre .1 .0 .below, s .pre .1 .0 .known), s .pre .1 .1))
@@ -58,7 +50,7 @@ region-group-requires : tie.Need-region-group-requires
 region-group-requires c κs =
     let s = c .before .before .before .before .before .before .before .before .before .before .before .before .before in
     let k = c .before .before .before .before .before .flow-table in
-    ((search needs, omega (arith, s .pre .1 .0 .below, s .pre .0 .few)), (omega (arith, k .kept .1 .1 .1 .1 .1 .1 .0, s .pre .1 .1 .0), omega (arith, k .ensures .few)))
+    ((search needs, omega (arith, s .pre .1 .0 .below, s .pre .0 .few)), (omega (arith, k .kept .1 .1 .1 .1 .1 .1 .0, s .pre .1 .1 .0), omega (arith, k .ensures .1 .few)))
 
 same-length : tie.Need-same-length
 same-length c = c .before .before .before .before .before .before .flow-table .kept .1 .1 .1 .1 .1 .1 .0
@@ -67,21 +59,11 @@ returns-2 : tie.Need-returns-2
 unfolding entry
 returns-2 c =
     let s = c .before .before .before .before .before .before .before .before .before .before .before .before .before .before in
-    let model = now (s .args .model) in
-    let index = now (s .args .index) in
-    let second = now (s .args .second) in
-    let regions = now (s .args .regions) in
-    let here = s .args .location in
-    let modes = s .args .modes in
-    let long : entry index 1 ≤ length modes = omega (arith, s .pre .0 .good .few, s .good .1 .1 .1 .1 .1 .0 .1 .0 .1) in
-    let n = entry index 0 in
+    let p = s .pre in
     let k = c .before .before .before .before .before .before .flow-table in
-    let table = k .last .1 .1 .1 .1 .1 .1 .0 in
-    let fine = flow-fine model index second regions modes here long (s .pre .1 .0 .known) (s .pre .0) (s .pre .1 .0 .below) in
-    let same : c .region-group .result ≡ regionGroup regions here table (k .result) n (n + n + 1) = c .region-group .ensures in (
-      ap (tasksOf model second n table) same ∙ flow-tasks model index second regions modes here long (s .pre .1 .0) table (k .result) (n + n + 1) (lines-start (k .ensures)),
-      subst (λ (g : Group). GoodGroup model second n table g) (sym same) (region-good model index second regions table here (k .result) n (n + n + 1) _ (s .pre .0) (s .pre .1 .0 .below) (k .ensures .stacked) (omega (arith, k .ensures .few)) (lines-start (k .ensures)) fine (omega arith) (omega (arith, s .pre .0 .good .most))),
-    )
+    let lines = lines-start (pushed (k .ensures)) in
+    same-group _ _ _ _ (c .region-group .ensures) (flow-tasks _ _ _ _ (s .args .modes) _ (long s) (p .1 .0) _ (k .result) _ lines)
+    (region-good _ _ _ _ _ _ (k .result) _ _ _ (p .0) (p .1 .0 .below) (k .ensures .1 .stacked) (omega (arith, k .ensures .1 .few)) lines (flow-fine _ _ _ _ _ _ (long s) (p .1 .0 .known) (p .0) (p .1 .0 .below)) (omega arith) (omega (arith, p .0 .good .most)))
 
 pub flow-group-spec : {M : Type 1} → statement M
 flow-group-spec =

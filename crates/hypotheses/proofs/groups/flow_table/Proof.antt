@@ -5,7 +5,7 @@ use denote.Ref.{now}
 use lib.ListN.{length}
 use Rattle.papers.proofs.StandingLaws.{invariant-good, flow-good}
 use Rattle.hypotheses.specs.Listing.{flowLines}
-use Rattle.hypotheses.proofs.TableLaws.{pushed-then}
+use Rattle.hypotheses.proofs.TableLaws.{pushed, pushed-then, as-promised}
 use Rattle.hypotheses.proofs.ModeLines.{few-rows}
 use borrow.Author.Needs.{needs}
 use Rattle.hypotheses.proofs.groups.flow_table.Statement.{statement}
@@ -20,7 +20,7 @@ push-modes-requires c κs =
     let k = c .before .before .before .push-here in
     let model = now (s .args .model) in
     let index = now (s .args .index) in
-    (few-rows model index (s .args .modes) 3 (s .pre .0 .good) (omega arith) (invariant-good model index (s .args .modes) (s .pre .0 .good) (s .pre .1 .0 .1)), (omega (arith, k .kept .1 .1 .1 .1 .1 .1 .0, s .pre .1 .1 .0), (omega (arith, k .ensures .few), k .ensures .stacked)))
+    (few-rows model index (s .args .modes) 3 (s .pre .0 .good) (omega arith) (invariant-good model index (s .args .modes) (s .pre .0 .good) (s .pre .1 .0 .1)), (omega (arith, k .kept .1 .1 .1 .1 .1 .1 .0, s .pre .1 .1 .0), (omega (arith, k .ensures .1 .few), k .ensures .1 .stacked)))
 
 push-modes-requires-2 : tie.Need-push-modes-requires-2
 push-modes-requires-2 c κs =
@@ -29,7 +29,7 @@ push-modes-requires-2 c κs =
     let h = c .before .before .before .before .before .before .before .push-here in
     let model = now (s .args .model) in
     let index = now (s .args .index) in
-    (few-rows model index (s .args .modes) 5 (s .pre .0 .good) (omega arith) (flow-good model index (s .args .modes) (s .pre .0 .good) (s .pre .1 .0 .1)), (omega (arith, h .kept .1 .1 .1 .1 .1 .1 .0, k .kept .1 .1 .1 .1 .0, s .pre .1 .1 .0), (omega (arith, h .ensures .few, k .ensures .few), k .ensures .stacked)))
+    (few-rows model index (s .args .modes) 5 (s .pre .0 .good) (omega arith) (flow-good model index (s .args .modes) (s .pre .0 .good) (s .pre .1 .0 .1)), (omega (arith, h .kept .1 .1 .1 .1 .1 .1 .0, k .kept .1 .1 .1 .1 .0, s .pre .1 .1 .0), (omega (arith, h .ensures .1 .few, k .ensures .1 .few), k .ensures .1 .stacked)))
 
 push-requires : tie.Need-push-requires
 push-requires c κs =
@@ -37,7 +37,7 @@ push-requires c κs =
     let r = c .before .before .before .push-modes2 in
     let k = c .before .before .before .before .before .before .before .push-modes in
     let h = c .before .before .before .before .before .before .before .before .before .before .before .push-here in
-    ((omega (arith, h .kept .1 .1 .1 .1 .1 .1 .0, k .kept .1 .1 .1 .1 .0, r .kept .1 .1 .1 .1 .0, s .pre .1 .1 .0), omega (arith, h .ensures .few, k .ensures .few, r .ensures .few)), (r .ensures .stacked, omega arith))
+    ((omega (arith, h .kept .1 .1 .1 .1 .1 .1 .0, k .kept .1 .1 .1 .1 .0, r .kept .1 .1 .1 .1 .0, s .pre .1 .1 .0), omega (arith, h .ensures .1 .few, k .ensures .1 .few, r .ensures .1 .few)), (r .ensures .1 .stacked, omega arith))
 
 same-length : tie.Need-same-length
 same-length c = search needs
@@ -45,7 +45,7 @@ same-length c = search needs
 returns : tie.Need-returns
 unfolding flowLines
 returns c =
-    pushed-then (c .before .before .before .before .before .before .before .before .before .before .before .before .before .before .push-here .ensures) (pushed-then {j = 5} {n = 9} (c .before .before .before .before .before .before .before .before .before .before .push-modes .ensures) (pushed-then {n = 5} (c .before .before .before .before .before .before .push-modes2 .ensures) (c .before .before .push .ensures) (omega arith)) (omega arith)) (omega arith)
+    as-promised (pushed-then (pushed (c .before .before .before .before .before .before .before .before .before .before .before .before .before .before .push-here .ensures)) (pushed-then {j = 5} {n = 9} (pushed (c .before .before .before .before .before .before .before .before .before .before .push-modes .ensures)) (pushed-then {n = 5} (pushed (c .before .before .before .before .before .before .push-modes2 .ensures)) (pushed (c .before .before .push .ensures)) (omega arith)) (omega arith)) (omega arith))
 
 pub flow-table-spec : {M : Type 1} → statement M
 flow-table-spec =

@@ -51,7 +51,7 @@ region-group-requires : tie.Need-region-group-requires
 region-group-requires c κs =
     let s = c .before .before .before .before .before .before .before .before .before .before .before .before in
     let k = c .before .before .before .before .before .jump-table in
-    ((search needs, omega (arith, s .pre .1 .0 .0, s .pre .0 .few)), (omega (arith, k .kept .1 .1 .1 .1 .1 .0, s .pre .1 .1 .0), omega (arith, k .ensures .few, s .pre .1 .1 .1 .few)))
+    ((search needs, omega (arith, s .pre .1 .0 .0, s .pre .0 .few)), (omega (arith, k .kept .1 .1 .1 .1 .1 .0, s .pre .1 .1 .0), omega (arith, k .ensures .1 .few, s .pre .1 .1 .1 .few)))
 
 same-length : tie.Need-same-length
 same-length c = c .before .before .before .before .before .before .jump-table .kept .1 .1 .1 .1 .1 .0
@@ -79,13 +79,13 @@ returns c =
     let k = c .before .before .before .before .before .before .jump-table in
     let table = k .last .1 .1 .1 .1 .1 .0 in
     let lines : linesIn table (k .result) ≡ jumpLines index regions location (perComponent index modes) (perComponent index (told .result)) switches =
-    k .ensures .told ∙ ap (λ (ls : List TableLine). ls ++ landingLines index (perComponent index (told .result)) switches) (here .told ∙ ap (hereLines index regions location) (sym (stands .here))) in
+    k .ensures .0 ∙ ap (λ (ls : List TableLine). ls ++ landingLines index (perComponent index (told .result)) switches) (here .told ∙ ap (hereLines index regions location) (sym (stands .here))) in
     let fine = jump-fine model index second regions modes location long (stands .known) (s .pre .0) (here .below) (told .result) switches wide (there .known) broad (s .pre .1 .0 .1) in
     let same : c .region-group .result ≡ regionGroup regions to table (k .result) n (n + n) = c .region-group .ensures in (
       ap (tasksOf model second n table) same ∙ jump-tasks model index second regions modes location long stands table (k .result) (n + n) to (told .result) switches wide there broad (s .pre .1 .0 .1) (s .pre .0 .good) lines,
       (
-        subst (λ (g : Group). GoodGroup model second n table g) (sym same) (region-good model index second regions table to (k .result) n (n + n) _ (s .pre .0) (s .pre .1 .0 .0) (k .ensures .stacked) (omega (arith, k .ensures .few, here .few)) lines fine (omega arith) (omega (arith, s .pre .0 .good .most))),
-        k .ensures .kept,
+        subst (λ (g : Group). GoodGroup model second n table g) (sym same) (region-good model index second regions table to (k .result) n (n + n) _ (s .pre .0) (s .pre .1 .0 .0) (k .ensures .1 .stacked) (omega (arith, k .ensures .1 .few, here .few)) lines fine (omega arith) (omega (arith, s .pre .0 .good .most))),
+        k .ensures .1 .kept,
       ),
     )
 

@@ -6,7 +6,7 @@ use lib.ListN.{length}
 use Rattle.models.specs.Counts.{perComponent}
 use Rattle.papers.proofs.StandingLaws.{invariant-good}
 use Rattle.hypotheses.specs.Listing.{landingLines}
-use Rattle.hypotheses.proofs.TableLaws.{pushed-then}
+use Rattle.hypotheses.proofs.TableLaws.{pushed, pushed-then, as-promised}
 use Rattle.hypotheses.proofs.ModeLines.{few-rows, few-jumps, few-owners}
 use borrow.Author.Needs.{needs}
 use Rattle.hypotheses.proofs.groups.jump_table.Statement.{statement}
@@ -23,14 +23,14 @@ push-switches-requires : tie.Need-push-switches-requires
 push-switches-requires c κs =
     let s = c .before .before .before .before .before .before .before in
     let k = c .before .before .before .push-modes in
-    ((s .pre .0 .0 .few, few-jumps (now (s .args .model)) (now (s .args .index)) (s .args .switches) (s .pre .0 .0) (s .pre .0 .1 .1)), (omega (arith, k .kept .1 .1 .1 .1 .0, s .pre .1 .0), (omega (arith, k .ensures .few, s .pre .1 .1 .0), k .ensures .stacked)))
+    ((s .pre .0 .0 .few, few-jumps (now (s .args .model)) (now (s .args .index)) (s .args .switches) (s .pre .0 .0) (s .pre .0 .1 .1)), (omega (arith, k .kept .1 .1 .1 .1 .0, s .pre .1 .0), (omega (arith, k .ensures .1 .few, s .pre .1 .1 .0), k .ensures .1 .stacked)))
 
 push-staying-requires : tie.Need-push-staying-requires
 push-staying-requires c κs =
     let s = c .before .before .before .before .before .before .before .before .before .before .before in
     let m = c .before .before .before .push-switches in
     let k = c .before .before .before .before .before .before .before .push-modes in
-    ((s .pre .0 .0 .most, few-owners (now (s .args .model)) (now (s .args .index)) (s .pre .0 .0)), (omega (arith, k .kept .1 .1 .1 .1 .0, m .kept .1 .1 .0, s .pre .1 .0), (omega (arith, k .ensures .few, m .ensures .few, s .pre .1 .1 .0), m .ensures .stacked)))
+    ((s .pre .0 .0 .most, few-owners (now (s .args .model)) (now (s .args .index)) (s .pre .0 .0)), (omega (arith, k .kept .1 .1 .1 .1 .0, m .kept .1 .1 .0, s .pre .1 .0), (omega (arith, k .ensures .1 .few, m .ensures .1 .few, s .pre .1 .1 .0), m .ensures .1 .stacked)))
 
 same-length : tie.Need-same-length
 same-length c = search needs
@@ -38,7 +38,7 @@ same-length c = search needs
 returns : tie.Need-returns
 unfolding landingLines perComponent
 returns c =
-    pushed-then {n = 16} (c .before .before .before .before .before .before .before .before .before .before .push-modes .ensures) (pushed-then {n = 12} (c .before .before .before .before .before .before .push-switches .ensures) (c .before .before .push-staying .ensures) (omega arith)) (omega arith)
+    as-promised (pushed-then {n = 16} (pushed (c .before .before .before .before .before .before .before .before .before .before .push-modes .ensures)) (pushed-then {n = 12} (pushed (c .before .before .before .before .before .before .push-switches .ensures)) (pushed (c .before .before .push-staying .ensures)) (omega arith)) (omega arith))
 
 pub jump-table-spec : {M : Type 1} → statement M
 jump-table-spec =

@@ -6,7 +6,7 @@ use denote.Ref.{now}
 use lib.ListN.{length}
 use Rattle.papers.proofs.StandingLaws.{invariant-good}
 use Rattle.hypotheses.specs.Listing.{hereLines}
-use Rattle.hypotheses.proofs.TableLaws.{pushed-then}
+use Rattle.hypotheses.proofs.TableLaws.{pushed, pushed-then, as-promised}
 use Rattle.hypotheses.proofs.ModeLines.{few-rows}
 use borrow.Author.Needs.{needs}
 use Rattle.hypotheses.proofs.groups.push_here.Statement.{statement}
@@ -27,14 +27,14 @@ push-modes-requires c κs =
     let k = c .before .before .before .push-kept in
     let model = now (s .args .model) in
     let index = now (s .args .index) in
-    (few-rows model index (s .args .modes) 3 (s .pre .0 .good) (omega arith) (invariant-good model index (s .args .modes) (s .pre .0 .good) (s .pre .1 .0 .1)), (omega (arith, k .kept .1 .1 .1 .1 .0, s .pre .1 .1 .0), (omega (arith, k .ensures .few), k .ensures .stacked)))
+    (few-rows model index (s .args .modes) 3 (s .pre .0 .good) (omega arith) (invariant-good model index (s .args .modes) (s .pre .0 .good) (s .pre .1 .0 .1)), (omega (arith, k .kept .1 .1 .1 .1 .0, s .pre .1 .1 .0), (omega (arith, k .ensures .1 .few), k .ensures .1 .stacked)))
 
 same-length : tie.Need-same-length
 same-length c = search needs
 
 returns : tie.Need-returns
 unfolding hereLines
-returns c = pushed-then (c .before .before .before .before .before .before .push-kept .ensures) (c .before .before .push-modes .ensures) (omega arith)
+returns c = as-promised (pushed-then (pushed (c .before .before .before .before .before .before .push-kept .ensures)) (pushed (c .before .before .push-modes .ensures)) (omega arith))
 
 pub push-here-spec : {M : Type 1} → statement M
 push-here-spec =

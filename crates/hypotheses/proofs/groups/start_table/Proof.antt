@@ -5,7 +5,7 @@ use denote.Ref.{now}
 use lib.ListN.{length}
 use Rattle.papers.proofs.StandingLaws.{initial-good, invariant-good}
 use Rattle.hypotheses.specs.Listing.{startLines}
-use Rattle.hypotheses.proofs.TableLaws.{pushed-then}
+use Rattle.hypotheses.proofs.TableLaws.{pushed, pushed-then, as-promised}
 use Rattle.hypotheses.proofs.ModeLines.{few-rows}
 use borrow.Author.Needs.{needs}
 use Rattle.hypotheses.proofs.groups.start_table.Statement.{statement}
@@ -24,14 +24,14 @@ push-modes-requires-2 c κs =
     let k = c .before .before .before .push-modes in
     let model = now (s .args .model) in
     let index = now (s .args .index) in
-    (few-rows model index (s .args .modes) 3 (s .pre .0 .0) (omega arith) (invariant-good model index (s .args .modes) (s .pre .0 .0) (s .pre .0 .1)), (omega (arith, k .kept .1 .1 .1 .1 .0, s .pre .1 .0), (omega (arith, k .ensures .few), k .ensures .stacked)))
+    (few-rows model index (s .args .modes) 3 (s .pre .0 .0) (omega arith) (invariant-good model index (s .args .modes) (s .pre .0 .0) (s .pre .0 .1)), (omega (arith, k .kept .1 .1 .1 .1 .0, s .pre .1 .0), (omega (arith, k .ensures .1 .few), k .ensures .1 .stacked)))
 
 same-length : tie.Need-same-length
 same-length c = search needs
 
 returns : tie.Need-returns
 unfolding startLines
-returns c = pushed-then (c .before .before .before .before .before .before .push-modes .ensures) (c .before .before .push-modes2 .ensures) (omega arith)
+returns c = as-promised (pushed-then (pushed (c .before .before .before .before .before .before .push-modes .ensures)) (pushed (c .before .before .push-modes2 .ensures)) (omega arith))
 
 pub start-table-spec : {M : Type 1} → statement M
 start-table-spec =

@@ -6,7 +6,7 @@ use denote.Ref.{now}
 use lib.ListN.{length}
 use Rattle.models.specs.Index.{unsafePlace}
 use Rattle.hypotheses.specs.Listing.{unsafeLines}
-use Rattle.hypotheses.proofs.TableLaws.{pushed-then}
+use Rattle.hypotheses.proofs.TableLaws.{pushed, pushed-then, as-promised}
 use borrow.Author.Needs.{needs}
 use Rattle.hypotheses.proofs.groups.unsafe_table.Statement.{statement}
 use Rattle.hypotheses.proofs.groups.unsafe_table.Tie as tie
@@ -30,14 +30,14 @@ push-kept-requires c κs =
     let k = c .before .before .before .before .push-here in
     let long : 1004 ≤ length (now (s .args .index)) = search needs in
     let few = s .pre .0 .good .unsafe (s .args .u) (s .pre .1 .1 .0) .few in
-    ((omega (arith, s .pre .1 .1 .0, s .pre .0 .good .conditions, long), omega (arith, few)), (omega (arith, k .kept .1 .1 .1 .1 .1 .1 .0, s .pre .1 .1 .1 .0), (omega (arith, k .ensures .few), k .ensures .stacked)))
+    ((omega (arith, s .pre .1 .1 .0, s .pre .0 .good .conditions, long), omega (arith, few)), (omega (arith, k .kept .1 .1 .1 .1 .1 .1 .0, s .pre .1 .1 .1 .0), (omega (arith, k .ensures .1 .few), k .ensures .1 .stacked)))
 
 same-length : tie.Need-same-length
 same-length c = search needs
 
 returns : tie.Need-returns
 unfolding unsafeLines unsafePlace
-returns c = pushed-then (c .before .before .before .before .before .before .before .push-here .ensures) (c .before .before .push-kept .ensures) (omega arith)
+returns c = as-promised (pushed-then (pushed (c .before .before .before .before .before .before .before .push-here .ensures)) (pushed (c .before .before .push-kept .ensures)) (omega arith))
 
 pub unsafe-table-spec : {M : Type 1} → statement M
 unsafe-table-spec =

@@ -3,7 +3,7 @@ use native.Mathlib.Omega.{arith}
 use denote.Ref.{now}
 use lib.ListN.{length-set}
 use Rattle.models.specs.Index.{entry}
-use Rattle.hypotheses.proofs.TableLaws.{after, pushed-one}
+use Rattle.hypotheses.proofs.TableLaws.{after, pushed-one, as-promised}
 use borrow.Author.Needs.{needs}
 use Rattle.hypotheses.proofs.tables.push.Statement.{statement}
 use Rattle.hypotheses.proofs.tables.push.Tie as tie
@@ -79,7 +79,7 @@ returns : tie.Need-returns
 unfolding after entry
 returns c =
     let a = c .before .args in
-    pushed-one (now (a .table)) (a .at) (a .form) (a .place) (a .owner) (a .count) (omega arith) (c .before .pre .0 .1) (c .before .pre .1 .1) (c .before .pre .1 .0)
+    as-promised (pushed-one (now (a .table)) (a .at) (a .form) (a .place) (a .owner) (a .count) (omega arith) (c .before .pre .0 .1) (c .before .pre .1 .1) (c .before .pre .1 .0))
 
 pub push-spec : {M : Type 1} → statement M
 push-spec =

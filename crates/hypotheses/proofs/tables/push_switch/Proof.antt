@@ -10,7 +10,7 @@ use lib.ListN.{length}
 use Rattle.formats.specs.Joint.{stays}
 use Rattle.models.specs.Index.{entry, componentPlace, switchPlace}
 use Rattle.hypotheses.specs.Listing.{keptLines}
-use Rattle.hypotheses.proofs.TableLaws.{pushed-none, pushed-as}
+use Rattle.hypotheses.proofs.TableLaws.{pushed, pushed-none, pushed-as, as-promised}
 use Rattle.hypotheses.proofs.ModeLines.{switch-within, switch-stays, switch-moves}
 use borrow.Author.Needs.{needs}
 use Rattle.hypotheses.proofs.tables.push_switch.Statement.{statement}
@@ -20,7 +20,7 @@ returns : tie.Need-returns
 unfolding stays
 returns c =
     let a = c .before .before .args in
-    pushed-as (sym (switch-stays (now (a .index)) (a .k) (a .i) (eq-eqb (a .i) 255 (c .if1 .taken)))) (pushed-none (now (a .table)) (a .at) 1 (c .before .before .pre .1 .1 .1))
+    as-promised (pushed-as (sym (switch-stays (now (a .index)) (a .k) (a .i) (eq-eqb (a .i) 255 (c .if1 .taken)))) (pushed-none (now (a .table)) (a .at) 1 (c .before .before .pre .1 .1 .1)))
 
 switch-place-requires : tie.Need-switch-place-requires
 switch-place-requires c κs = search needs
@@ -49,7 +49,7 @@ returns-2 c =
     let s = c .before .before .before .before .before .before .before .before in
     let index = now (s .args .index) in
     let moves : eqb (s .args .i) stays ≡ false = ne-eqb (s .args .i) 255 (c .before .before .before .before .before .before .if1 .left) in
-    pushed-as (ap (keptLines 7 (s .args .k) index) (c .before .before .before .before .switch-place .ensures) ∙ sym (switch-moves index (s .args .k) (s .args .i) moves)) (c .before .before .push-kept .ensures)
+    as-promised (pushed-as (ap (keptLines 7 (s .args .k) index) (c .before .before .before .before .switch-place .ensures) ∙ sym (switch-moves index (s .args .k) (s .args .i) moves)) (pushed (c .before .before .push-kept .ensures)))
 
 pub push-switch-spec : {M : Type 1} → statement M
 push-switch-spec =

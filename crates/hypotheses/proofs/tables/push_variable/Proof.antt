@@ -9,7 +9,7 @@ use lib.ListN.{length, getD}
 use Rattle.formats.specs.Joint.{stays}
 use Rattle.models.specs.Index.{entry, ownerPlace}
 use Rattle.rules.proofs.ListFacts.{there}
-use Rattle.hypotheses.proofs.TableLaws.{pushed-none, pushed-as}
+use Rattle.hypotheses.proofs.TableLaws.{pushed, pushed-none, pushed-as, as-promised}
 use Rattle.hypotheses.proofs.ModeLines.{variable-stays, variable-moves}
 use borrow.Author.Needs.{needs}
 use Rattle.hypotheses.proofs.tables.push_variable.Statement.{statement}
@@ -45,8 +45,8 @@ unfolding entry ownerPlace stays
 returns c =
     let s = c .before .before .before in
     let a = s .args in
-    pushed-as (sym (variable-moves (now (a .index)) (a .t2) (a .v) (whose s ∙ ne-eqb (getD (a .t2) (entry (now (a .index)) (ownerPlace (a .v))) 0) 255 (c .if1 .taken))))
-    (pushed-none (now (a .table)) (a .at) 1 (s .pre .1 .1 .1))
+    as-promised (pushed-as (sym (variable-moves (now (a .index)) (a .t2) (a .v) (whose s ∙ ne-eqb (getD (a .t2) (entry (now (a .index)) (ownerPlace (a .v))) 0) 255 (c .if1 .taken))))
+    (pushed-none (now (a .table)) (a .at) 1 (s .pre .1 .1 .1)))
 
 cast-variable : tie.Need-cast-variable
 cast-variable c = search needs
@@ -62,8 +62,8 @@ unfolding entry ownerPlace stays
 returns-2 c =
     let s = c .before .before .before .before .before .before .before in
     let a = s .args in
-    pushed-as (sym (variable-stays (now (a .index)) (a .t2) (a .v) (whose s ∙ eq-eqb (getD (a .t2) (entry (now (a .index)) (ownerPlace (a .v))) 0) 255 (c .before .before .before .before .if1 .left))))
-    (c .before .before .push .ensures)
+    as-promised (pushed-as (sym (variable-stays (now (a .index)) (a .t2) (a .v) (whose s ∙ eq-eqb (getD (a .t2) (entry (now (a .index)) (ownerPlace (a .v))) 0) 255 (c .before .before .before .before .if1 .left))))
+    (pushed (c .before .before .push .ensures)))
 
 pub push-variable-spec : {M : Type 1} → statement M
 push-variable-spec =

@@ -6,16 +6,30 @@ use borrow.Author.Needs.{needs}
 use denote.Ref.{now}
 use lib.ListN.{length}
 use Rattle.formats.specs.Reading.{got, refused, many}
-use Rattle.models.specs.Index.{entry, modeFrom, modePlace, switchFrom, switchPlace, readCounts, countsFrom}
+use Rattle.models.specs.Index.{entry, modeFrom, modePlace, switchFrom, switchPlace, Counts, readCounts, countsFrom}
 use Rattle.fields.specs.Answers.{gotAs}
 use Rattle.fields.proofs.ChainLaws.{told-at, told-refused}
 use Rattle.models.proofs.IndexLaws.{kept-then, kept-wider}
 use Rattle.formats.specs.Model.{readMode}
 use Rattle.formats.specs.Joint.{countUp}
 use mathlib.Core.List.{map}
-use Rattle.models.proofs.ComponentLaws.{counts-small, component-first, component-second, component-read, component-whole}
+use Rattle.models.proofs.ComponentLaws.{SmallCounts, counts-small, component-first, component-second, component-read, component-whole}
 use Rattle.models.proofs.model.component_into.Statement.{statement}
 use Rattle.models.proofs.model.component_into.Tie as tie
+
+-- the counts that were read, and that they are small
+module _ (c : tie.After-second) where
+  abbrev s : tie.Start
+  s = c .before .before .before .before .before .before .before .before
+
+  abbrev counts : Counts
+  counts = countsFrom (c .before .before .before .before .counts-into .last .1 .1 .0) (s .args .block)
+
+  one : readCounts (now (s .args .s)) (s .args .at) ≡ got counts (c .second .given .0 .0)
+  one = told-at counts (readCounts (now (s .args .s)) (s .args .at)) (c .before .before .before .before .counts-into .ensures .0) (c .second .given .1)
+
+  small : SmallCounts counts
+  small = counts-small _ _ _ _ one
 
 counts-into-requires : tie.Need-counts-into-requires
 counts-into-requires c κs = search needs
@@ -67,31 +81,13 @@ cast-switches c =
 
 cast-modes-into : tie.Need-cast-modes-into
 unfolding entry countsFrom
-cast-modes-into c =
-    let a = c .before .before .before .before .before .before .before .before .before .before .before .before .before .args in
-    let s = now (a .s) in
-    let n = a .n in
-    let b = a .block in
-    let x = c .before .before .before .before .before .before .before .before .before .counts-into .last .1 .1 .0 in
-    let c₀ = countsFrom x b in
-    let second = c .before .before .before .before .before .second .given .0 .0 in
-    let one : readCounts s (a .at) ≡ got c₀ second = told-at c₀ (readCounts s (a .at)) (c .before .before .before .before .before .before .before .before .before .counts-into .ensures .0) (c .before .before .before .before .before .second .given .1) in
-    let small = counts-small s (a .at) c₀ second one in
-    omega (arith, small .most)
+cast-modes-into c = omega (arith, small (c .before .before .before .before .before) .most)
 
 modes-into-requires : tie.Need-modes-into-requires
 unfolding entry countsFrom
 modes-into-requires c κs =
-    let a = c .before .before .before .before .before .before .before .before .before .before .before .before .before .args in
-    let s = now (a .s) in
-    let n = a .n in
-    let b = a .block in
-    let x = c .before .before .before .before .before .before .before .before .before .counts-into .last .1 .1 .0 in
-    let c₀ = countsFrom x b in
-    let second = c .before .before .before .before .before .second .given .0 .0 in
-    let one : readCounts s (a .at) ≡ got c₀ second = told-at c₀ (readCounts s (a .at)) (c .before .before .before .before .before .before .before .before .before .counts-into .ensures .0) (c .before .before .before .before .before .second .given .1) in
-    let small = counts-small s (a .at) c₀ second one in
-    (record { short = c .before .before .before .before .before .before .before .before .before .before .before .before .before .pre .0 .short; long = omega (arith, c .before .before .before .before .before .before .before .before .before .before .before .before .before .pre .0 .long, c .before .before .before .before .before .before .before .before .before .counts-into .kept .1 .1 .0) }, (omega (arith, c .before .before .before .before .before .before .before .before .before .before .before .before .before .pre .1), (c .before .before .before .before .before .before .before .before .before .before .before .before .before .pre .1 .1, small .most)))
+    let p = c .before .before .before .before .before .before .before .before .before .before .before .before .before .pre in
+    (record { short = p .0 .short; long = omega (arith, p .0 .long, c .before .before .before .before .before .before .before .before .before .counts-into .kept .1 .1 .0) }, (omega (arith, p .1), (p .1 .1, small (c .before .before .before .before .before) .most)))
 
 enum-known-number-2 : tie.Need-enum-known-number-2
 enum-known-number-2 c = search needs
@@ -102,16 +98,9 @@ enum-known-third c = search needs
 switches-into-requires : tie.Need-switches-into-requires
 unfolding entry countsFrom
 switches-into-requires c κs =
-    let a = c .before .before .before .before .before .before .before .before .before .before .before .before .before .before .before .before .before .before .before .before .args in
-    let s = now (a .s) in
-    let n = a .n in
-    let b = a .block in
-    let x = c .before .before .before .before .before .before .before .before .before .before .before .before .before .before .before .before .counts-into .last .1 .1 .0 in
-    let c₀ = countsFrom x b in
-    let second = c .before .before .before .before .before .before .before .before .before .before .before .before .second .given .0 .0 in
-    let one : readCounts s (a .at) ≡ got c₀ second = told-at c₀ (readCounts s (a .at)) (c .before .before .before .before .before .before .before .before .before .before .before .before .before .before .before .before .counts-into .ensures .0) (c .before .before .before .before .before .before .before .before .before .before .before .before .second .given .1) in
-    let small = counts-small s (a .at) c₀ second one in
-    (record { short = c .before .before .before .before .before .before .before .before .before .before .before .before .before .before .before .before .before .before .before .before .pre .0 .short; long = omega (arith, c .before .before .before .before .before .before .before .before .before .before .before .before .before .before .before .before .before .before .before .before .pre .0 .long, c .before .before .before .before .before .before .before .before .before .before .before .before .before .before .before .before .counts-into .kept .1 .1 .0, c .before .before .before .before .before .before .modes-into .kept .1 .1 .1 .0) }, (c .before .before .before .before .before .before .before .before .before .before .before .before .before .before .before .before .before .before .before .before .pre .1 .0, (small .most, (c .before .before .before .before .before .before .before .before .before .before .before .before .before .before .before .before .before .before .before .before .pre .1 .1, small .few))))
+    let p = c .before .before .before .before .before .before .before .before .before .before .before .before .before .before .before .before .before .before .before .before .pre in
+    let few = small (c .before .before .before .before .before .before .before .before .before .before .before .before) in
+    (record { short = p .0 .short; long = omega (arith, p .0 .long, c .before .before .before .before .before .before .before .before .before .before .before .before .before .before .before .before .counts-into .kept .1 .1 .0, c .before .before .before .before .before .before .modes-into .kept .1 .1 .1 .0) }, (p .1 .0, (few .most, (p .1 .1, few .few))))
 
 same-length : tie.Need-same-length
 same-length c = search needs
@@ -130,19 +119,13 @@ same-length-2 c = search needs
 returns-2 : tie.Need-returns-2
 unfolding gotAs entry countsFrom
 returns-2 c =
-    let a = c .before .before .before .before .before .before .before .before .before .before .before .before .before .before .before .before .before .before .before .args in
-    let s = now (a .s) in
-    let n = a .n in
-    let b = a .block in
-    let x = c .before .before .before .before .before .before .before .before .before .before .before .before .before .before .before .counts-into .last .1 .1 .0 in
-    let c₀ = countsFrom x b in
-    let second = c .before .before .before .before .before .before .before .before .before .before .before .second .given .0 .0 in
-    let one : readCounts s (a .at) ≡ got c₀ second = told-at c₀ (readCounts s (a .at)) (c .before .before .before .before .before .before .before .before .before .before .before .before .before .before .before .counts-into .ensures .0) (c .before .before .before .before .before .before .before .before .before .before .before .second .given .1) in
-    let small = counts-small s (a .at) c₀ second one in
-    let y = c .before .before .before .before .before .modes-into .last .1 .1 .1 .0 in
-    let ms = map (λ j. modeFrom s n y (modePlace b j)) (countUp 0 (entry x (b + 1))) in (
-      sym (component-second n s (a .at) c₀ second one (c .before .number2 .given .0 .0) (c .before .number2 .given .0 .1 .0) (told-refused ms (many (entry x (b + 1)) (readMode n) s second) (c .before .before .before .before .before .modes-into .ensures .0) (c .before .number2 .given .1))),
-      kept-then (kept-wider (omega arith) (omega arith) (c .before .before .before .before .before .before .before .before .before .before .before .before .before .before .before .counts-into .ensures .1)) (kept-wider (omega arith) (omega arith) (c .before .before .before .before .before .modes-into .ensures .1)),
+    let at = c .before .before .before .before .before .before .before .before .before .before .before in
+    let a = s at .args in
+    let size = counts at .modes in
+    let modes = c .before .before .before .before .before .modes-into in
+    let ms = map (λ j. modeFrom (now (a .s)) (a .n) (modes .last .1 .1 .1 .0) (modePlace (a .block) j)) (countUp 0 size) in (
+      sym (component-second _ _ _ _ _ (one at) _ _ (told-refused ms (many size (readMode (a .n)) (now (a .s)) (at .second .given .0 .0)) (modes .ensures .0) (c .before .number2 .given .1))),
+      kept-then (kept-wider (omega arith) (omega arith) (at .before .before .before .before .counts-into .ensures .1)) (kept-wider (omega arith) (omega arith) (modes .ensures .1)),
     )
 
 same-length-3 : tie.Need-same-length-3
@@ -151,24 +134,21 @@ same-length-3 c = search needs
 returns-3 : tie.Need-returns-3
 unfolding entry countsFrom
 returns-3 c =
-    let a = c .before .before .before .before .before .before .before .before .before .before .before .before .before .before .before .before .before .before .before .before .before .before .before .args in
-    let s = now (a .s) in
-    let n = a .n in
-    let b = a .block in
-    let x = c .before .before .before .before .before .before .before .before .before .before .before .before .before .before .before .before .before .before .before .counts-into .last .1 .1 .0 in
-    let c₀ = countsFrom x b in
-    let second = c .before .before .before .before .before .before .before .before .before .before .before .before .before .before .before .second .given .0 .0 in
-    let one : readCounts s (a .at) ≡ got c₀ second = told-at c₀ (readCounts s (a .at)) (c .before .before .before .before .before .before .before .before .before .before .before .before .before .before .before .before .before .before .before .counts-into .ensures .0) (c .before .before .before .before .before .before .before .before .before .before .before .before .before .before .before .second .given .1) in
-    let small = counts-small s (a .at) c₀ second one in
-    let y = c .before .before .before .before .before .before .before .before .before .modes-into .last .1 .1 .1 .0 in
-    let ms = map (λ j. modeFrom s n y (modePlace b j)) (countUp 0 (entry x (b + 1))) in
+    let at = c .before .before .before .before .before .before .before .before .before .before .before .before .before .before .before in
+    let a = s at .args in
+    let modes = c .before .before .before .before .before .before .before .before .before .modes-into in
+    let switches = c .before .before .switches-into in
+    let size = counts at .modes in
+    let x = at .before .before .before .before .counts-into .last .1 .1 .0 in
+    let y = modes .last .1 .1 .1 .0 in
+    let z = switches .last .1 .1 .1 .1 .1 .0 in
+    let ms = map (λ j. modeFrom (now (a .s)) (a .n) y (modePlace (a .block) j)) (countUp 0 size) in
     let third = c .before .before .before .before .before .third .given .0 .0 in
-    let two : many (entry x (b + 1)) (readMode n) s second ≡ got ms third = told-at ms (many (entry x (b + 1)) (readMode n) s second) (c .before .before .before .before .before .before .before .before .before .modes-into .ensures .0) (c .before .before .before .before .before .third .given .1) in
-    let z = c .before .before .switches-into .last .1 .1 .1 .1 .1 .0 in
-    let ws = map (λ i. switchFrom s n z (switchPlace b i)) (countUp 0 (entry x (b + 2))) in
-    let e = component-read n s (a .at) c₀ second one ms third two ws (c .before .before .switches-into .result) (c .before .before .switches-into .ensures .0) in (
-      ap (λ w. gotAs w (c .before .before .switches-into .result)) (component-whole s n x y z b small (c .before .before .before .before .before .before .before .before .before .modes-into .ensures .1) (c .before .before .switches-into .ensures .1)) ∙ e,
-      kept-then (kept-wider (omega arith) (omega arith) (c .before .before .before .before .before .before .before .before .before .before .before .before .before .before .before .before .before .before .before .counts-into .ensures .1)) (kept-then (kept-wider (omega arith) (omega arith) (c .before .before .before .before .before .before .before .before .before .modes-into .ensures .1)) (kept-wider (omega arith) (omega arith) (c .before .before .switches-into .ensures .1))),
+    let two : many size (readMode (a .n)) (now (a .s)) (at .second .given .0 .0) ≡ got ms third = told-at ms (many size (readMode (a .n)) (now (a .s)) (at .second .given .0 .0)) (modes .ensures .0) (c .before .before .before .before .before .third .given .1) in
+    let ws = map (λ i. switchFrom (now (a .s)) (a .n) z (switchPlace (a .block) i)) (countUp 0 (counts at .switches)) in
+    let e = component-read (a .n) (now (a .s)) (a .at) (counts at) (at .second .given .0 .0) (one at) ms third two ws (switches .result) (switches .ensures .0) in (
+      ap (λ w. gotAs w (switches .result)) (component-whole (now (a .s)) (a .n) x y z (a .block) (small at) (modes .ensures .1) (switches .ensures .1)) ∙ e,
+      kept-then (kept-wider (omega arith) (omega arith) (at .before .before .before .before .counts-into .ensures .1)) (kept-then (kept-wider (omega arith) (omega arith) (modes .ensures .1)) (kept-wider (omega arith) (omega arith) (switches .ensures .1))),
     )
 
 pub component-into-spec : {M : Type 1} → statement M

@@ -1,6 +1,6 @@
 -- Three fields in a chain, kept one after the other. Assumes nothing.
 use mathlib.Core.Path.{_≡_, sym, ap, _∙_}
-use Prim.Native.Nat.{ℕ, _+_, _<_, _%_}
+use Prim.Native.Nat.{ℕ, _<_, _%_}
 use native.Mathlib.Omega.{arith}
 use borrow.Author.Needs.{needs}
 use denote.Ref.{now}
@@ -15,6 +15,16 @@ use native.Mathlib.Nat.{mod-eq-of-lt}
 use Rattle.models.proofs.ComponentLaws.{alphabet-small, counts-first, counts-second, counts-third, counts-read, counts-put}
 use Rattle.models.proofs.model.counts_into.Statement.{statement}
 use Rattle.models.proofs.model.counts_into.Tie as tie
+
+-- what each field was read as
+events-read : (c : tie.After-events) → readAlphabet (now (c .before .before .before .before .before .args .s)) (c .before .before .before .before .before .args .at) ≡ got (c .events .given .0 .0) (c .events .given .0 .1 .0)
+events-read c = sym (c .before .before .alphabet .ensures) ∙ field-value (c .events .given .1)
+
+modes-read : (c : tie.After-modes) → within 1 8 u8 (now (c .before .before .before .before .before .before .before .before .before .args .s)) (c .before .before .before .before .events .given .0 .1 .0) ≡ got (c .modes .given .0 .0) (c .modes .given .0 .1 .0)
+modes-read c = sym (c .before .before .byte-within .ensures) ∙ field-value (c .modes .given .1)
+
+switches-read : (c : tie.After-switches) → within 0 32 u8 (now (c .before .before .before .before .before .before .before .before .before .before .before .before .before .args .s)) (c .before .before .before .before .modes .given .0 .1 .0) ≡ got (c .switches .given .0 .0) (c .switches .given .0 .1 .0)
+switches-read c = sym (c .before .before .byte-within2 .ensures) ∙ field-value (c .switches .given .1)
 
 alphabet-requires : tie.Need-alphabet-requires
 alphabet-requires c κs = search needs
@@ -53,16 +63,7 @@ slice-write-index : tie.Need-slice-write-index
 slice-write-index c = search needs
 
 cast-index-2 : tie.Need-cast-index-2
-cast-index-2 c =
-    let a = c .before .before .before .before .before .before .before .before .before .before .before .before .before .before .args in
-    let s = now (a .s) in
-    let events = c .before .before .before .before .before .before .before .before .before .events .given .0 .0 in
-    let second = c .before .before .before .before .before .before .before .before .before .events .given .0 .1 .0 in
-    let one : readAlphabet s (a .at) ≡ got events second = sym (c .before .before .before .before .before .before .before .before .before .before .before .alphabet .ensures) ∙ field-value (c .before .before .before .before .before .before .before .before .before .events .given .1) in
-    let modes = c .before .before .before .before .before .modes .given .0 .0 in
-    let third = c .before .before .before .before .before .modes .given .0 .1 .0 in
-    let two : within 1 8 u8 s second ≡ got modes third = sym (c .before .before .before .before .before .before .before .byte-within .ensures) ∙ field-value (c .before .before .before .before .before .modes .given .1) in
-    omega (arith, range-read u8 1 8 s second modes third two .high)
+cast-index-2 c = omega (arith, range-read u8 1 8 _ _ _ _ (modes-read (c .before .before .before .before .before)) .high)
 
 add-index : tie.Need-add-index
 add-index c = search needs
@@ -75,19 +76,7 @@ slice-write-index-2 c =
     simp length-set (omega (arith, c .before .before .before .before .before .before .before .before .before .before .before .before .before .before .pre))
 
 cast-index-3 : tie.Need-cast-index-3
-cast-index-3 c =
-    let a = c .before .before .before .before .before .before .before .before .before .before .before .before .before .before .args in
-    let s = now (a .s) in
-    let events = c .before .before .before .before .before .before .before .before .before .events .given .0 .0 in
-    let second = c .before .before .before .before .before .before .before .before .before .events .given .0 .1 .0 in
-    let one : readAlphabet s (a .at) ≡ got events second = sym (c .before .before .before .before .before .before .before .before .before .before .before .alphabet .ensures) ∙ field-value (c .before .before .before .before .before .before .before .before .before .events .given .1) in
-    let modes = c .before .before .before .before .before .modes .given .0 .0 in
-    let third = c .before .before .before .before .before .modes .given .0 .1 .0 in
-    let two : within 1 8 u8 s second ≡ got modes third = sym (c .before .before .before .before .before .before .before .byte-within .ensures) ∙ field-value (c .before .before .before .before .before .modes .given .1) in
-    let switches = c .before .switches .given .0 .0 in
-    let next = c .before .switches .given .0 .1 .0 in
-    let three : within 0 32 u8 s third ≡ got switches next = sym (c .before .before .before .byte-within2 .ensures) ∙ field-value (c .before .switches .given .1) in
-    omega (arith, range-read u8 0 32 s third switches next three .high)
+cast-index-3 c = omega (arith, range-read u8 0 32 _ _ _ _ (switches-read (c .before)) .high)
 
 add-index-2 : tie.Need-add-index-2
 add-index-2 c = search needs
@@ -101,32 +90,15 @@ slice-write-index-3 c =
 
 returns : tie.Need-returns
 unfolding gotAs
-returns c =
-    let a = c .before .before .before .before .before .before .args in
-    (sym (counts-first (now (a .s)) (a .at) (c .before .number .given .0 .0) (c .before .number .given .0 .1 .0) (sym (c .before .before .before .alphabet .ensures) ∙ field-refused (c .before .number .given .1))), kept-none (a .block) (a .block + 3) (now (a .index)))
+returns c = (sym (counts-first _ _ _ _ (sym (c .before .before .before .alphabet .ensures) ∙ field-refused (c .before .number .given .1))), kept-none _ _ _)
 
 returns-2 : tie.Need-returns-2
 unfolding gotAs
-returns-2 c =
-    let a = c .before .before .before .before .before .before .before .before .before .before .args in
-    let s = now (a .s) in
-    let events = c .before .before .before .before .before .events .given .0 .0 in
-    let second = c .before .before .before .before .before .events .given .0 .1 .0 in
-    let one : readAlphabet s (a .at) ≡ got events second = sym (c .before .before .before .before .before .before .before .alphabet .ensures) ∙ field-value (c .before .before .before .before .before .events .given .1) in
-    (sym (counts-second s (a .at) events second one (c .before .number2 .given .0 .0) (c .before .number2 .given .0 .1 .0) (sym (c .before .before .before .byte-within .ensures) ∙ field-refused (c .before .number2 .given .1))), kept-none (a .block) (a .block + 3) (now (a .index)))
+returns-2 c = (sym (counts-second _ _ _ _ (events-read (c .before .before .before .before .before)) _ _ (sym (c .before .before .before .byte-within .ensures) ∙ field-refused (c .before .number2 .given .1))), kept-none _ _ _)
 
 returns-3 : tie.Need-returns-3
 unfolding gotAs
-returns-3 c =
-    let a = c .before .before .before .before .before .before .before .before .before .before .before .before .before .before .args in
-    let s = now (a .s) in
-    let events = c .before .before .before .before .before .before .before .before .before .events .given .0 .0 in
-    let second = c .before .before .before .before .before .before .before .before .before .events .given .0 .1 .0 in
-    let one : readAlphabet s (a .at) ≡ got events second = sym (c .before .before .before .before .before .before .before .before .before .before .before .alphabet .ensures) ∙ field-value (c .before .before .before .before .before .before .before .before .before .events .given .1) in
-    let modes = c .before .before .before .before .before .modes .given .0 .0 in
-    let third = c .before .before .before .before .before .modes .given .0 .1 .0 in
-    let two : within 1 8 u8 s second ≡ got modes third = sym (c .before .before .before .before .before .before .before .byte-within .ensures) ∙ field-value (c .before .before .before .before .before .modes .given .1) in
-    (sym (counts-third s (a .at) events second one modes third two (c .before .number3 .given .0 .0) (c .before .number3 .given .0 .1 .0) (sym (c .before .before .before .byte-within2 .ensures) ∙ field-refused (c .before .number3 .given .1))), kept-none (a .block) (a .block + 3) (now (a .index)))
+returns-3 c = (sym (counts-third _ _ _ _ (events-read (c .before .before .before .before .before .before .before .before .before)) _ _ (modes-read (c .before .before .before .before .before)) _ _ (sym (c .before .before .before .byte-within2 .ensures) ∙ field-refused (c .before .number3 .given .1))), kept-none _ _ _)
 
 same-length : tie.Need-same-length
 same-length c = search needs
@@ -135,21 +107,12 @@ returns-4 : tie.Need-returns-4
 unfolding gotAs
 returns-4 c =
     let a = c .before .before .before .before .before .before .before .before .before .before .before .before .before .before .args in
-    let s = now (a .s) in
     let events = c .before .before .before .before .before .before .before .before .before .events .given .0 .0 in
-    let second = c .before .before .before .before .before .before .before .before .before .events .given .0 .1 .0 in
-    let one : readAlphabet s (a .at) ≡ got events second = sym (c .before .before .before .before .before .before .before .before .before .before .before .alphabet .ensures) ∙ field-value (c .before .before .before .before .before .before .before .before .before .events .given .1) in
     let modes = c .before .before .before .before .before .modes .given .0 .0 in
-    let third = c .before .before .before .before .before .modes .given .0 .1 .0 in
-    let two : within 1 8 u8 s second ≡ got modes third = sym (c .before .before .before .before .before .before .before .byte-within .ensures) ∙ field-value (c .before .before .before .before .before .modes .given .1) in
     let switches = c .before .switches .given .0 .0 in
-    let next = c .before .switches .given .0 .1 .0 in
-    let three : within 0 32 u8 s third ≡ got switches next = sym (c .before .before .before .byte-within2 .ensures) ∙ field-value (c .before .switches .given .1) in
-    let small : events < 65536 = alphabet-small s (a .at) events second (λ i. c .before .before .before .before .before .before .before .before .before .before .before .before .before .shared-slice-known .given i .fits) one in
-    let b = a .block in
-    let old = now (a .index) in
-    let v = counts-put old b (events % 65536) modes switches (omega (arith, c .before .before .before .before .before .before .before .before .before .before .before .before .before .before .pre)) in
-    (ap (λ w. got w next) (v .0 ∙ ap (λ (x : ℕ). record { alphabet = x; modes = modes; switches = switches }) (mod-eq-of-lt small)) ∙ sym (counts-read s (a .at) events second one modes third two switches next three), v .1)
+    let small : events < 65536 = alphabet-small _ _ _ _ (λ i. c .before .before .before .before .before .before .before .before .before .before .before .before .before .shared-slice-known .given i .fits) (events-read (c .before .before .before .before .before .before .before .before .before)) in
+    let v = counts-put (now (a .index)) (a .block) (events % 65536) modes switches (omega (arith, c .before .before .before .before .before .before .before .before .before .before .before .before .before .before .pre)) in
+    (ap (λ w. got w (c .before .switches .given .0 .1 .0)) (v .0 ∙ ap (λ (x : ℕ). record { alphabet = x; modes = modes; switches = switches }) (mod-eq-of-lt small)) ∙ sym (counts-read _ _ _ _ (events-read (c .before .before .before .before .before .before .before .before .before)) _ _ (modes-read (c .before .before .before .before .before)) _ _ (switches-read (c .before))), v .1)
 
 pub counts-into-spec : {M : Type 1} → statement M
 counts-into-spec =

@@ -1,13 +1,12 @@
 -- The law of a loop over a list: the modes so far, in front of those of the components to come, are all of them. Assumes nothing.
 use mathlib.Core.Path.{_≡_, refl, sym, ap, _∙_}
-use mathlib.Core.List.{_∷_}
 use Prim.Native.Nat.{ℕ, _+_, _*_, _-_, _<_, _≤_}
 use native.Mathlib.Omega.{arith}
 use borrow.Author.Needs.{needs}
 use denote.Ref.{now}
-use lib.ListN.{length, set, drop, length-set}
+use lib.ListN.{length, set, length-set}
 use Rattle.formats.specs.Reading.{got, u8, must, each}
-use Rattle.models.specs.Index.{entry, componentPlace, componentFrom, componentsFrom, Kept}
+use Rattle.models.specs.Index.{entry, componentPlace, componentsFrom, Kept}
 use Rattle.fields.specs.Answers.{gotAs}
 use Rattle.fields.proofs.AnswerLaws.{field-value, field-refused}
 use Rattle.models.proofs.IndexLaws.{entry-same, entry-other, kept-none, kept-set, kept-then}
@@ -24,6 +23,18 @@ Inv-loop s at c index₀ i place₀ k₀ index place k =
 abbrev μ-loop : tie.MeasureT-loop
 μ-loop s at c index₀ i place₀ k₀ index place k =
     c - k
+
+-- the component of a turn is one of the model's, and the index still has how many modes it has
+low : (c : tie.In-loop Inv-loop μ-loop) → c .before .loop .k < entry (now (c .before .before .before .before .args .index)) 1
+unfolding entry
+low c = omega (arith, c .loop-test .taken, c .before .before .before .before .pre .1 .0)
+
+kept : (c : tie.In-loop Inv-loop μ-loop) → entry (c .before .loop .index) (17 + 219 * c .before .loop .k) ≡ entry (now (c .before .before .before .before .args .index)) (componentPlace (c .before .loop .k) + 1)
+kept c = modes-kept (c .before .loop .inv .1 .1 .1) (c .before .loop .k) (c .before .before .before .before .pre .1 .0 .1 .1 .0) (omega (arith, c .loop-test .taken, c .before .before .before .before .pre .1 .0))
+
+mode-read : (c : tie.After-mode Inv-loop μ-loop) → must (numbered (entry (c .before .before .before .before .before .loop .index) (17 + 219 * c .before .before .before .before .before .loop .k))) 5 u8 (now (c .before .before .before .before .before .before .before .before .args .s)) (c .before .before .before .before .before .loop .place) ≡ got (c .mode .given .0 .0) (c .mode .given .0 .1 .0)
+unfolding entry
+mode-read c = sym (c .before .before .byte-numbered .ensures) ∙ field-value (c .mode .given .1)
 
 loop-holds : tie.Need-loop-holds Inv-loop μ-loop
 loop-holds c =
@@ -50,17 +61,7 @@ slice-read-modes c =
 
 cast-modes : tie.Need-cast-modes Inv-loop μ-loop
 unfolding entry
-cast-modes c =
-    let a = c .before .before .before .before .before .args in
-    let s = now (a .s) in
-    let old = now (a .index) in
-    let x = c .before .before .loop .index in
-    let k = c .before .before .loop .k in
-    let inv = c .before .before .loop .inv in
-    let l : k < a .c = c .before .loop-test .taken in
-    let modes = entry x (17 + 219 * k) in
-    let m : modes ≡ entry old (componentPlace k + 1) = modes-kept (inv .1 .1 .1) k (c .before .before .before .before .before .pre .1 .0 .1 .1 .0) (omega (arith, c .before .before .before .before .before .pre .1 .0)) in
-    omega (arith, c .before .before .before .before .before .pre .1 .1 k l)
+cast-modes c = omega (arith, kept (c .before), c .before .before .before .before .before .pre .1 .1 (c .before .before .loop .k) (c .before .loop-test .taken))
 
 byte-numbered-requires : tie.Need-byte-numbered-requires Inv-loop μ-loop
 byte-numbered-requires c κs =
@@ -77,25 +78,9 @@ same-length c =
 returns : tie.Need-returns Inv-loop μ-loop
 unfolding gotAs entry
 returns c =
-    let a = c .before .before .before .before .before .before .before .before .before .args in
-    let s = now (a .s) in
-    let i = a .i in
-    let old = now (a .index) in
-    let all = componentsFrom s old in
-    let x = c .before .before .before .before .before .before .loop .index in
-    let k = c .before .before .before .before .before .before .loop .k in
-    let place = c .before .before .before .before .before .before .loop .place in
-    let inv = c .before .before .before .before .before .before .loop .inv in
-    let whole = each readModeByte all s (a .at) in
-    let l : k < a .c = c .before .before .before .before .before .loop-test .taken in
-    let one = componentFrom s (entry old 0) old (componentPlace k) in
-    let modes = entry x (17 + 219 * k) in
-    let m : modes ≡ entry old (componentPlace k + 1) = modes-kept (inv .1 .1 .1) k (c .before .before .before .before .before .before .before .before .before .pre .1 .0 .1 .1 .0) (omega (arith, c .before .before .before .before .before .before .before .before .before .pre .1 .0)) in
-    let d : drop k all ≡ one ∷ drop (k + 1) all = component-next s old k (omega (arith, c .before .before .before .before .before .before .before .before .before .pre .1 .0)) in (
-      each-stops readModeByte all s whole (λ j. entry x (i + j)) k place (c .before .number .given .0 .0) (c .before .number .given .0 .1 .0) one (inv .1 .1 .0) d
-          (mode-of s old (entry old 0) (componentPlace k) modes place m (sym (c .before .before .before .byte-numbered .ensures) ∙ field-refused (c .before .number .given .1))),
-      inv .1 .1 .1,
-    )
+    let at = c .before .before .before .before .before in
+    let inv = at .before .loop .inv in
+    (each-stops readModeByte _ _ _ _ _ _ _ _ _ (inv .1 .1 .0) (component-next _ _ _ (low at)) (mode-of _ _ _ _ _ _ (kept at) (sym (c .before .before .before .byte-numbered .ensures) ∙ field-refused (c .before .number .given .1))), inv .1 .1 .1)
 
 enum-known-mode : tie.Need-enum-known-mode Inv-loop μ-loop
 enum-known-mode c =
@@ -104,20 +89,8 @@ enum-known-mode c =
 cast-index : tie.Need-cast-index Inv-loop μ-loop
 unfolding entry
 cast-index c =
-    let a = c .before .before .before .before .before .before .before .before .before .args in
-    let s = now (a .s) in
-    let old = now (a .index) in
-    let x = c .before .before .before .before .before .before .loop .index in
-    let k = c .before .before .before .before .before .before .loop .k in
-    let place = c .before .before .before .before .before .before .loop .place in
-    let inv = c .before .before .before .before .before .before .loop .inv in
-    let l : k < a .c = c .before .before .before .before .before .loop-test .taken in
-    let modes = entry x (17 + 219 * k) in
-    let m : modes ≡ entry old (componentPlace k + 1) = modes-kept (inv .1 .1 .1) k (c .before .before .before .before .before .before .before .before .before .pre .1 .0 .1 .1 .0) (omega (arith, c .before .before .before .before .before .before .before .before .before .pre .1 .0)) in
-    let mode = c .before .mode .given .0 .0 in
-    let next = c .before .mode .given .0 .1 .0 in
-    let e : must (numbered modes) 5 u8 s place ≡ got mode next = sym (c .before .before .before .byte-numbered .ensures) ∙ field-value (c .before .mode .given .1) in
-    omega (arith, mode-small modes s place mode next (omega (arith, c .before .before .before .before .before .before .before .before .before .pre .1 .1 k l)) e)
+    let at = c .before .before .before .before .before in
+    omega (arith, mode-small _ _ _ _ _ (omega (arith, kept at, c .before .before .before .before .before .before .before .before .before .pre .1 .1 (at .before .loop .k) (at .loop-test .taken))) (mode-read (c .before)))
 
 add-index : tie.Need-add-index Inv-loop μ-loop
 add-index c =
@@ -142,32 +115,21 @@ loop-less c =
 loop-again : tie.Need-loop-again Inv-loop μ-loop
 unfolding entry
 loop-again c =
-    let a = c .before .before .before .before .before .before .before .before .before .args in
-    let s = now (a .s) in
-    let i = a .i in
-    let old = now (a .index) in
-    let all = componentsFrom s old in
-    let x = c .before .before .before .before .before .before .loop .index in
-    let k = c .before .before .before .before .before .before .loop .k in
-    let place = c .before .before .before .before .before .before .loop .place in
-    let inv = c .before .before .before .before .before .before .loop .inv in
-    let whole = each readModeByte all s (a .at) in
-    let l : k < a .c = c .before .before .before .before .before .loop-test .taken in
-    let one = componentFrom s (entry old 0) old (componentPlace k) in
-    let modes = entry x (17 + 219 * k) in
-    let m : modes ≡ entry old (componentPlace k + 1) = modes-kept (inv .1 .1 .1) k (c .before .before .before .before .before .before .before .before .before .pre .1 .0 .1 .1 .0) (omega (arith, c .before .before .before .before .before .before .before .before .before .pre .1 .0)) in
-    let d : drop k all ≡ one ∷ drop (k + 1) all = component-next s old k (omega (arith, c .before .before .before .before .before .before .before .before .before .pre .1 .0)) in
+    let at = c .before .before .before .before .before in
+    let p = c .before .before .before .before .before .before .before .before .before .pre in
+    let i = c .before .before .before .before .before .before .before .before .before .args .i in
+    let x = at .before .loop .index in
+    let k = at .before .loop .k in
+    let inv = at .before .loop .inv in
     let mode = c .before .mode .given .0 .0 in
     let next = c .before .mode .given .0 .1 .0 in
-    let e : must (numbered modes) 5 u8 s place ≡ got mode next = sym (c .before .before .before .byte-numbered .ensures) ∙ field-value (c .before .mode .given .1) in
-    let y = set x (i + k) mode in
-    let put : entry y (i + k) ≡ mode = entry-same x (i + k) mode (omega (arith, c .before .before .before .before .before .before .before .before .before .pre .1 .0, c .before .before .before .before .before .before .before .before .before .pre .0 .long, inv .1 .0)) in (
-      omega arith,
+    let put : entry (set x (i + k) mode) (i + k) ≡ mode = entry-same x (i + k) mode (omega (arith, p .1 .0, p .0 .long, inv .1 .0, at .loop-test .taken)) in (
+      omega (arith, at .loop-test .taken),
       (
         length-set x (i + k) mode ∙ inv .1 .0,
         (
-          each-goes-on readModeByte all s whole (λ j. entry x (i + j)) (λ j. entry y (i + j)) k place next one (inv .1 .1 .0) d (mode-of s old (entry old 0) (componentPlace k) modes place m e ∙ ap (λ (v : ℕ). got v next) (sym put)) (λ j h. entry-other x (i + k) (i + j) mode (λ q. omega arith)),
-          kept-then (inv .1 .1 .1) (kept-set i (i + 4) x (i + k) mode (omega arith) (omega (arith, c .before .before .before .before .before .before .before .before .before .pre .1 .0))),
+          each-goes-on readModeByte _ _ _ (λ j. entry x (i + j)) (λ j. entry (set x (i + k) mode) (i + j)) k _ next _ (inv .1 .1 .0) (component-next _ _ _ (low at)) (mode-of _ _ _ _ _ _ (kept at) (mode-read (c .before)) ∙ ap (λ (v : ℕ). got v next) (sym put)) (λ j h. entry-other x (i + k) (i + j) mode (λ q. omega arith)),
+          kept-then (inv .1 .1 .1) (kept-set i (i + 4) x (i + k) mode (omega arith) (omega (arith, p .1 .0, at .loop-test .taken))),
         ),
       ),
     )

@@ -1,11 +1,12 @@
 -- The read-loop law; the components are the same at each turn, since only numbers after their blocks change. Assumes nothing.
 use mathlib.Core.Path.{_≡_, _∙_, subst}
-use Prim.Native.Nat.{_+_, _*_, _-_}
+use mathlib.Core.List.{List}
+use Prim.Native.Nat.{ℕ, _+_, _*_, _-_}
 use native.Mathlib.Omega.{arith}
 use borrow.Author.Needs.{needs}
 use denote.Ref.{now}
 use lib.ListN.{length}
-use Rattle.formats.specs.Model.{readUnsafe}
+use Rattle.formats.specs.Model.{Unsafe, readUnsafe}
 use Rattle.models.specs.Index.{componentPlace, unsafePlace, unsafeFrom, componentsFrom}
 use Rattle.fields.specs.Answers.{gotAs}
 use Rattle.models.proofs.IndexLaws.{kept-at, agree-low}
@@ -21,6 +22,23 @@ Inv-loop s at n c count index₀ place₀ u₀ index place u =
 abbrev μ-loop : tie.MeasureT-loop
 μ-loop s at n c count index₀ place₀ u₀ index place u =
     count - u
+
+-- how an index tells an unsafe condition by its number
+abbrev told-by : tie.Start Inv-loop μ-loop → List ℕ → ℕ → Unsafe
+told-by s x j = unsafeFrom (now (s .args .s)) (s .args .n) (s .args .c) x (unsafePlace j)
+
+-- what a turn read is told of the components as they were before the loop
+module _ (c : tie.After-unsafe-into Inv-loop μ-loop) where
+  abbrev s : tie.Start Inv-loop μ-loop
+  s = c .before .before .before .before .before .before
+
+  told : gotAs (unsafeFrom (now (s .args .s)) (s .args .n) (s .args .c) (c .unsafe-into .last .1 .1 .1 .1 .0) (892 + 6 * c .before .before .before .loop .u)) (c .unsafe-into .result) ≡ readUnsafe (s .args .n) (componentsFrom (now (s .args .s)) (now (s .args .index))) (now (s .args .s)) (c .before .before .before .loop .place)
+  told =
+      let l = c .before .before .before .loop in
+      let pre = s .pre .1 in
+      subst (λ all. gotAs (unsafeFrom (now (s .args .s)) (s .args .n) (s .args .c) (c .unsafe-into .last .1 .1 .1 .1 .0) (892 + 6 * l .u)) (c .unsafe-into .result) ≡ readUnsafe (s .args .n) all (now (s .args .s)) (l .place))
+      (components-same (now (s .args .s)) (now (s .args .index)) (l .index) (omega (arith, pre .0)) (λ j l. pre .1 j (omega (arith, pre .0))) (agree-low (l .inv .1 .1 .1) (omega arith)))
+      (c .unsafe-into .ensures .0)
 
 loop-holds : tie.Need-loop-holds Inv-loop μ-loop
 loop-holds c =
@@ -61,17 +79,10 @@ same-length c =
 returns : tie.Need-returns Inv-loop μ-loop
 unfolding gotAs unsafePlace
 returns c =
-    let a = c .before .before .before .before .before .before .before .before .before .before .before .args in
-    let pre = c .before .before .before .before .before .before .before .before .before .before .before .pre .1 in
-    let s = now (a .s) in
-    let old = now (a .index) in
-    let loop = c .before .before .before .before .before .before .before .before .loop in
-    let into = c .before .before .before .before .before .unsafe-into in
-    let x = loop .index in
-    let y = into .last .1 .1 .1 .1 .0 in
-    let same : componentsFrom s x ≡ componentsFrom s old = components-same s old x (omega (arith, pre .0)) (λ j l. pre .1 j (omega (arith, pre .0))) (agree-low (loop .inv .1 .1 .1) (omega arith)) in
-    let told = subst (λ all. gotAs (unsafeFrom s (a .n) (a .c) y (892 + 6 * loop .u)) (into .result) ≡ readUnsafe (a .n) all s (loop .place)) same (into .ensures .0) in
-    fill-stops (readUnsafe (a .n) (componentsFrom s old)) (λ x j. unsafeFrom s (a .n) (a .c) x (unsafePlace j)) (a .count) s (a .at) 892 988 old x y (loop .u) (loop .place) (loop .inv) (c .before .before .before .before .before .before .before .loop-test .taken) (into .result) told (892 + 6 * loop .u) (892 + 6 * loop .u + 6) (omega arith) (omega (arith, pre .0, c .before .before .before .before .before .before .before .loop-test .taken)) (into .ensures .1) (c .before .number .given .1)
+    let at = c .before .before .before .before .before in
+    let l = at .before .before .before .loop in
+    let taken = at .before .before .loop-test .taken in
+    fill-stops _ (told-by (s at)) _ _ _ 892 988 _ _ _ (l .u) _ (l .inv) taken _ (told at) (892 + 6 * l .u) (892 + 6 * l .u + 6) (omega arith) (omega (arith, s at .pre .1 .0, taken)) (at .unsafe-into .ensures .1) (c .before .number .given .1)
 
 enum-known-next : tie.Need-enum-known-next Inv-loop μ-loop
 enum-known-next c =
@@ -88,19 +99,14 @@ loop-less c =
 loop-again : tie.Need-loop-again Inv-loop μ-loop
 unfolding unsafePlace
 loop-again c =
-    let a = c .before .before .before .before .before .before .before .before .before .before .before .args in
-    let pre = c .before .before .before .before .before .before .before .before .before .before .before .pre .1 in
-    let s = now (a .s) in
-    let old = now (a .index) in
-    let loop = c .before .before .before .before .before .before .before .before .loop in
-    let into = c .before .before .before .before .before .unsafe-into in
-    let x = loop .index in
-    let y = into .last .1 .1 .1 .1 .0 in
-    let same : componentsFrom s x ≡ componentsFrom s old = components-same s old x (omega (arith, pre .0)) (λ j l. pre .1 j (omega (arith, pre .0))) (agree-low (loop .inv .1 .1 .1) (omega arith)) in
-    let told = subst (λ all. gotAs (unsafeFrom s (a .n) (a .c) y (892 + 6 * loop .u)) (into .result) ≡ readUnsafe (a .n) all s (loop .place)) same (into .ensures .0) in
-    fill-goes-on (readUnsafe (a .n) (componentsFrom s old)) (λ x j. unsafeFrom s (a .n) (a .c) x (unsafePlace j)) (a .count) s (a .at) 892 988 old x y (loop .u) (loop .place) (loop .inv) (c .before .before .before .before .before .before .before .loop-test .taken) (into .result) told (892 + 6 * loop .u) (892 + 6 * loop .u + 6) (omega arith) (omega (arith, pre .0, c .before .before .before .before .before .before .before .loop-test .taken)) (into .ensures .1) (c .before .next .given .1)
+    let at = c .before .before .before .before .before in
+    let a = s at .args in
+    let l = at .before .before .before .loop in
+    let taken = at .before .before .loop-test .taken in
+    let into = at .unsafe-into in
+    fill-goes-on _ (told-by (s at)) _ _ _ 892 988 _ _ _ (l .u) _ (l .inv) taken _ (told at) (892 + 6 * l .u) (892 + 6 * l .u + 6) (omega arith) (omega (arith, s at .pre .1 .0, taken)) (into .ensures .1) (c .before .next .given .1)
     (into .kept .1 .1 .1 .1 .0)
-    (λ j h. unsafe-same s (a .n) (a .c) x y (892 + 6 * j) (pre .0 .1 .1 .0) (agree-low (into .ensures .1) (omega arith)))
+    (λ j h. unsafe-same (now (a .s)) (a .n) (a .c) (l .index) (into .last .1 .1 .1 .1 .0) (892 + 6 * j) (s at .pre .1 .0 .1 .1 .0) (agree-low (into .ensures .1) (omega arith)))
 
 same-length-2 : tie.Need-same-length-2 Inv-loop μ-loop
 same-length-2 c =

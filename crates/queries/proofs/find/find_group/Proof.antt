@@ -6,7 +6,7 @@ use native.Mathlib.Omega.{arith}
 use borrow.Author.Needs.{needs}
 use denote.Ref.{now}
 use lib.ListN.{length}
-use Rattle.models.specs.Index.{entry, componentsFrom, modelFrom}
+use Rattle.models.specs.Index.{entry, modelFrom}
 use Rattle.rules.specs.Obligations.{Obligation, locationObligations}
 use Rattle.papers.specs.Paper.{regionsOf}
 use Rattle.queries.specs.Finding.{oneAt, groupObligations}
@@ -41,31 +41,15 @@ add-groups c = omega (arith, c .before .before .before .before .pre .0 .good .co
 loop-holds : tie.Need-loop-holds Inv-loop μ-loop
 unfolding entry
 loop-holds c =
-    let a = c .before .before .before .before .args in
-    let p = c .before .before .before .before .pre in
-    let model = now (a .model) in
-    let index = now (a .index) in
-    let second = now (a .second) in
-    let regions = now (a .regions) in
-    let m = modelFrom model index in
-    let regionAt = regionsOf model index second regions in
-    let components = componentsFrom model index in
-    let whole : locationObligations m regionAt (a .location) ≡ joinedOn (groupObligations m regionAt (a .location)) (2 + entry index 2) 0 = location-groups model index regionAt (a .location) (2 + entry index 2) refl in
-    (omega arith, (ap (λ (xs : List Obligation). oneAt xs (a .o)) (append-nil _ ∙ sym whole), subst (λ (xs : List Obligation). a .o < length xs) whole (p .1 .1)))
+    let s = c .before .before .before .before in
+    let whole = location-groups (now (s .args .model)) (now (s .args .index)) (regionsOf (now (s .args .model)) (now (s .args .index)) (now (s .args .second)) (now (s .args .regions))) (s .args .location) (2 + entry (now (s .args .index)) 2) refl in
+    (omega arith, (ap (λ (xs : List Obligation). oneAt xs (s .args .o)) (append-nil _ ∙ sym whole), subst (λ (xs : List Obligation). s .args .o < length xs) whole (s .pre .1 .1)))
 
 group-goals-requires : tie.Need-group-goals-requires Inv-loop μ-loop
 unfolding entry
 group-goals-requires c κs =
-    let a = c .before .before .before .before .before .before .args in
     let p = c .before .before .before .before .before .before .pre in
-    let model = now (a .model) in
-    let index = now (a .index) in
-    let second = now (a .second) in
-    let regions = now (a .regions) in
-    let m = modelFrom model index in
-    let regionAt = regionsOf model index second regions in
-    let components = componentsFrom model index in
-    (p .0, (stands-at model index (a .location) (c .before .before .before .modes-at .result) _ (p .0 .good) (p .1 .0) (c .before .before .before .modes-at .ensures), c .loop-test .taken))
+    (p .0, (stands-at _ _ _ _ _ (p .0 .good) (p .1 .0) (c .before .before .before .modes-at .ensures), c .loop-test .taken))
 
 returns : tie.Need-returns Inv-loop μ-loop
 unfolding entry
@@ -89,34 +73,14 @@ loop-less c = omega (arith, c .before .before .loop-test .taken)
 loop-again : tie.Need-loop-again Inv-loop μ-loop
 unfolding entry
 loop-again c =
-    let a = c .before .before .before .before .before .before .before .before .args in
-    let p = c .before .before .before .before .before .before .before .before .pre in
-    let model = now (a .model) in
-    let index = now (a .index) in
-    let second = now (a .second) in
-    let regions = now (a .regions) in
-    let m = modelFrom model index in
-    let regionAt = regionsOf model index second regions in
-    let components = componentsFrom model index in
     let l = c .before .before .before .loop in
-    let h : l .at < 2 + entry index 2 = c .before .before .loop-test .taken in
+    let h = c .before .before .loop-test .taken in
     let e = c .before .group-goals .ensures in
-    (omega (arith, h), (one-on (groupObligations m regionAt (a .location)) (2 + entry index 2) [] (l .at) (l .left) h e (c .if1 .left) (l .inv .1 .0), inside-on (groupObligations m regionAt (a .location)) (2 + entry index 2) [] (l .at) (l .left) h e (c .if1 .left) (l .inv .1 .1)))
+    (omega (arith, h), (one-on _ _ [] (l .at) (l .left) h e (c .if1 .left) (l .inv .1 .0), inside-on _ _ [] (l .at) (l .left) h e (c .if1 .left) (l .inv .1 .1)))
 
 returns-2 : tie.Need-returns-2 Inv-loop μ-loop
 unfolding entry
-returns-2 c =
-    let a = c .before .before .before .before .before .before .args in
-    let p = c .before .before .before .before .before .before .pre in
-    let model = now (a .model) in
-    let index = now (a .index) in
-    let second = now (a .second) in
-    let regions = now (a .regions) in
-    let m = modelFrom model index in
-    let regionAt = regionsOf model index second regions in
-    let components = componentsFrom model index in
-    let l = c .before .loop in
-    absurd (inside-end (groupObligations m regionAt (a .location)) (2 + entry index 2) (l .at) (l .left) (c .loop-test .left) (l .inv .1 .1))
+returns-2 c = absurd (inside-end _ _ _ _ (c .loop-test .left) (c .before .loop .inv .1 .1))
 
 pub find-group-spec : {M : Type 1} → statement M
 find-group-spec =

@@ -1,9 +1,8 @@
 -- The obligation sought is so many on among those from this location on. Assumes nothing.
 use mathlib.Core.Path.{_≡_}
 use mathlib.Core.List.{_++_}
-use Prim.Native.Nat.{_-_, _≤_, _<_}
+use Prim.Native.Nat.{_-_, _≤_}
 use native.Mathlib.Omega.{arith}
-use denote.Ref.{now}
 use Rattle.formats.specs.Joint.{joints}
 use Rattle.models.specs.Index.{componentsFrom, modelFrom}
 use Rattle.rules.specs.Obligations.{locationObligations, jumpsObligations}
@@ -22,17 +21,7 @@ abbrev μ-loop : tie.MeasureT-loop
 μ-loop model index second regions locations o left₀ at₀ left at = locations - at
 
 loop-holds : tie.Need-loop-holds Inv-loop μ-loop
-loop-holds c =
-    let a = c .before .before .args in
-    let p = c .before .before .pre in
-    let model = now (a .model) in
-    let index = now (a .index) in
-    let second = now (a .second) in
-    let regions = now (a .regions) in
-    let m = modelFrom model index in
-    let regionAt = regionsOf model index second regions in
-    let components = componentsFrom model index in
-    (omega arith, paper-start model index second regions (a .locations) (a .o) (p .1))
+loop-holds c = (omega arith, paper-start _ _ _ _ _ (c .before .before .args .o) (c .before .before .pre .1))
 
 location-goals-requires : tie.Need-location-goals-requires Inv-loop μ-loop
 location-goals-requires c κs = (c .before .before .before .before .pre .0, omega (arith, c .loop-test .taken, c .before .before .before .before .pre .1))
@@ -55,18 +44,9 @@ loop-less c = omega (arith, c .before .before .loop-test .taken)
 
 loop-again : tie.Need-loop-again Inv-loop μ-loop
 loop-again c =
-    let a = c .before .before .before .before .before .before .args in
-    let p = c .before .before .before .before .before .before .pre in
-    let model = now (a .model) in
-    let index = now (a .index) in
-    let second = now (a .second) in
-    let regions = now (a .regions) in
-    let m = modelFrom model index in
-    let regionAt = regionsOf model index second regions in
-    let components = componentsFrom model index in
     let l = c .before .before .before .loop in
-    let h : l .at < a .locations = c .before .before .loop-test .taken in
-    (omega (arith, h), one-on (locationObligations m regionAt) (a .locations) (jumpsObligations m regionAt 0 (joints components)) (l .at) (l .left) h (c .before .location-goals .ensures) (c .if1 .left) (l .inv .1))
+    let h = c .before .before .loop-test .taken in
+    (omega (arith, h), one-on _ _ _ (l .at) (l .left) h (c .before .location-goals .ensures) (c .if1 .left) (l .inv .1))
 
 returns-2 : tie.Need-returns-2 Inv-loop μ-loop
 returns-2 c =

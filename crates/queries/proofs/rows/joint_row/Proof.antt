@@ -32,9 +32,7 @@ row-in-requires c κs =
 
 returns : tie.Need-returns
 unfolding entry
-returns c =
-    let a = c .before .before .before .before .before .before .before .before .args in
-    c .row-in .ensures ∙ held-row (c .before .before .before .joint-table .ensures .0) (a .h)
+returns c = c .row-in .ensures ∙ held-row (c .before .before .before .joint-table .ensures .0) _
 
 pub joint-row-spec : {M : Type 1} → statement M
 joint-row-spec =

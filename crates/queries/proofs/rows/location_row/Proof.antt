@@ -1,7 +1,6 @@
 -- The table of the group, then its hypothesis. Assumes nothing.
 use mathlib.Core.Path.{refl, _∙_}
 use native.Mathlib.Omega.{arith}
-use denote.Ref.{now}
 use Rattle.models.specs.Index.{entry}
 use Rattle.papers.proofs.StandingLaws.{stands-at}
 use Rattle.queries.proofs.HeldLaws.{empty-stacked, held-row}
@@ -25,14 +24,8 @@ slice-aggregate-table-at c = search needs
 table-at-requires : tie.Need-table-at-requires
 unfolding entry
 table-at-requires c κs =
-    let a = c .before .before .before .before .before .args in
     let p = c .before .before .before .before .before .pre in
-    let model = now (a .model) in
-    let index = now (a .index) in
-    let second = now (a .second) in
-    let regions = now (a .regions) in
-    let modes = c .before .before .modes-at in
-    (p .0, (stands-at model index (a .location) (modes .result) _ (p .0 .good) (p .1 .0) (modes .ensures), (p .1 .1, (search needs, empty-stacked _ refl))))
+    (p .0, (stands-at _ _ _ _ _ (p .0 .good) (p .1 .0) (c .before .before .modes-at .ensures), (p .1 .1, (search needs, empty-stacked _ refl))))
 
 slice-aggregate-row-in : tie.Need-slice-aggregate-row-in
 slice-aggregate-row-in c = search needs
@@ -45,9 +38,7 @@ row-in-requires c κs =
 
 returns : tie.Need-returns
 unfolding entry
-returns c =
-    let a = c .before .before .before .before .before .before .before .before .before .args in
-    c .row-in .ensures ∙ held-row (c .before .before .before .table-at .ensures .0) (a .h)
+returns c = c .row-in .ensures ∙ held-row (c .before .before .before .table-at .ensures .0) _
 
 pub location-row-spec : {M : Type 1} → statement M
 location-row-spec =

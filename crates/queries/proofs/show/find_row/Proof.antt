@@ -5,10 +5,9 @@ use Prim.Native.Nat.{ℕ}
 use borrow.Author.Needs.{needs}
 use denote.Ref.{now}
 use Rattle.formats.specs.ModelSheet.{examLimits}
-use Rattle.papers.specs.Paper.{regionsOf}
 use Rattle.rules.specs.Beside.{showAnswer}
 use Rattle.queries.specs.declared.Located.{Located}
-use Rattle.queries.specs.Finding.{hypothesisLocated, rowAnswer, RowInside, soughtOne}
+use Rattle.queries.specs.Finding.{OpenFor, hypothesisLocated, rowAnswer, RowInside}
 use Rattle.queries.proofs.ShowLaws.{opens, row-found, row-stopped, row-inside, row-located, row-tells}
 use Rattle.queries.proofs.show.find_row.Statement.{statement}
 use Rattle.queries.proofs.show.find_row.Tie as tie
@@ -25,27 +24,15 @@ refused-row-requires c κs = search needs
 enum-told : tie.Need-enum-told
 enum-told c = search needs
 
+-- both sheets, once they are open
+opened : (c : tie.After-enum-told) → OpenFor examLimits (now (c .before .before .before .before .before .before .before .args .model)) (c .before .before .open-regions .last .1 .1 .0) (now (c .before .before .before .before .before .before .before .args .second)) (c .before .before .open-regions .last .1 .1 .1 .0)
+opened c = opens _ _ _ _ _ 0 0 (c .enum-told .given .1) (c .before .before .open-regions .ensures)
+
 find-requires : tie.Need-find-requires
-find-requires c κs =
-    let a = c .before .before .before .before .before .before .before .before .before .args in
-    let model = now (a .model) in
-    let second = now (a .second) in
-    let opened = c .before .before .before .before .open-regions in
-    let index = opened .last .1 .1 .0 in
-    let regions = opened .last .1 .1 .1 .0 in
-    let w = opens examLimits model index second regions (a .o) (a .h) (c .before .before .enum-told .given .1) (opened .ensures) in
-    (w .good, w .joined)
+find-requires c κs = let w = opened (c .before .before) in (w .good, w .joined)
 
 sought-row-requires : tie.Need-sought-row-requires
-sought-row-requires c κs =
-    let a = c .before .before .before .before .before .before .before .before .before .before .before .before .args in
-    let model = now (a .model) in
-    let second = now (a .second) in
-    let opened = c .before .before .before .before .before .before .before .open-regions in
-    let index = opened .last .1 .1 .0 in
-    let regions = opened .last .1 .1 .1 .0 in
-    let w = opens examLimits model index second regions (a .o) (a .h) (c .before .before .before .before .before .enum-told .given .1) (opened .ensures) in
-    (w .good, c .before .before .find .ensures .1)
+sought-row-requires c κs = (opened (c .before .before .before .before .before) .good, c .before .before .find .ensures .1)
 
 -- a row that is told stands inside its sheet, and has the sister call's numbers
 told : (model second : List ℕ) (o h : ℕ) (l : Located) → l ≡ hypothesisLocated examLimits model second o h → (l ≡ hypothesisLocated examLimits model second o h) × (RowInside model second (l .row) × (rowAnswer (l .row) ≡ showAnswer examLimits model second o h))
@@ -54,28 +41,10 @@ told model second o h l e =
     (e, (subst (RowInside model second) (sym same) (row-inside examLimits model second o h), row-tells examLimits model second o h same))
 
 returns : tie.Need-returns
-returns c =
-    let a = c .before .before .before .before .before .before .before .before .before .args in
-    let model = now (a .model) in
-    let second = now (a .second) in
-    let opened = c .before .before .before .before .open-regions in
-    let index = opened .last .1 .1 .0 in
-    let regions = opened .last .1 .1 .1 .0 in
-    let known = c .before .before .number .given in
-    told model second (a .o) (a .h) (c .refused-row .result)
-    (c .refused-row .ensures ∙ row-stopped examLimits model index second regions (a .o) (a .h) (known .0 .0) (known .0 .1 .0) (known .0 .1 .1 .0) (known .1) (opened .ensures))
+returns c = told _ _ _ _ _ (c .refused-row .ensures ∙ row-stopped _ _ _ _ _ _ _ _ _ _ (c .before .before .number .given .1) (c .before .before .before .before .open-regions .ensures))
 
 returns-2 : tie.Need-returns-2
-returns-2 c =
-    let a = c .before .before .before .before .before .before .before .before .before .before .before .before .before .args in
-    let model = now (a .model) in
-    let second = now (a .second) in
-    let opened = c .before .before .before .before .before .before .before .before .open-regions in
-    let index = opened .last .1 .1 .0 in
-    let regions = opened .last .1 .1 .1 .0 in
-    let w = opens examLimits model index second regions (a .o) (a .h) (c .before .before .before .before .before .before .enum-told .given .1) (opened .ensures) in
-    told model second (a .o) (a .h) (c .sought-row .result)
-    (row-found examLimits model index second regions (a .o) (a .h) (soughtOne model index (regionsOf model index second regions) (c .before .before .before .find .result)) w (c .before .before .before .find .ensures .0) (c .sought-row .ensures))
+returns-2 c = told _ _ _ _ _ (row-found _ _ _ _ _ _ _ _ (opened (c .before .before .before .before .before .before)) (c .before .before .before .find .ensures .0) (c .sought-row .ensures))
 
 pub find-row-spec : {M : Type 1} → statement M
 find-row-spec =

@@ -1,10 +1,14 @@
 -- A refusal of either sheet is told at once; after both the paper is good. Assumes nothing.
 use mathlib.Core.Path.{_≡_, sym, ap, _∙_}
+use mathlib.Core.List.{List}
+use Prim.Native.Nat.{ℕ, _≤_}
 use native.Mathlib.Omega.{arith}
 use borrow.Author.Needs.{needs}
 use denote.Ref.{now}
 use Rattle.formats.specs.Reading.{got, refused}
 use Rattle.formats.specs.Certificate.{readRegions}
+use Rattle.formats.specs.Model.{Model}
+use Rattle.papers.specs.Opening.{Open}
 use Rattle.fields.proofs.ChainLaws.{told-at, told-refused}
 use Rattle.models.specs.Index.{entry, modelFrom}
 use Rattle.second_sheets.specs.CertificateAnswers.{regionsFrom, regionsFor}
@@ -15,133 +19,100 @@ use Rattle.queries.proofs.ShowLaws.{paper-whole, told-stops, told-rest,
 use Rattle.queries.proofs.show.open_regions.Statement.{statement}
 use Rattle.queries.proofs.show.open_regions.Tie as tie
 
+-- the sheets once both are open, up to the regions
+module _ (c : tie.Else1) where
+  abbrev model : List ℕ
+  model = now (c .before .before .before .before .before .before .args .model)
+
+  abbrev second : List ℕ
+  second = now (c .before .before .before .before .before .before .args .second)
+
+  abbrev index : List ℕ
+  index = c .before .before .open-paper .last .1 .1 .1 .0
+
+  abbrev m : Model
+  m = modelFrom model index
+
+  opens : Open 2 model index second
+  opens = c .before .before .open-paper .ensures .1 .1 (c .if1 .left)
+
+  few : entry index 15 ≤ 4096
+  few = omega (arith, opens .accepted .counted .located, opens .accepted .few)
+
+-- a refusal of the regions is that of the second sheet
+refusal : (c : tie.After-known-told) → readRegions (m (c .before .before .before .before .before .before .before)) (second (c .before .before .before .before .before .before .before)) 4 ≡ refused (c .before .number .given .0 .0) (c .before .number .given .0 .1 .0)
+unfolding entry
+refusal c =
+    let at = c .before .before .before .before .before .before .before in
+    let read = c .before .before .before .read-regions in
+    told-refused (regionsFrom (second at) (entry (index at) 0) (read .last .1 .1 .1 .1 .0) (entry (index at) 15)) (readRegions (m at) (second at) 4) (read .ensures .0 ∙ regions-for (model at) (index at) (second at) (entry (index at) 15) 4 (opens at .accepted .counted .located)) (c .before .number .given .1)
+
 open-paper-requires : tie.Need-open-paper-requires
 open-paper-requires c κs = search needs
 
 returns : tie.Need-returns
 unfolding OpensTo
 returns c =
-    let a = c .before .before .before .before .before .before .args in
-    let model = now (a .model) in
-    let s = now (a .second) in
-    let o = c .before .before .open-paper in
-    let index = o .last .1 .1 .1 .0 in
-    let e = o .ensures .0 in
+    let e = c .before .before .open-paper .ensures .0 in
     λ k h.
     ap (λ (x : Answer). toldRefused (x .number) (x .sheet) (x .place)) e
-    ∙ told-refused-first model s k h (λ z. c .if1 .taken (ap (λ (x : Answer). x .number) e ∙ z))
+    ∙ told-refused-first _ _ k h (λ z. c .if1 .taken (ap (λ (x : Answer). x .number) e ∙ z))
 
 element-copy-out-n : tie.Need-element-copy-out-n
 element-copy-out-n c = search needs
 
 cast-n : tie.Need-cast-n
 unfolding entry
-cast-n c =
-    let a = c .before .before .before .before .before .before .before .args in
-    let model = now (a .model) in
-    let s = now (a .second) in
-    let o = c .before .before .before .open-paper in
-    let index = o .last .1 .1 .1 .0 in
-    let w = o .ensures .1 .1 (c .before .if1 .left) in
-    let m = modelFrom model index in
-    let located = w .accepted .counted .located in
-    omega (arith, w .accepted .good .most)
+cast-n c = omega (arith, opens (c .before) .accepted .good .most)
 
 element-copy-out-locations : tie.Need-element-copy-out-locations
 element-copy-out-locations c = search needs
 
 cast-locations : tie.Need-cast-locations
 unfolding entry
-cast-locations c =
-    let a = c .before .before .before .before .before .before .before .before .args in
-    let model = now (a .model) in
-    let s = now (a .second) in
-    let o = c .before .before .before .before .open-paper in
-    let index = o .last .1 .1 .1 .0 in
-    let w = o .ensures .1 .1 (c .before .before .if1 .left) in
-    let m = modelFrom model index in
-    let located = w .accepted .counted .located in
-    omega (arith, located, w .accepted .few)
+cast-locations c = omega (arith, few (c .before .before))
 
 read-regions-requires : tie.Need-read-regions-requires
 unfolding entry
 read-regions-requires c κs =
-    let a = c .before .before .before .before .before .before .before .before .before .args in
-    let model = now (a .model) in
-    let s = now (a .second) in
-    let o = c .before .before .before .before .before .open-paper in
-    let index = o .last .1 .1 .1 .0 in
-    let w = o .ensures .1 .1 (c .before .before .before .if1 .left) in
-    let m = modelFrom model index in
-    let located = w .accepted .counted .located in
-    (w .brief, (w .accepted .good .most, omega (arith, located, w .accepted .few)))
+    let w = opens (c .before .before .before) in
+    (w .brief, (w .accepted .good .most, omega (arith, few (c .before .before .before))))
 
 enum-known-number : tie.Need-enum-known-number
 enum-known-number c = search needs
 
 cast-t20 : tie.Need-cast-t20
-unfolding entry
 cast-t20 c =
-    let a = c .before .before .before .before .before .before .before .before .before .before .before .before .before .args in
-    let model = now (a .model) in
-    let s = now (a .second) in
-    let o = c .before .before .before .before .before .before .before .before .before .open-paper in
-    let index = o .last .1 .1 .1 .0 in
-    let w = o .ensures .1 .1 (c .before .before .before .before .before .before .before .if1 .left) in
-    let m = modelFrom model index in
-    let located = w .accepted .counted .located in
-    let read = c .before .before .before .read-regions in
-    let regions = read .last .1 .1 .1 .1 .0 in
-    let all = regionsFrom s (entry index 0) regions (entry index 15) in
-    let told = c .before .number .given in
-    let e : readRegions m s 4 ≡ refused (told .0 .0) (told .0 .1 .0) = told-refused all (readRegions m s 4) (read .ensures .0 ∙ regions-for model index s (entry index 15) 4 located) (told .1) in
-    omega (arith, regions-refused-at m s 4 (told .0 .0) (told .0 .1 .0) (w .bodied) e, w .brief)
+    let w = opens (c .before .before .before .before .before .before .before) in
+    omega (arith, regions-refused-at _ _ 4 _ _ (w .bodied) (refusal c), w .brief)
 
 enum-told : tie.Need-enum-told
 enum-told c = search needs
 
 returns-2 : tie.Need-returns-2
-unfolding OpensTo entry
-returns-2 c =
-    let a = c .before .before .before .before .before .before .before .before .before .before .before .before .before .args in
-    let model = now (a .model) in
-    let s = now (a .second) in
-    let o = c .before .before .before .before .before .before .before .before .before .open-paper in
-    let index = o .last .1 .1 .1 .0 in
-    let w = o .ensures .1 .1 (c .before .before .before .before .before .before .before .if1 .left) in
-    let m = modelFrom model index in
-    let located = w .accepted .counted .located in
-    let read = c .before .before .before .read-regions in
-    let regions = read .last .1 .1 .1 .1 .0 in
-    let all = regionsFrom s (entry index 0) regions (entry index 15) in
-    let told = c .before .number .given in
-    let e : readRegions m s 4 ≡ refused (told .0 .0) (told .0 .1 .0) = told-refused all (readRegions m s 4) (read .ensures .0 ∙ regions-for model index s (entry index 15) 4 located) (told .1) in
-    λ k h. told-stops m s k h (readRegions m s 4) (told .0 .0) (told .0 .1 .0) e ∙ told-open model s k h w
+unfolding OpensTo
+returns-2 c = λ k h. told-stops _ _ k h _ _ _ (refusal c) ∙ told-open _ _ k h (opens (c .before .before .before .before .before .before .before))
 
 returns-3 : tie.Need-returns-3
 unfolding OpensTo entry
 returns-3 c =
-    let a = c .before .before .before .before .before .before .before .before .before .before .before .before .args in
-    let model = now (a .model) in
-    let s = now (a .second) in
-    let o = c .before .before .before .before .before .before .before .before .open-paper in
-    let index = o .last .1 .1 .1 .0 in
-    let w = o .ensures .1 .1 (c .before .before .before .before .before .before .if1 .left) in
-    let m = modelFrom model index in
+    let at = c .before .before .before .before .before .before in
+    let w = opens at in
     let located = w .accepted .counted .located in
+    let locations = entry (index at) 15 in
     let read = c .before .before .read-regions in
     let regions = read .last .1 .1 .1 .1 .0 in
-    let all = regionsFrom s (entry index 0) regions (entry index 15) in
+    let all = regionsFrom (second at) (entry (index at) 0) regions locations in
     let told = c .enum-told .given in
-    let e : regionsFor (entry index 15) (entry index 0) s 4 ≡ got all (told .0 .0) = told-at all (regionsFor (entry index 15) (entry index 0) s 4) (read .ensures .0) (told .1) in
-    let reads : readRegions m s 4 ≡ got all (told .0 .0) = sym (regions-for model index s (entry index 15) 4 located) ∙ e in
+    let e : regionsFor locations (entry (index at) 0) (second at) 4 ≡ got all (told .0 .0) = told-at all (regionsFor locations (entry (index at) 0) (second at) 4) (read .ensures .0) (told .1) in
+    let reads : readRegions (m at) (second at) 4 ≡ got all (told .0 .0) = sym (regions-for (model at) (index at) (second at) locations 4 located) ∙ e in
     record {
-      good = good-paper (entry index 15) 4 (told .0 .0) (w .accepted) (w .brief) located e;
+      good = good-paper locations 4 (told .0 .0) (w .accepted) (w .brief) located e;
       joined = w .accepted .joined;
       told = λ k h.
-          paper-whole model index s regions (entry index 15) k h located
-          ∙ told-rest m s k h (readRegions m s 4) all (told .0 .0) reads
-          ∙ told-open model s k h w;
+          paper-whole (model at) (index at) (second at) regions locations k h located
+          ∙ told-rest (m at) (second at) k h (readRegions (m at) (second at) 4) all (told .0 .0) reads
+          ∙ told-open (model at) (second at) k h w;
     }
 
 pub open-regions-spec : {M : Type 1} → statement M

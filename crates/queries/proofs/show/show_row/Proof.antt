@@ -1,15 +1,21 @@
 -- By cases on where the row stands; the part ends inside its sheet. Assumes nothing.
-use mathlib.Core.Path.{refl}
+use mathlib.Core.Path.{_≡_, refl}
 use mathlib.Core.List.{[]}
 use borrow.Author.Needs.{needs}
 use denote.Ref.{now}
 use Rattle.formats.specs.ModelSheet.{examLimits}
+use Rattle.rules.specs.Beside.{findHypothesis}
+use Rattle.queries.specs.Finding.{rowFound}
 use Rattle.queries.proofs.ShowLaws.{row-located, inside-model, inside-second, shown-in-model, shown-in-second, shown-nowhere, shown-refused, part-size}
 use Rattle.queries.proofs.show.show_row.Statement.{statement}
 use Rattle.queries.proofs.show.show_row.Tie as tie
 
 find-row-requires : tie.Need-find-row-requires
 find-row-requires c κs = search needs
+
+-- the row that was found is that of the hypothesis
+found : (c : tie.After-find-row) → c .find-row .result .row ≡ rowFound (findHypothesis examLimits (now (c .before .before .before .args .model)) (now (c .before .before .before .args .second)) (c .before .before .before .args .o) (c .before .before .before .args .h))
+found c = row-located _ _ _ _ _ (c .find-row .ensures .0)
 
 enum-known-row : tie.Need-enum-known-row
 enum-known-row c = search needs
@@ -30,11 +36,7 @@ part-result-start : tie.Need-part-result-start
 part-result-start c = search needs
 
 part-result-end : tie.Need-part-result-end
-part-result-end c =
-    let a = c .before .before .before .before .before .before .args in
-    let told = c .before .row .given in
-    let found = c .before .before .before .find-row in
-    inside-model examLimits (now (a .model)) (now (a .second)) (a .o) (a .h) (row-located examLimits (now (a .model)) (now (a .second)) (a .o) (a .h) (found .ensures .0)) (found .ensures .1 .0) [] (told .0 .0) (told .0 .1 .0) (told .1)
+part-result-end c = inside-model _ _ _ _ _ (found (c .before .before .before)) (c .before .before .before .find-row .ensures .1 .0) [] _ _ (c .before .row .given .1)
 
 enum-known-row-2 : tie.Need-enum-known-row-2
 enum-known-row-2 c = search needs
@@ -55,11 +57,7 @@ part-result-start-2 : tie.Need-part-result-start-2
 part-result-start-2 c = search needs
 
 part-result-end-2 : tie.Need-part-result-end-2
-part-result-end-2 c =
-    let a = c .before .before .before .before .before .before .args in
-    let told = c .before .row2 .given in
-    let found = c .before .before .before .find-row in
-    inside-second examLimits (now (a .model)) (now (a .second)) (a .o) (a .h) (row-located examLimits (now (a .model)) (now (a .second)) (a .o) (a .h) (found .ensures .0)) (found .ensures .1 .0) [] (told .0 .0) (told .0 .1 .0) (told .1)
+part-result-end-2 c = inside-second _ _ _ _ _ (found (c .before .before .before)) (c .before .before .before .find-row .ensures .1 .0) [] _ _ (c .before .row2 .given .1)
 
 enum-told : tie.Need-enum-told
 enum-told c = search needs
@@ -87,31 +85,19 @@ part-result-end-4 c = search needs
 
 returns : tie.Need-returns
 returns c =
-    let a = c .before .before .before .before .before .before .before .args in
     let told = c .before .before .row .given in
-    let found = c .before .before .before .before .find-row in
-    shown-in-model examLimits (now (a .model)) (now (a .second)) (a .o) (a .h) (row-located examLimits (now (a .model)) (now (a .second)) (a .o) (a .h) (found .ensures .0)) (found .ensures .1 .0) _ (told .0 .0) (told .0 .1 .0) (told .1) (part-size (now (a .model)) (told .0 .0) (told .0 .1 .0))
+    shown-in-model _ _ _ _ _ (found (c .before .before .before .before)) (c .before .before .before .before .find-row .ensures .1 .0) _ _ _ (told .1) (part-size _ (told .0 .0) (told .0 .1 .0))
 
 returns-2 : tie.Need-returns-2
 returns-2 c =
-    let a = c .before .before .before .before .before .before .before .args in
     let told = c .before .before .row2 .given in
-    let found = c .before .before .before .before .find-row in
-    shown-in-second examLimits (now (a .model)) (now (a .second)) (a .o) (a .h) (row-located examLimits (now (a .model)) (now (a .second)) (a .o) (a .h) (found .ensures .0)) (found .ensures .1 .0) _ (told .0 .0) (told .0 .1 .0) (told .1) (part-size (now (a .second)) (told .0 .0) (told .0 .1 .0))
+    shown-in-second _ _ _ _ _ (found (c .before .before .before .before)) (c .before .before .before .before .find-row .ensures .1 .0) _ _ _ (told .1) (part-size _ (told .0 .0) (told .0 .1 .0))
 
 returns-3 : tie.Need-returns-3
-returns-3 c =
-    let a = c .before .before .before .before .before .before .args in
-    let told = c .before .enum-told .given in
-    let found = c .before .before .before .find-row in
-    shown-nowhere examLimits (now (a .model)) (now (a .second)) (a .o) (a .h) (row-located examLimits (now (a .model)) (now (a .second)) (a .o) (a .h) (found .ensures .0)) (found .ensures .1 .0) [] (told .1) refl
+returns-3 c = shown-nowhere _ _ _ _ _ (found (c .before .before .before)) (c .before .before .before .find-row .ensures .1 .0) [] (c .before .enum-told .given .1) refl
 
 returns-4 : tie.Need-returns-4
-returns-4 c =
-    let a = c .before .before .before .before .before .before .args in
-    let told = c .before .enum-told2 .given in
-    let found = c .before .before .before .find-row in
-    shown-refused examLimits (now (a .model)) (now (a .second)) (a .o) (a .h) (row-located examLimits (now (a .model)) (now (a .second)) (a .o) (a .h) (found .ensures .0)) (found .ensures .1 .0) [] (told .0 .0) (told .0 .1 .0) (told .0 .1 .1 .0) (told .1) refl
+returns-4 c = shown-refused _ _ _ _ _ (found (c .before .before .before)) (c .before .before .before .find-row .ensures .1 .0) [] _ _ _ (c .before .enum-told2 .given .1) refl
 
 pub show-row-spec : {M : Type 1} → statement M
 show-row-spec =

@@ -11,10 +11,9 @@ use Rattle.models.specs.Counts.{perComponent, KnownSwitches}
 use Rattle.joint_switches.specs.declared.Slot.{Slot}
 use Rattle.joint_switches.specs.declared.Landing.{Landing}
 use Rattle.joint_switches.specs.Slots.{landingIn, landingOf, Listed}
 use Rattle.papers.specs.Standing.{Stands}
 use Rattle.papers.proofs.StandingLaws.{stands-at}
 use Rattle.papers.proofs.FoundLaws.{found-below, found-first, found-switches}
-use Rattle.queries.specs.Finding.{ListedFrom}
 
 -- a location stands with its modes
 pub stands-there : {model index : List ℕ} → GoodIndex model index → (location : ℕ) → location < locationCount (componentsFrom model index) → Stands model index location (modesAt (componentsFrom model index) location)
@@ -23,8 +22,8 @@ stands-there {model} {index} g location h =
     stands-at model index location modes [] g h (sym (append-nil modes))
 
 -- the modes that a table was made from are those of the location
-pub listed-there : {model index : List ℕ} → GoodIndex model index → (location e : ℕ) (modes ways : List ℕ) (slot : Slot) → Stands model index location modes → Listed model index modes e ways slot → ListedFrom model index location ways slot
-listed-there {model} {index} g location e modes ways slot stands listed =
+pub listed-there : {model index modes ways : List ℕ} {location e : ℕ} {slot : Slot} → GoodIndex model index → Stands model index location modes → Listed model index modes e ways slot → Listed model index (modesAt (componentsFrom model index) location) (slot .e) ways slot
+listed-there {model} {index} {modes} {ways} {location} {e} {slot} g stands listed =
     let components = componentsFrom model index in
     let there = modesAt components location in
     let same : perComponent index modes ≡ perComponent index there = stands .here ∙ sym (stands-there g location (stands .below) .here) in
@@ -35,11 +34,11 @@ listed-there {model} {index} g location e modes ways slot stands listed =
       landings = λ x h. listed .landings x h ∙ ap (λ (ms : List ℕ). landingOf components ms (getD (switchesOf components ms e) x [])) same;
     })
 
-module _ {model index : List ℕ} (g : GoodIndex model index) (location e : ℕ) (modes ways : List ℕ) (slot : Slot) (stands : Stands model index location modes) (k : e ≤ 15) (listed : Listed model index modes e ways slot) where
+module _ {model index modes ways : List ℕ} {location e : ℕ} {slot : Slot} (g : GoodIndex model index) (stands : Stands model index location modes) (k : e ≤ 15) (listed : Listed model index modes e ways slot) where
   pub landed-count : slot .count ≡ length (switchesOf (componentsFrom model index) (modesAt (componentsFrom model index) location) e)
   landed-count = listed .counted ∙ ap (λ (ms : List ℕ). length (switchesOf (componentsFrom model index) ms e)) (stands .here)
 
-  module _ (x : ℕ) (l : x < length (switchesOf (componentsFrom model index) (modesAt (componentsFrom model index) location) e)) (landing : Landing) (q : landing ≡ landingIn index slot ways x) where
+  module _ {landing : Landing} (x : ℕ) (l : x < length (switchesOf (componentsFrom model index) (modesAt (componentsFrom model index) location) e)) (q : landing ≡ landingIn index slot ways x) where
     told : landing ≡ landingOf (componentsFrom model index) (perComponent index modes) (getD (switchesOf (componentsFrom model index) (perComponent index modes) e) x [])
     told = q ∙ listed .landings x (omega (arith, l, landed-count))
 
