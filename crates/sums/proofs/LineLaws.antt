@@ -1,10 +1,12 @@
 -- Hypotheses of a table found by their segment: each is the line of its number, and its row that of the same number. Assumes nothing.
-use mathlib.Core.Path.{_≡_, ap, _∙_, subst}
+use mathlib.Core.Path.{_≡_, refl, ap, _∙_, subst}
 use mathlib.Core.List.{List, map}
-use Prim.Native.Nat.{ℕ, _-_, _≤_, _<_}
+use Prim.Native.Nat.{ℕ, zero, suc, _+_, _-_, _≤_, _<_}
 use native.Mathlib.Decide.{decLe}
+use native.Mathlib.Numerals.{add-one}
 use native.Mathlib.Omega.{arith}
 use lib.ListN.{length, getD, length-map}
+use borrow.Author.Tests.{lt-ltb, le-ltb}
 use Rattle.farkas.specs.Rows.{zeroRow}
 use Rattle.farkas.specs.Lists.{All}
 use Rattle.formats.proofs.Members.{all-below}
@@ -12,7 +14,7 @@ use Rattle.formats.proofs.JointCounts.{mapped-at}
 use Rattle.rules.specs.Obligations.{Hypothesis}
 use Rattle.hypotheses.specs.Tables.{TableLine, line, linesIn, endOf, formOf, placeOf, ownerOf, Stacked, hypothesisOf, hypothesisIn, hypothesesFrom, hypothesisRows, GoodLine}
 use Rattle.hypotheses.proofs.TableLaws.{lines-length, line-at}
-use Rattle.sums.specs.Summing.{InSegment, lineIn, tableLine}
+use Rattle.sums.specs.Summing.{segmentFor, InSegment, lineIn, tableLine}
 
 -- a segment that ends before the hypothesis is not the last
 pub not-last : (table : List ℕ) (g segments h : ℕ) → g ≤ segments → endOf table g ≤ h → h < endOf table segments → g < segments
@@ -24,6 +26,18 @@ not-last table g segments h a b u = go (decLe segments g)
     go : Dec (segments ≤ g) → g < segments
     go (yes k) = let e : endOf table g ≡ endOf table segments = ap (endOf table) (same g segments a k) in absurd (omega (arith, e))
     go (no k) = omega arith
+
+-- the first that ends after it: here, or later
+pub segment-here : (table : List ℕ) (h g left : ℕ) → h < endOf table g → g ≡ segmentFor table h g left
+unfolding segmentFor
+segment-here table h g zero l = refl
+segment-here table h g (suc left) l = rw (lt-ltb h (endOf table g) l) refl
+
+pub segment-later : (table : List ℕ) (h g segments : ℕ) → g < segments → endOf table g ≤ h → segmentFor table h (g + 1) (segments - (g + 1)) ≡ segmentFor table h g (segments - g)
+unfolding segmentFor
+segment-later table h g segments l k =
+    let e : segments - g ≡ suc (segments - (g + 1)) = omega arith in
+    rw (e, le-ltb h (endOf table g) k, add-one g) refl
 
 module _ (table : List ℕ) (segments g h : ℕ) (s : Stacked table segments) (i : InSegment table segments g h) where
   pub line-there : (d : TableLine) → getD (linesIn table segments) h d ≡ line (formOf table g) (placeOf table g) (ownerOf table g) (h - endOf table (g - 1))

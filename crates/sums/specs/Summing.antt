@@ -1,9 +1,10 @@
 -- What the contracts of testing proofs name: hypotheses by their segments, entries read and summed at once, and what the number of a
 -- test answers. Assumes nothing.
-use mathlib.Core.Bool.{true, false}
+use mathlib.Core.Bool.{true, false, cond}
 use mathlib.Core.List.{List}
 use mathlib.Core.Path.{_≡_}
 use Prim.Native.Nat.{ℕ, zero, suc, _-_, _≤_, _<_}
+use lib.Dec.{ltb}
 use lib.IntN.{ℤ, pos}
 use lib.ListN.{replicate}
 use Rattle.farkas.specs.Rows.{Row, zeroRow}
@@ -17,6 +18,11 @@ use Rattle.hypotheses.specs.declared.Group.{Group}
 use Rattle.hypotheses.specs.Tables.{TableLine, endOf, formOf, placeOf, line}
 use Rattle.rules.specs.Obligations.{onNext}
 use Rattle.sums.specs.declared.Line.{Line}
+
+-- the first segment from one on that ends after a hypothesis; so many others are left
+unfoldable pub segmentFor : List ℕ → ℕ → ℕ → ℕ → ℕ
+segmentFor table h g zero = g
+segmentFor table h g (suc left) = cond (ltb h (endOf table g)) g (segmentFor table h (suc g) left)
 
 -- the segment that a hypothesis lies in
 pub record InSegment (table : List ℕ) (segments g h : ℕ) : Type 0 where

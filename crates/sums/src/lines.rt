@@ -12,14 +12,14 @@ ghost use Rattle.farkas.specs.Rows.{rowOf};
 ghost use Rattle.farkas.specs.Farkas.{addRow};
 ghost use Rattle.farkas.specs.Sums.{Spare};
 ghost use Rattle.hypotheses.specs.Tables.{endOf, rowPlace, keeps, hypothesisIn, GoodLine};
-ghost use Rattle.sums.specs.Summing.{InSegment, lineIn, tableLine};
+ghost use Rattle.sums.specs.Summing.{segmentFor, InSegment, lineIn, tableLine};
 
 // The segment of a hypothesis, from a segment on that does not come after it. How many segments there are is not asked: the hypothesis
 // lies before the end of the last.
 pub fn segment_of(table: &[u16], from: usize, segments: usize, h: u32) -> usize
     requires { ⌜ (1 ≤ from) × ((from ≤ segments) × ((segments ≤ 23) × (96 ≤ length (now table)))) ⌝ }
     requires { ⌜ (endOf (now table) (from - 1) ≤ h) × (h < endOf (now table) segments) ⌝ }
-    ensures { λ r. ⌜ (from ≤ r) × InSegment (now (table .entry)) segments r h ⌝ }
+    ensures { λ r. ⌜ ((r ≡ segmentFor (now (table .entry)) h from (segments - from)) × (from ≤ r)) × InSegment (now (table .entry)) segments r h ⌝ }
 {
     let mut g = from;
     while table[4 * g] as u32 <= h {

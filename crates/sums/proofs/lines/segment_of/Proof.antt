@@ -1,22 +1,24 @@
 -- The hypothesis does not come before the segment, and comes before the end of the last. Assumes nothing.
-use mathlib.Core.Path.{_≡_, ap}
+use mathlib.Core.Path.{_≡_, refl, ap, _∙_}
 use Prim.Native.Nat.{ℕ, _+_, _*_, _-_, _≤_, _<_}
 use native.Mathlib.Omega.{arith}
 use denote.Ref.{now}
 use Rattle.models.specs.Index.{entry}
 use Rattle.hypotheses.specs.Tables.{endOf}
-use Rattle.sums.proofs.LineLaws.{not-last}
+use Rattle.sums.specs.Summing.{segmentFor}
+use Rattle.sums.proofs.LineLaws.{not-last, segment-here, segment-later}
 use Rattle.sums.proofs.lines.segment_of.Statement.{statement}
 use Rattle.sums.proofs.lines.segment_of.Tie as tie
 
 abbrev Inv-loop : tie.InvT-loop
-Inv-loop table from segments h g₀ g = (1 ≤ g) × ((from ≤ g) × ((g ≤ segments) × (endOf table (g - 1) ≤ h)))
+Inv-loop table from segments h g₀ g =
+    (1 ≤ g) × ((from ≤ g) × ((g ≤ segments) × ((endOf table (g - 1) ≤ h) × (segmentFor table h g (segments - g) ≡ segmentFor table h from (segments - from)))))
 
 abbrev μ-loop : tie.MeasureT-loop
 μ-loop table from segments h g₀ g = segments - g
 
 loop-holds : tie.Need-loop-holds Inv-loop μ-loop
-loop-holds c = (c .pre .0 .0, (omega arith, (c .pre .0 .1 .0, c .pre .1 .0)))
+loop-holds c = (c .pre .0 .0, (omega arith, (c .pre .0 .1 .0, (c .pre .1 .0, refl))))
 
 mul-if1 : tie.Need-mul-if1 Inv-loop μ-loop
 mul-if1 c = omega (arith, c .before .pre .0 .1 .1 .0)
@@ -56,7 +58,8 @@ loop-again c =
     let a = c .before .before .before .args in
     let l = c .before .before .loop in
     let same : endOf (now (a .table)) (l .g + 1 - 1) ≡ endOf (now (a .table)) (l .g) = ap (endOf (now (a .table))) (less (l .g)) in
-    (omega arith, (omega arith, (omega (arith, more c), omega (arith, same, reached c))))
+    let later = segment-later (now (a .table)) (a .h) (l .g) (a .segments) (more c) (reached c) in
+    (omega arith, (omega arith, (omega (arith, more c), (omega (arith, same, reached c), later ∙ l .inv .1 .1 .1 .1))))
   where
     less : (g : ℕ) → g + 1 - 1 ≡ g
     less g = omega arith
@@ -64,7 +67,10 @@ loop-again c =
 returns : tie.Need-returns Inv-loop μ-loop
 returns c =
     let l = c .before .before .loop in
-    (l .inv .1 .0, record { least = l .inv .0; most = l .inv .1 .1 .0; from = l .inv .1 .1 .1; below = past c })
+    let a = c .before .before .before .args in (
+      (segment-here (now (a .table)) (a .h) (l .g) (a .segments - l .g) (past c) ∙ l .inv .1 .1 .1 .1, l .inv .1 .0),
+      record { least = l .inv .0; most = l .inv .1 .1 .0; from = l .inv .1 .1 .1 .0; below = past c },
+    )
 
 pub segment-of-spec : {M : Type 1} → statement M
 segment-of-spec =
