@@ -16,6 +16,7 @@ use models::layout::Index;
 use models::layout::UNSAFE_LENGTH;
 use models::layout::UNSAFE_ROWS_AT;
 use models::layout::VARIABLES_AT;
+use papers::regions::region_rows;
 use papers::standing::all_start;
 use papers::standing::modes_fit;
 use second_sheets::ranges::Regions;
@@ -169,14 +170,6 @@ fn no_group() -> Group
         width: 17,
         zero: false,
     }
-}
-
-// How many rows a location's region has.
-pub fn region_rows(regions: &[u16], location: u32) -> u32
-    requires { ⌜ (128 ≤ length (now regions)) × (location < 64) ⌝ }
-    ensures { λ r. ⌜ r ≡ entry (now (regions .entry)) (2 * location + 1) ⌝ }
-{
-    regions[2 * (location as usize) + 1] as u32
 }
 
 // The rows of a location's region, to be proved from a table on the unknowns from `shift` on.

@@ -20,7 +20,8 @@ pub const ENTERING_LENGTH: usize = 512;
 
 pub type EnteringTable = [u8; ENTERING_LENGTH];
 
-// The switches of all components are counted by the modes that they lead into and their labels, in an empty table.
+// The switches of all components are counted by the modes that they lead into and their labels, in an empty table. The parts of components
+// that there are not are free.
 pub fn count_entering(s: &[u8], index: &Index, table: &mut [u8])
     requires { ⌜ GoodIndex (now s) (now index) ⌝ }
     requires { ⌜ (512 ≤ length (now table)) × Blank 0 (now table) ⌝ }

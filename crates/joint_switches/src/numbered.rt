@@ -45,7 +45,7 @@ fn count_part(s: &[u8], index: &Index, k: usize, width: usize, step: usize, tabl
     }
 }
 
-// The switches of all components are counted, in an empty table.
+// The switches of all components are counted, in an empty table. The parts of components that there are not are free.
 pub fn count_switches(s: &[u8], index: &Index, width: usize, step: usize, table: &mut [u8])
     requires { ⌜ GoodIndex (now s) (now index) × Wide width step ⌝ }
     requires { ⌜ (4 * width ≤ length (now table)) × Blank 0 (now table) ⌝ }

@@ -51,7 +51,7 @@ pub fn region_rows(
     requires { ⌜ location < locationCount (componentsFrom (now model) (now index)) ⌝ }
     ensures { λ r. ⌜ r ≡ length (regionsOf (now (model .entry)) (now (index .entry)) (now (second .entry)) (now (regions .entry)) location) ⌝ }
 {
-    regions[2 * (location as usize) + 1] as u32
+    papers::regions::region_rows(regions, location)
 }
 
 // How many goals a location with these modes has: its region's rows from the start, if all its modes are start modes; after a flow; and one

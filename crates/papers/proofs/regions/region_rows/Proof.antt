@@ -4,8 +4,8 @@ use Prim.Native.Nat.{_+_, _*_}
 use native.Mathlib.Omega.{arith}
 use Rattle.models.specs.Index.{entry}
 use borrow.Author.Needs.{needs}
-use Rattle.hypotheses.proofs.groups.region_rows.Statement.{statement}
-use Rattle.hypotheses.proofs.groups.region_rows.Tie as tie
+use Rattle.papers.proofs.regions.region_rows.Statement.{statement}
+use Rattle.papers.proofs.regions.region_rows.Tie as tie
 
 mul-result : tie.Need-mul-result
 mul-result c = search needs
