@@ -55,17 +55,17 @@ void model_modes(const struct sheet *model, uint32_t location, uint32_t modes[MO
     }
 }
 
-struct silfoddra_answer model_joints(const struct sheet *model, const struct silfoddra_joint **records)
+struct silfoddra_answer model_joints(const struct sheet *model, const struct limits *limits, const struct silfoddra_joint **records)
 {
-    static struct silfoddra_joint table[MOST_JOINTS];
+    static struct silfoddra_joint table[SILFODDRA_EXAM_JOINTS]; /* no desk may state more */
     *records = table;
-    return silfoddra_joint_list(model->bytes, model->length, table, MOST_JOINTS);
+    return silfoddra_joint_list(model->bytes, model->length, table, SILFODDRA_EXAM_JOINTS, limits->locations, limits->joints);
 }
 
-int model_joint(const struct sheet *model, uint32_t number, struct silfoddra_joint *joint)
+int model_joint(const struct sheet *model, const struct limits *limits, uint32_t number, struct silfoddra_joint *joint)
 {
     const struct silfoddra_joint *records;
-    struct silfoddra_answer answer = model_joints(model, &records);
+    struct silfoddra_answer answer = model_joints(model, limits, &records);
     if (number >= answer.done)
         return -1;
     *joint = records[number];

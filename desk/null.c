@@ -1,6 +1,6 @@
 /* Tries every call with null pointers of length 0, for each sheet, for the table and for a typed text, and compares the numbers handed back
-   with those for an empty sheet, table or text that has an address. Words: a model, a certificate and a run sheet of it, and a model
-   without joint switches. */
+   with those for an empty sheet, table or text that has an address. Limits are the exam's. Words: a model, a certificate and a run sheet of
+   it, and a model without joint switches. */
 #include "marker.h"
 #include "sheet.h"
 
@@ -12,6 +12,9 @@ enum { SHEETS = 4, RECORDS = 2, COEFFICIENTS = 8, MOST_NUMBERS = 5 + COEFFICIENT
 
 static uint8_t no_bytes[1];
 static struct silfoddra_joint no_records[1];
+
+static const uint32_t most_locations = SILFODDRA_EXAM_LOCATIONS;
+static const uint32_t most_joints = SILFODDRA_EXAM_JOINTS;
 
 static const struct sheet null = {.name = "null", .bytes = NULL, .length = 0};
 static const struct sheet empty = {.name = "empty", .bytes = no_bytes, .length = 0};
@@ -29,28 +32,33 @@ static struct numbers from_answer(struct silfoddra_answer a)
 
 static struct numbers certificate(const struct sheet *model, const struct sheet *second)
 {
-    return from_answer(silfoddra_mark_certificate(model->bytes, model->length, second->bytes, second->length));
+    return from_answer(silfoddra_mark_certificate(model->bytes, model->length, second->bytes, second->length,
+                                                  most_locations, most_joints));
 }
 
 static struct numbers run(const struct sheet *model, const struct sheet *second)
 {
-    return from_answer(silfoddra_mark_run(model->bytes, model->length, second->bytes, second->length));
+    return from_answer(silfoddra_mark_run(model->bytes, model->length, second->bytes, second->length,
+                                          most_locations, most_joints));
 }
 
 static struct numbers row(const struct sheet *model, const struct sheet *second)
 {
-    return from_answer(silfoddra_show_row(model->bytes, model->length, second->bytes, second->length, 0, 0));
+    return from_answer(silfoddra_show_row(model->bytes, model->length, second->bytes, second->length, 0, 0,
+                                          most_locations, most_joints));
 }
 
 static struct numbers hypothesis(const struct sheet *model, const struct sheet *second)
 {
-    struct silfoddra_row r = silfoddra_hypothesis(model->bytes, model->length, second->bytes, second->length, 0, 0);
+    struct silfoddra_row r = silfoddra_hypothesis(model->bytes, model->length, second->bytes, second->length, 0, 0,
+                                                  most_locations, most_joints);
     return (struct numbers){6, {r.number, r.sheet, r.place, r.size, r.role, r.owner}};
 }
 
 static struct numbers obligation(const struct sheet *model, const struct sheet *second)
 {
-    struct silfoddra_obligation o = silfoddra_which_obligation(model->bytes, model->length, second->bytes, second->length, 0);
+    struct silfoddra_obligation o = silfoddra_which_obligation(model->bytes, model->length, second->bytes, second->length, 0,
+                                                               most_locations, most_joints);
     return (struct numbers){6, {o.number, o.sheet, o.place, o.kind, o.subject, o.line}};
 }
 
@@ -79,8 +87,8 @@ static int try_sheets(const char *name, struct numbers (*call)(const struct shee
 static int try_table(const struct sheet *model, const struct sheet *other_model)
 {
     return compare("silfoddra_joint_list", model->name, "null",
-                   from_answer(silfoddra_joint_list(model->bytes, model->length, NULL, 0)),
-                   from_answer(silfoddra_joint_list(other_model->bytes, other_model->length, no_records, 0)));
+                   from_answer(silfoddra_joint_list(model->bytes, model->length, NULL, 0, most_locations, most_joints)),
+                   from_answer(silfoddra_joint_list(other_model->bytes, other_model->length, no_records, 0, most_locations, most_joints)));
 }
 
 /* The joint list with null for the model, and a table whose records must keep their content. */
@@ -90,8 +98,8 @@ static int try_records(void)
     memset(table, 77, sizeof table);
     memset(kept, 77, sizeof kept);
     int differs = compare("silfoddra_joint_list", null.name, "2 records",
-                          from_answer(silfoddra_joint_list(NULL, 0, table, RECORDS)),
-                          from_answer(silfoddra_joint_list(no_bytes, 0, table, RECORDS)));
+                          from_answer(silfoddra_joint_list(NULL, 0, table, RECORDS, most_locations, most_joints)),
+                          from_answer(silfoddra_joint_list(no_bytes, 0, table, RECORDS, most_locations, most_joints)));
     if (memcmp(table, kept, sizeof table) == 0)
         return differs;
     printf("the records have changed\n");

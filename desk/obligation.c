@@ -31,20 +31,22 @@ static void print_region_row(const struct sheet *model, uint32_t row, uint32_t l
     printf(", %s.\n", when);
 }
 
-static void print_after_jump(const struct sheet *model, const struct silfoddra_obligation *obligation)
+static void print_after_jump(const struct paper *paper, const struct silfoddra_obligation *obligation)
 {
     struct silfoddra_joint joint;
-    if (model_joint(model, obligation->subject, &joint) != 0)
+    if (model_joint(&paper->model, &paper->limits, obligation->subject, &joint) != 0)
         return;
-    print_region_row(model, obligation->line, joint.target, "after a jump");
+    print_region_row(&paper->model, obligation->line, joint.target, "after a jump");
     printf("Joint switch %" PRIu32 ": ", obligation->subject);
-    print_joint(model, &joint);
+    print_joint(&paper->model, &joint);
 }
 
-void print_obligation(const struct sheet *model, const struct sheet *second, uint32_t number)
+void print_obligation(const struct paper *paper, uint32_t number)
 {
+    const struct sheet *model = &paper->model;
     struct silfoddra_obligation obligation =
-        silfoddra_which_obligation(model->bytes, model->length, second->bytes, second->length, number);
+        silfoddra_which_obligation(model->bytes, model->length, paper->second.bytes, paper->second.length, number,
+                                   paper->limits.locations, paper->limits.joints);
     if (obligation.number != 0)
         return;
     printf("Obligation %" PRIu32 ": ", number);
@@ -61,7 +63,7 @@ void print_obligation(const struct sheet *model, const struct sheet *second, uin
         printf(".\n");
         break;
     default:
-        print_after_jump(model, &obligation);
+        print_after_jump(paper, &obligation);
         break;
     }
 }
@@ -116,13 +118,13 @@ static void print_row(const struct sheet *sheet, const struct silfoddra_row *row
 }
 
 /* Whether a row of a variable that stays is the second of its two: then the first is the hypothesis before it. */
-static int is_second_of_two(const struct sheet *model, const struct sheet *second, uint32_t obligation, uint32_t hypothesis,
-                            const struct silfoddra_row *row)
+static int is_second_of_two(const struct paper *paper, uint32_t obligation, uint32_t hypothesis, const struct silfoddra_row *row)
 {
     if (hypothesis == 0)
         return 0;
     struct silfoddra_row before =
-        silfoddra_hypothesis(model->bytes, model->length, second->bytes, second->length, obligation, hypothesis - 1);
+        silfoddra_hypothesis(paper->model.bytes, paper->model.length, paper->second.bytes, paper->second.length, obligation,
+                             hypothesis - 1, paper->limits.locations, paper->limits.joints);
     return before.role == STAYING && before.owner == row->owner;
 }
 
@@ -136,18 +138,18 @@ static void print_staying_row(const struct sheet *model, uint32_t variable, int 
     print_inequality(numbers, 2 * variables + 1, variables);
 }
 
-void print_hypothesis(const struct sheet *model, const struct sheet *second, uint32_t obligation, uint32_t hypothesis,
-                      const struct silfoddra_row *row)
+void print_hypothesis(const struct paper *paper, uint32_t obligation, uint32_t hypothesis, const struct silfoddra_row *row)
 {
+    const struct sheet *model = &paper->model;
     printf("Hypothesis %" PRIu32 ": ", hypothesis);
     print_role(row);
     if (row->sheet != IN_NO_SHEET) {
-        print_row(row->sheet == IN_MODEL ? model : second, row, model_variables(model));
+        print_row(row->sheet == IN_MODEL ? model : &paper->second, row, model_variables(model));
         return;
     }
     printf("Place: no sheet.\n");
     if (row->role == STAYING)
-        print_staying_row(model, row->owner, is_second_of_two(model, second, obligation, hypothesis, row));
+        print_staying_row(model, row->owner, is_second_of_two(paper, obligation, hypothesis, row));
     else
         printf("  -time <= 0\n");
 }

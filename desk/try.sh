@@ -57,6 +57,17 @@ edit() {
     printf "$(printf '\\x%s' "${@:4}")" | dd of="$2" bs=1 seek="$3" conv=notrunc status=none
 }
 
+# sheet NAME BYTE..: a sheet of these bytes, in hexadecimal, after the two that say how many follow
+sheet() {
+    printf "$(printf '\\x%s' $(printf '%02x %02x' $(($# - 1 >> 8)) $(($# - 1 & 255))) "${@:2}")" >"$1"
+}
+
+# times COUNT BYTE..: the bytes so often
+times() {
+    local i
+    for ((i = 0; i < $1; i++)); do printf '%s ' "${@:2}"; done
+}
+
 echo '# Accepted, and refused'
 try desk examples/tank.model examples/tank.certificate
 try desk examples/unsafe-tank.model examples/tank.certificate
@@ -183,6 +194,93 @@ try desk --joints empty
 echo '# Null pointers in place of each sheet, of the table and of a typed text'
 try null examples/plant.model examples/plant.certificate examples/unsafe-plant.run examples/tank.model
 
+# Models without rows: a component of each of the numbers of modes, and no switches; or one mode in each of four components, with so many
+# switches each that move together, and in the last component as many that move alone as the second number says. Certificates without
+# regions and proofs.
+modes() {
+    local count components=
+    for count in "${@:2}"; do components+=" 00 00 0$count 00 $(times "$count" 01 00 00 00)"; done
+    sheet "$1" 01 01 01 "0$(($# - 1))" 00 00 $components
+}
+switches() {
+    local first
+    first=$(times 3 00 02 01 "0$2" 01 00 00 00 $(times "$2" 00 00 01 00))
+    sheet "$1" 01 01 01 04 00 00 $first 00 02 01 "0$(($2 + $3))" 01 00 00 00 $(times "$2" 00 00 01 00) $(times "$3" 00 00 00 00)
+}
+regions() {
+    sheet "$1" 01 02 "$(printf '%02x' "$2")" $(times "$2" 00)
+}
+modes 16.model 4 4
+regions 16.certificate 16
+modes 18.model 3 6
+regions 18.certificate 18
+modes 64.model 8 8
+regions 64.certificate 64
+modes 72.model 8 3 3
+switches 256.model 4 0
+switches 257.model 4 1
+switches 4096.model 8 0
+switches 4097.model 8 1
+regions 1.certificate 1
+
+echo '# The exam desk on both sides of its limits'
+try desk 64.model 64.certificate
+try desk 72.model 64.certificate
+try desk 4096.model 1.certificate
+try desk 4097.model 1.certificate
+try desk --joints 4097.model
+
+echo '# The practice desk: on both sides of its limits, accepted, refused, rows and joint switches'
+try desk --practice 16.model 16.certificate
+try desk --practice 18.model 18.certificate
+try desk --practice 64.model empty
+try desk --practice 256.model 1.certificate
+try desk --practice 257.model 1.certificate
+try desk --practice --joints 18.model
+try desk --practice --joints 257.model
+try desk --practice --row 0 0 257.model 1.certificate
+try desk --practice --row 0 0 18.model 18.certificate
+try desk --practice examples/tank.model examples/tank.certificate
+try desk --practice examples/plant.model examples/plant.certificate
+try desk --practice examples/unsafe-plant.model examples/unsafe-plant.run
+try desk --practice examples/plant.model jump.certificate
+try desk --practice examples/unsafe-plant.model flow.run
+try desk --practice empty empty
+try desk --practice --row 49 19 examples/plant.model examples/plant.certificate
+try desk --practice --row 115 0 examples/plant.model examples/plant.certificate
+try desk --practice --joints examples/tank.model
+
+echo '# Other limits: as many as the plant has, one more, one less of each, one less of both, one'
+try desk --limits 8 22 examples/plant.model examples/plant.certificate
+try desk --limits 9 23 examples/plant.model examples/plant.certificate
+try desk --limits 7 22 examples/plant.model examples/plant.certificate
+try desk --limits 8 21 examples/plant.model examples/plant.certificate
+try desk --limits 7 21 examples/plant.model examples/plant.certificate
+try desk --limits 1 1 examples/plant.model examples/plant.certificate
+try desk --limits 64 1 examples/plant.model examples/plant.certificate
+try desk --limits 1 1 examples/tank.model examples/tank.certificate
+try desk --limits 8 22 examples/unsafe-plant.model examples/unsafe-plant.run
+try desk --limits 7 22 examples/unsafe-plant.model examples/unsafe-plant.run
+try desk --limits 8 21 --row 3 17 examples/plant.model examples/plant.certificate
+try desk --limits 8 22 --row 3 17 examples/plant.model examples/plant.certificate
+try desk --limits 7 4096 --joints examples/plant.model
+try desk --limits 64 4096 64.model 64.certificate
+try desk --limits 64 4095 4096.model 1.certificate
+try desk --limits 1 4096 4096.model 1.certificate
+
+echo '# Limits out of their ranges: refused before any sheet, and before the number of an obligation'
+try desk --limits 0 4096 examples/tank.model examples/tank.certificate
+try desk --limits 64 0 examples/tank.model examples/tank.certificate
+try desk --limits 65 4096 examples/tank.model examples/tank.certificate
+try desk --limits 64 4097 examples/tank.model examples/tank.run
+try desk --limits 4294967295 1 examples/tank.model examples/tank.certificate
+try desk --limits 1 4294967295 examples/tank.model examples/tank.certificate
+try desk --limits 0 0 empty empty
+try desk --limits 65 4097 72.model empty
+try desk --limits 0 1 --joints empty
+try desk --limits 64 4097 --joints examples/plant.model
+try desk --limits 65 1 --row 115 0 examples/plant.model examples/plant.certificate
+
 echo '# What the desk cannot do'
 try_full desk examples/tank.model examples/tank.certificate
 try_full desk --joints examples/plant.model
@@ -195,5 +293,20 @@ try_type x 'a <= 1'
 try_type 4294967296 'a <= 1'
 try desk --type 2
 try_full desk --type 1 'a<=1'
+try desk --limits 4294967296 4096 examples/tank.model examples/tank.certificate
+try desk --limits 64 4294967296 examples/tank.model examples/tank.certificate
+try desk --limits x 4096 examples/tank.model examples/tank.certificate
+try desk --limits 64 '' examples/tank.model examples/tank.certificate
+try desk --limits -1 4096 --joints examples/tank.model
+try desk --limits 64 +1 --row 0 0 examples/tank.model examples/tank.certificate
+try desk --practice --limits 16 256 examples/tank.model examples/tank.certificate
+try desk --limits 16 256 --practice examples/tank.model examples/tank.certificate
+try desk --practice --practice examples/tank.model examples/tank.certificate
+try desk --limits 16 256 --limits 64 4096 --joints examples/tank.model
+try desk --practice --type 1 'a<=1'
+try desk --limits 64 4096 --type 1 'a<=1'
+try desk --practice examples/tank.model examples/no-such-file
+try_full desk --practice examples/tank.model examples/tank.certificate
+try desk --limits 16 256
 try desk examples/tank.model
 try desk --help

@@ -110,9 +110,9 @@ uint32_t print_typed_row(const char *text, uint32_t variables)
     if (row.answer.number == 0) {
         print_accepted(&row, variables);
     } else if (row.answer.number == VARIABLES_REFUSED) {
-        print_refusal(&row.answer, NULL, NULL);
+        print_refusal(&row.answer, NULL);
     } else {
-        print_meaning(&row.answer);
+        print_meaning(&row.answer, NULL);
         print_place(text, length, row.answer.place);
     }
     return row.answer.number;

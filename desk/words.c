@@ -3,7 +3,11 @@
 #include <inttypes.h>
 #include <stdio.h>
 
-/* By the number of the answer. */
+/* The numbers of a model over a limit, and the sheets of a place: the model and the call itself. */
+enum { OVER_LOCATIONS = 7, OVER_JOINTS = 8 };
+enum { IN_MODEL = 0, IN_CALL = 2 };
+
+/* By the number of the answer. Those of a model over a limit are said with the limit. */
 static const char *const meanings[] = {
     "accepted",
     "the sheet has under 4 or over 32,768 bytes, or its first two bytes do not say how many follow",
@@ -12,9 +16,7 @@ static const char *const meanings[] = {
     "the sheet ends inside a field, or has bytes left after its last field",
     "a field, or a number given to the desk, is outside its range",
     "a switch has an event that is not in its component's alphabet",
-    "the model has over 64 locations",
-    "the model has over 4,096 joint switches",
-    "a proof's hypotheses are not ascending",
+    [OVER_JOINTS + 1] = "a proof's hypotheses are not ascending",
     "a proof's coefficients do not sum to k times the goal's",
     "a proof's bound fails",
     "the run's start is not allowed",
@@ -25,19 +27,38 @@ static const char *const meanings[] = {
     "a product of variables, a letter beyond the variables, or a result outside -2147483648 to 2147483647",
 };
 
-void print_meaning(const struct silfoddra_answer *answer)
+/* The limit that a model is over. */
+static void print_over(uint32_t number, const struct limits *limits)
 {
-    const char *meaning = answer->number < sizeof meanings / sizeof *meanings ? meanings[answer->number] : "an unknown number";
-    printf("Refused (%" PRIu32 "): %s.\n", answer->number, meaning);
+    printf("the model has over ");
+    if (number == OVER_LOCATIONS)
+        print_locations(limits->locations);
+    else
+        print_joints(limits->joints);
 }
 
-void print_refusal(const struct silfoddra_answer *answer, const struct sheet *model, const struct sheet *second)
+void print_meaning(const struct silfoddra_answer *answer, const struct limits *limits)
 {
-    print_meaning(answer);
-    if (answer->sheet == 2)
+    uint32_t number = answer->number;
+    printf("Refused (%" PRIu32 "): ", number);
+    if (number == OVER_LOCATIONS || number == OVER_JOINTS)
+        print_over(number, limits);
+    else
+        fputs(number < sizeof meanings / sizeof *meanings ? meanings[number] : "an unknown number", stdout);
+    printf(".\n");
+}
+
+void print_refusal(const struct silfoddra_answer *answer, const struct paper *paper)
+{
+    if (answer->sheet == IN_CALL && paper != NULL && !limits_fit(&paper->limits)) {
+        print_limits_refusal(answer->number, &paper->limits);
+        return;
+    }
+    print_meaning(answer, paper == NULL ? NULL : &paper->limits);
+    if (answer->sheet == IN_CALL)
         printf("Place: the numbers given to the desk.\n");
     else
-        printf("Place: %s, byte %" PRIu32 ".\n", answer->sheet == 0 ? model->name : second->name, answer->place);
+        printf("Place: %s, byte %" PRIu32 ".\n", answer->sheet == IN_MODEL ? paper->model.name : paper->second.name, answer->place);
 }
 
 void print_location(const struct sheet *model, uint32_t location)

@@ -4,13 +4,14 @@
 
 #include "marker.h"
 #include "model.h"
+#include "paper.h"
 #include "sheet.h"
 
-/* Why a paper or a text is refused. */
-void print_meaning(const struct silfoddra_answer *answer);
+/* Why a paper or a text is refused. The limits are looked at only where the model is over one of them. */
+void print_meaning(const struct silfoddra_answer *answer, const struct limits *limits);
 
-/* The same, and the place. A sheet is looked at only if the place is in it. */
-void print_refusal(const struct silfoddra_answer *answer, const struct sheet *model, const struct sheet *second);
+/* The same, and the place. The paper is null for a typed row. */
+void print_refusal(const struct silfoddra_answer *answer, const struct paper *paper);
 
 /* The rest is said of a model that the marker does not refuse. */
 

@@ -1,5 +1,6 @@
 /* The marker of papers about hybrid automata, for C. Link with the archive that `rt staticlib entries` writes.
-   Document 01 defines the sheets and the answer, document 02 typed rows; what each call answers is proved for all bytes. */
+   Document 01 defines the sheets and the answer, document 02 typed rows and the limits of a desk; what each call answers is proved for
+   all bytes and all limits. */
 #ifndef SILFODDRA_MARKER_H
 #define SILFODDRA_MARKER_H
 
@@ -15,8 +16,8 @@ struct silfoddra_answer {
     /* 0 if the paper is accepted, else why it is refused:
         1 a sheet under 4 or over 32,768 bytes, or its L wrong     2 version
         3 kind                                                      4 the body cut in a field, or bytes left
-        5 a field outside its range                                 6 a label from 1 that is not in its alphabet
-        7 over 64 locations                                         8 over 4,096 joint switches
+        5 a field, argument or limit outside its range              6 a label from 1 that is not in its alphabet
+        7 more locations than the caller's limit                    8 more joint switches than the caller's limit
         9 hypotheses not ascending                                 10 coefficients unequal
        11 bound fails                                              12 the run's start not allowed
        13 a step not allowed                                       14 the run's end not unsafe
@@ -39,9 +40,9 @@ struct silfoddra_answer {
 struct silfoddra_obligation {
     /* 0, or why there is none: as in an answer, and 5 where the number is not below that of the obligations. */
     uint32_t number;
-    /* Where the place is: 1 if number is 0, else as in an answer; 2, the call itself, for a number out of range. */
+    /* Where the place is: 1 if number is 0, else as in an answer; 2, the call itself, for a number or a limit out of range. */
     uint32_t sheet;
-    /* The length of the second sheet if number is 0, else the offset of what is refused; 0 for a number out of range. */
+    /* The length of the second sheet if number is 0, else the offset of what is refused; 0 for a number or a limit out of range. */
     uint32_t place;
     /* 0 start, 1 flow, 2 unsafe, 3 jump. This and the two fields below are 0 in a refusal. */
     uint32_t kind;
@@ -75,13 +76,27 @@ struct silfoddra_row {
 /* The calls take sheets as they were handed in: the bytes, of any length, and how many there are. A null pointer with length 0 is an
    empty sheet; with any other length the pointer must not be null. The bytes are only read, and nothing of them is kept. */
 
+/* Every call that reads a model takes two limits, last: the most locations and the most joint switches that the model may have. Each
+   caller states its own, in every call. A model with more is refused, by 7 or 8; one with just as many is not.
+   The limit on locations is 1 to 64, that on joint switches 1 to 4,096, each whatever the other is. If one of them is 0 or above that, the
+   call answers 5 at sheet 2, place 0, with 0 in all other fields, before a byte of any sheet is looked at: an empty model is not even
+   refused by 1, and nothing is written. A call whose limits are in range answers 5 at sheet 2 only for its other arguments.
+   A paper within the limits of two desks gets the same answer at both. These are the limits that the exam desk states, which are also the
+   greatest, and those of the practice desk. */
+#define SILFODDRA_EXAM_LOCATIONS 64u
+#define SILFODDRA_EXAM_JOINTS 4096u
+#define SILFODDRA_PRACTICE_LOCATIONS 16u
+#define SILFODDRA_PRACTICE_JOINTS 256u
+
 /* Marks a certificate. Accepted: no run of the model, of any length and with any values, ever reaches an unsafe state. */
 struct silfoddra_answer silfoddra_mark_certificate(const uint8_t *model, size_t model_length,
-                                                   const uint8_t *second, size_t second_length);
+                                                   const uint8_t *second, size_t second_length,
+                                                   uint32_t most_locations, uint32_t most_joints);
 
 /* Marks a run sheet. Accepted: it is a run of the model, and it ends in an unsafe state. */
 struct silfoddra_answer silfoddra_mark_run(const uint8_t *model, size_t model_length,
-                                           const uint8_t *second, size_t second_length);
+                                           const uint8_t *second, size_t second_length,
+                                           uint32_t most_locations, uint32_t most_joints);
 
 /* A joint switch of a model: what happens at once when an event occurs in a location. Seven bytes, with none between them. */
 struct silfoddra_joint {
@@ -96,32 +111,36 @@ struct silfoddra_joint {
 
 /* Lists a model's joint switches in a table that the caller lends, by location, then event, then switch numbers. The answer has
    number 0, sheet 0, the model's length as its place, and done, the records written: the first ones of the table, in order. Later
-   records keep their content. A refusal writes nothing: the model's own, or 15 at sheet 2, whose place is the count of records
-   needed. The table must not overlap the model sheet, which is read while records are written. A null pointer with length 0 is
-   an empty table. */
+   records keep their content. A refusal writes nothing: that of the limits, the model's own, or 15 at sheet 2, whose place is the
+   count of records needed; a table of most_joints records is always long enough. The table must not overlap the model sheet, which
+   is read while records are written. A null pointer with length 0 is an empty table. */
 struct silfoddra_answer silfoddra_joint_list(const uint8_t *model, size_t model_length,
-                                             struct silfoddra_joint *table, size_t table_length);
+                                             struct silfoddra_joint *table, size_t table_length,
+                                             uint32_t most_locations, uint32_t most_joints);
 
 /* Beside the marking. Obligations, and hypotheses of an obligation, are numbered from 0 in the order of document 01. The model
    is read, then the second sheet, a certificate, up to the end of its regions; its proofs are not read. */
 
 /* Where the row of one hypothesis stands: number 0, and its sheet and the offset of its first byte there, or 2 and 0 for a row
-   that no sheet holds; done and score are 0. A sheet is refused as in marking; then 5 at sheet 2, place 0, where there is no such
-   obligation or hypothesis. */
+   that no sheet holds; done and score are 0. The limits and a sheet are refused as in marking; then 5 at sheet 2, place 0, where
+   there is no such obligation or hypothesis. */
 struct silfoddra_answer silfoddra_show_row(const uint8_t *model, size_t model_length,
                                            const uint8_t *second, size_t second_length,
-                                           uint32_t obligation, uint32_t hypothesis);
+                                           uint32_t obligation, uint32_t hypothesis,
+                                           uint32_t most_locations, uint32_t most_joints);
 
 /* The same row with its length in bytes, and what it is: its role among the hypotheses, and the component or variable that it is of. Its
    number, sheet and place are those of silfoddra_show_row, in a refusal too. */
 struct silfoddra_row silfoddra_hypothesis(const uint8_t *model, size_t model_length,
                                           const uint8_t *second, size_t second_length,
-                                          uint32_t obligation, uint32_t hypothesis);
+                                          uint32_t obligation, uint32_t hypothesis,
+                                          uint32_t most_locations, uint32_t most_joints);
 
 /* Which obligation has a number: whether it is of a start, a flow, an unsafe condition or a jump, where, and which row. */
 struct silfoddra_obligation silfoddra_which_obligation(const uint8_t *model, size_t model_length,
                                                        const uint8_t *second, size_t second_length,
-                                                       uint32_t obligation);
+                                                       uint32_t obligation,
+                                                       uint32_t most_locations, uint32_t most_joints);
 
 /* A typed row: what silfoddra_read_row hands back. */
 struct silfoddra_typed_row {

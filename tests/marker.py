@@ -1,10 +1,11 @@
 #!/usr/bin/env python3
-"""A second marker of papers, written from document 01 alone, to try the proved one against.
+"""A second marker of papers, written from document 01 and order 2 of document 02 alone, to try the proved one against.
 
 usage: marker.py MODEL SECOND      prints the line that the program `mark` prints for the two files, one after the other
 
 Every call hands back document 01's five numbers: number, sheet, place, done, score. Nothing here is fast or proved: each function
 says one clause of document 01 as directly as it can. Where that document can be read in two ways, docs/DECISIONS.md has the choice.
+Every call that reads a model takes the caller's limits last, and has the exam's where they are left out; the program states these.
 """
 import sys
 from collections import namedtuple
@@ -13,6 +14,11 @@ from itertools import product
 MODEL, CERTIFICATE, RUN = 1, 2, 3
 STAYS = 255
 ANY = 255
+CALL = 2
+
+Limits = namedtuple('Limits', 'locations joints')
+EXAM = Limits(64, 4096)
+PRACTICE = Limits(16, 256)
 
 Row = namedtuple('Row', 'coefs bound')
 Mode = namedtuple('Mode', 'start initial invariant flow')
@@ -27,9 +33,14 @@ Jump = namedtuple('Jump', 'event switches values')
 
 
 class Refused(Exception):
-    def __init__(self, number, place):
-        super().__init__(number, place)
-        self.number, self.place = number, place
+    """The sheet is given for the call itself; else it is the one that is being read."""
+
+    def __init__(self, number, place, sheet=None):
+        super().__init__(number, place, sheet)
+        self.number, self.place, self.sheet = number, place, sheet
+
+    def answer(self, reading, done=0, score=0):
+        return self.number, reading if self.sheet is None else self.sheet, self.place, done, score
 
 
 # Sheet
@@ -115,7 +126,14 @@ def read_unsafe(r, n, components):
     return Unsafe(modes, r.condition(n))
 
 
-def read_model(data):
+def test_limits(limits):
+    """Document 02, order 2: a stated limit of 0 or above the exam's is refused before any sheet is read."""
+    if any(not 1 <= stated <= most for stated, most in zip(limits, EXAM)):
+        raise Refused(5, 0, CALL)
+
+
+def read_model(data, limits=EXAM):
+    test_limits(limits)
     r = Reader(data, MODEL)
     n = r.within(1, 1, 8)
     c = r.within(1, 1, 4)
@@ -124,9 +142,9 @@ def read_model(data):
     components = [read_component(r, n) for _ in range(c)]
     model = Model(n, owners, components, [read_unsafe(r, n, components) for _ in range(conditions)])
     r.end()
-    if location_count(model) > 64:
+    if location_count(model) > limits.locations:
         raise Refused(7, 4)
-    if joint_count(model) > 4096:
+    if joint_count(model) > limits.joints:
         raise Refused(8, 4)
     return model
 
@@ -406,11 +424,11 @@ def score(done, total):
     return 100 * done // total if total else 100
 
 
-def mark_certificate(model_sheet, second):
+def mark_certificate(model_sheet, second, limits=EXAM):
     try:
-        model = read_model(model_sheet)
+        model = read_model(model_sheet, limits)
     except Refused as e:
-        return e.number, 0, e.place, 0, 0
+        return e.answer(0)
     done, total = 0, None
     try:
         r = Reader(second, CERTIFICATE)
@@ -422,7 +440,7 @@ def mark_certificate(model_sheet, second):
             done += 1
         r.end()
     except Refused as e:
-        return e.number, 1, e.place, done, 0 if total is None else min(99, score(done, total))
+        return e.answer(1, done, 0 if total is None else min(99, score(done, total)))
     return 0, 1, len(second), done, score(done, total)
 
 
@@ -441,11 +459,11 @@ def read_step(r, model):
     return Jump(event, switches, read_values(r, model.n))
 
 
-def mark_run(model_sheet, second):
+def mark_run(model_sheet, second, limits=EXAM):
     try:
-        model = read_model(model_sheet)
+        model = read_model(model_sheet, limits)
     except Refused as e:
-        return e.number, 0, e.place, 0, 0
+        return e.answer(0)
     done = 0
     try:
         r = Reader(second, RUN)
@@ -467,16 +485,16 @@ def mark_run(model_sheet, second):
         if not is_unsafe(model, q, modes, p):
             raise Refused(14, len(second))
     except Refused as e:
-        return e.number, 1, e.place, done, 0
+        return e.answer(1, done)
     return 0, 1, len(second), done, 100
 
 
 # Beside the marking
 
-def show_part(model_sheet, second, obligation, hypothesis):
-    """The bytes that show row gives: none where a sheet or a number is refused."""
+def show_part(model_sheet, second, obligation, hypothesis, limits=EXAM):
+    """The bytes that show row gives: none where a limit, a sheet or a number is refused."""
     try:
-        model = read_model(model_sheet)
+        model = read_model(model_sheet, limits)
         regions = read_regions(Reader(second, 2), model)
     except Refused:
         return b''
@@ -485,15 +503,15 @@ def show_part(model_sheet, second, obligation, hypothesis):
     return shown[0] if shown else b''
 
 
-def list_answer(model_sheet, lent):
+def list_answer(model_sheet, lent, limits=EXAM):
     """The joint list's answer for a table of so many records."""
     try:
-        model = read_model(model_sheet)
+        model = read_model(model_sheet, limits)
     except Refused as e:
-        return e.number, 0, e.place, 0, 0
+        return e.answer(0)
     count = joint_count(model)
     if lent < count:
-        return 15, 2, count, 0, 0
+        return 15, CALL, count, 0, 0
     return 0, 0, len(model_sheet), count, 0
 
 

@@ -1,17 +1,20 @@
 #!/usr/bin/env python3
-"""Writes the papers that crates/marking_test marks, and what it must print for each, from document 01.
+"""Writes the papers that crates/marking_test marks, and what it must print for each, from document 01 and order 2 of document 02.
 
 usage: marking_papers.py FOLDER                 writes FOLDER/stdin and FOLDER/stdout
        marking_papers.py --examples FOLDER      writes the sheets of examples/
 
-The lines come from tests/marker.py, a second marker. Where document 01 itself settles an answer, or a part of it, the paper states
+The lines come from tests/marker.py, a second marker. Where a document itself settles an answer, or a part of it, the paper states
 it here as well, and the script stops where the two differ.
 
 A record on standard input: the label's length (1 byte), the label, a kind (1), a number (2), the length of a sheet (2), the sheet.
 Kind 0 takes the sheet as the model for the records that follow, 1 marks it as a certificate, 2 as a run; 3 asks for the joint list's
-answer with so many records lent as the number says; 4 for the program's line for the sheet's bytes as its input.
+answer with so many records lent as the number says; 4 for the program's line for the sheet's bytes as its input; 5 for the part that
+show row gives, with the number's high byte as the obligation and its low byte as the hypothesis. Kind 6 states, in the sheet's eight
+bytes, the limits on locations and joint switches for the records that follow; until then they are the exam's.
 """
 import sys
+from math import prod
 from pathlib import Path
 
 sys.dont_write_bytecode = True
@@ -23,7 +26,8 @@ from tank import C, PLANT_CERTIFICATE, PLANT_RUN, SAFE_PLANT, T, UNSAFE_PLANT, t
 
 ANY = 255
 STAYS = 255
-MODEL, CERTIFICATE, RUN, LIST, INPUT, PART = range(6)
+MODEL, CERTIFICATE, RUN, LIST, INPUT, PART, LIMITS = range(7)
+EXAM, PRACTICE = marker.EXAM, marker.PRACTICE
 
 
 def data_of(sheet):
@@ -32,7 +36,7 @@ def data_of(sheet):
 
 class Papers:
     def __init__(self):
-        self.records, self.lines, self.labels, self.model = [], [], set(), b''
+        self.records, self.lines, self.labels, self.model, self.limits = [], [], set(), b'', EXAM
 
     def record(self, label, kind, number, data):
         name = label.encode()
@@ -43,35 +47,42 @@ class Papers:
         self.labels.add(label)
         self.lines.append(f'{label}: {text}')
 
-    def paper(self, label, kind, number, model_data, data, answer, expected):
+    def state(self, limits):
+        """The limits for what follows."""
+        if limits != self.limits:
+            self.record('', LIMITS, 0, b''.join(limit.to_bytes(4, 'big') for limit in limits))
+            self.limits = limits
+
+    def paper(self, label, kind, number, model_data, data, answer, expected, limits):
         """Expected: nothing, the number and the place, or all five numbers."""
-        stated = (answer[0], answer[2]) if len(expected) == 2 else answer
-        assert not expected or stated == expected, (label, answer, expected)
+        told = (answer[0], answer[2]) if len(expected) == 2 else answer
+        assert not expected or told == expected, (label, answer, expected)
+        self.state(limits)
         if model_data != self.model:
             self.record('', MODEL, 0, model_data)
             self.model = model_data
         self.record(label, kind, number, data)
         self.line(label, ' '.join(str(v) for v in answer))
 
-    def certificate(self, label, model_sheet, second, *expected):
+    def certificate(self, label, model_sheet, second, *expected, limits=EXAM):
         m, s = data_of(model_sheet), data_of(second)
-        self.paper(label, CERTIFICATE, 0, m, s, marker.mark_certificate(m, s), expected)
+        self.paper(label, CERTIFICATE, 0, m, s, marker.mark_certificate(m, s, limits), expected, limits)
 
-    def run(self, label, model_sheet, second, *expected):
+    def run(self, label, model_sheet, second, *expected, limits=EXAM):
         m, s = data_of(model_sheet), data_of(second)
-        self.paper(label, RUN, 0, m, s, marker.mark_run(m, s), expected)
+        self.paper(label, RUN, 0, m, s, marker.mark_run(m, s, limits), expected, limits)
 
-    def list(self, label, model_sheet, lent, *expected):
+    def list(self, label, model_sheet, lent, *expected, limits=EXAM):
         m = data_of(model_sheet)
-        self.paper(label, LIST, lent, m, b'', marker.list_answer(m, lent), expected)
+        self.paper(label, LIST, lent, m, b'', marker.list_answer(m, lent, limits), expected, limits)
 
-    def part(self, label, model_sheet, second, obligation, hypothesis, *expected):
+    def part(self, label, model_sheet, second, obligation, hypothesis, *expected, limits=EXAM):
         """Expected: nothing, or the numbers of the row."""
         m, s = data_of(model_sheet), data_of(second)
-        part = marker.show_part(m, s, obligation, hypothesis)
-        stated = b''.join(v.to_bytes(4, 'big', signed=True) for v in expected)
-        assert part == stated, (label, part, expected)
-        self.paper(label, PART, 256 * obligation + hypothesis, m, s, (len(part), *part), ())
+        part = marker.show_part(m, s, obligation, hypothesis, limits)
+        told = b''.join(v.to_bytes(4, 'big', signed=True) for v in expected)
+        assert part == told, (label, part, expected)
+        self.paper(label, PART, 256 * obligation + hypothesis, m, s, (len(part), *part), (), limits)
 
     def input(self, label, data, expected):
         assert marker.line(data) == expected, (label, marker.line(data), expected)
@@ -85,6 +96,7 @@ UNSAFE_AT_NINE = tank(-9)
 UNSAFE_AT_FIVE = tank(-5)
 TO_NINE = run(1, 0, (5,), flow(2, 9))
 AT_FIVE = run(1, 0, (5,))
+UNPROVED_PLANT = fixed(PLANT_CERTIFICATE.bytes()[:PLANT_CERTIFICATE.place('k0')])
 
 
 def plain(n=1, owners=None, modes=(1,), switches=None, alphabets=None, label=0, start=1, initial=0, invariant=0, rates=0, jumps=0, unsafe=1, rows=1):
@@ -172,9 +184,10 @@ def standing_still(papers):
 
 
 def shown_rows(papers):
-    """The part that show row gives: rows of all kinds, rows of no sheet, and refusals."""
-    p, plant = papers, (SAFE_PLANT, PLANT_CERTIFICATE)
-    p.part('shown: initial row', *plant, 0, 3, 0, -1, 0, 0, -20)
+    """The part that show row gives: rows of all kinds, rows of no sheet, and refusals. As proofs are not read, all certificates of the
+    plant but the first are cut before theirs."""
+    p, plant = papers, (SAFE_PLANT, UNPROVED_PLANT)
+    p.part('shown: initial row', SAFE_PLANT, PLANT_CERTIFICATE, 0, 3, 0, -1, 0, 0, -20)
     p.part('shown: invariant at the start', *plant, 0, 6, 0, -1, 0, 0, 0)
     p.part('shown: region row on x', *plant, 3, 2, 0, 1, 0, 0, 90)
     p.part('shown: invariant on x', *plant, 3, 6, 0, 0, 0, 1, 30)
@@ -796,11 +809,158 @@ def inputs(papers):
     p.input('input: last proof fails', t + C.set('multiplier2.1', 2).bytes(), 'REFUSED 10 1 34 2 66')
 
 
+# The limits that a caller states (document 02, order 2)
+
+STATED = (0, 1, 16, 17, 64, 65, 256, 257, 4096, 4097, 2 ** 32 - 1)
+EACH_STATED = [marker.Limits(n, EXAM.joints) for n in STATED] + [marker.Limits(EXAM.locations, n) for n in STATED if n != EXAM.joints]
+
+
+def under(limits, locations, joints, *answer):
+    """What the order says of a good model with so many locations and joint switches; within the limits it has this answer."""
+    if not 1 <= limits[0] <= 64 or not 1 <= limits[1] <= 4096:
+        return 5, 2, 0, 0, 0
+    if locations > limits[0]:
+        return 7, 0, 4, 0, 0
+    if joints > limits[1]:
+        return 8, 0, 4, 0, 0
+    return answer
+
+
+def named(limits):
+    return f'limits {limits[0]} {limits[1]}'
+
+
+def located(*modes):
+    """A model in which every state is unsafe, with so many modes in its components."""
+    return model([0], [component([mode()] * count) for count in modes], [([ANY] * len(modes), [])])
+
+
+def joined(together, alone=0):
+    """Four components of one mode, each with so many switches that move together, and some that move alone."""
+    counts = [together] * 3 + [together + alone]
+    sheet, proofs, _ = plain(modes=(1,) * 4, switches=counts, alphabets=[2] * 4, label=1)
+    for i in range(together, together + alone):
+        sheet = sheet.set(f'label3.{i}', 0)
+    return sheet, proofs
+
+
+def limits_of_the_tank(papers):
+    """One location and no joint switch, in each call."""
+    p = papers
+    for limits in EACH_STATED:
+        p.certificate(f'{named(limits)}: T with C', T, C, *under(limits, 1, 0, 0, 1, 49, 3, 100), limits=limits)
+        p.list(f'{named(limits)}: list of T', T, 0, *under(limits, 1, 0, 0, 0, 66, 0, 0), limits=limits)
+        row = () if under(limits, 1, 0) else (1, 10)
+        p.part(f'{named(limits)}: row of T', T, fixed(C.bytes()[:14]), 1, 0, *row, limits=limits)
+    for limits in EACH_STATED:
+        p.run(f'{named(limits)}: run to 9', UNSAFE_AT_NINE, TO_NINE, *under(limits, 1, 0, 0, 1, 24, 1, 100), limits=limits)
+
+
+def limits_on_locations(papers):
+    """1, 16, 18, 64 and 72 locations; no model has 17 or 65. The run begins in the last."""
+    p = papers
+    for modes in ((1,), (4, 4), (6, 3), (4, 4, 4), (8, 3, 3)):
+        sheet, count = located(*modes), prod(modes)
+        at_last = run(1, count - 1, (0,))
+        for most in (0, 1, 15, 16, 17, 18, 63, 64, 65, 256, 2 ** 32 - 1):
+            limits = marker.Limits(most, 1)
+            p.run(f'{count} locations, {named(limits)}', sheet, at_last, *under(limits, count, 0, 0, 1, 15, 0, 100), limits=limits)
+    for modes in ((4, 4), (6, 3)):
+        sheet, proofs, done = plain(modes=modes)
+        for most in (done - 1, done, done + 1):
+            limits = marker.Limits(most, EXAM.joints)
+            answer = under(limits, done, 0, 0, 1, proofs.length(), done, 100)
+            p.certificate(f'{done} locations with proofs, {named(limits)}', sheet, proofs if answer[0] == 0 else C, *answer, limits=limits)
+            # each location has an unsafe condition; the last has a region row too, from the start and after a flow
+            last = certificate([[]] * (done - 1) + [[(1, 7)]], [])
+            p.part(f'{done} locations, {named(limits)}: region row of the last', sheet, last, done, 0, *(() if answer[0] else (1, 7)), limits=limits)
+
+
+def limits_on_joints(papers):
+    """1, 256, 257, 4,096 and 4,097 joint switches. The table has just as many records."""
+    p = papers
+    for together, alone in ((1, 0), (4, 0), (4, 1), (8, 0), (8, 1)):
+        (sheet, proofs), count = joined(together, alone), together ** 4 + alone
+        for most in STATED:
+            limits = marker.Limits(1, most)
+            p.list(f'{count} joint switches, {named(limits)}', sheet, count, *under(limits, 1, count, 0, 0, sheet.length(), count, 0), limits=limits)
+        for most in (count - 1, count, count + 1):
+            limits = marker.Limits(EXAM.locations, most)
+            answer = under(limits, 1, count, 0, 1, proofs.length(), 1, 100)
+            p.certificate(f'{count} joint switches with a proof, {named(limits)}', sheet, proofs, *answer, limits=limits)
+            p.part(f'{count} joint switches, {named(limits)}: region row', sheet, certificate([[(1, 7)]], []), 1, 0, *(() if answer[0] else (1, 7)), limits=limits)
+        limits = marker.Limits(1, count)
+        p.list(f'{count} joint switches, {named(limits)}, one record short', sheet, count - 1, *under(limits, 1, count, 15, 2, count, 0, 0), limits=limits)
+
+
+def limits_of_the_plant(papers):
+    """8 locations and 22 joint switches: just as many, one less of each and of both, and the two the other way round. Where the model is
+    refused, a short second sheet does."""
+    p = papers
+    for stated in ((8, 22), (9, 23), (7, 22), (8, 21), (7, 21), (7, 4096), (64, 21), (22, 8), (1, 1), (0, 21), (7, 0), (65, 21), (7, 4097)):
+        limits = marker.Limits(*stated)
+        p.list(f'{named(limits)}: list of the plant', SAFE_PLANT, 22, *under(limits, 8, 22, 0, 0, 1322, 22, 0), limits=limits)
+    p.part('limits 8 22: row of the plant', SAFE_PLANT, UNPROVED_PLANT, 46, 12, -1, 0, 0, 0, 1, 0, 0, 0, 0, limits=marker.Limits(8, 22))
+    for limits in (marker.Limits(7, 22), marker.Limits(8, 21)):
+        p.certificate(f'{named(limits)}: plant', SAFE_PLANT, C, *under(limits, 8, 22), limits=limits)
+    p.list('practice desk: plant list, one short', SAFE_PLANT, 21, 15, 2, 22, 0, 0, limits=PRACTICE)
+    p.certificate('limits 8 22: plant', SAFE_PLANT, PLANT_CERTIFICATE, 0, 1, 2108, 115, 100, limits=marker.Limits(8, 22))
+    p.run('practice desk: plant run', UNSAFE_PLANT, PLANT_RUN, 0, 1, 178, 7, 100, limits=PRACTICE)
+    p.run('limits 8 22: plant run', UNSAFE_PLANT, PLANT_RUN, 0, 1, 178, 7, 100, limits=marker.Limits(8, 22))
+    for stated in ((7, 22), (8, 21), (7, 21)):
+        limits = marker.Limits(*stated)
+        p.run(f'{named(limits)}: plant run', UNSAFE_PLANT, AT_FIVE, *under(limits, 8, 22), limits=limits)
+
+
+def limits_before_the_sheets(papers):
+    """5 for a limit comes before 1 of an empty model; limits in range leave a broken model its own refusal, which comes before 7 and 8."""
+    p, over = papers, plain(modes=(8, 8, 2))[0]
+    unfit = [marker.Limits(*stated) for stated in ((0, 1), (1, 0), (65, 4096), (64, 4097), (0, 0), (2 ** 32 - 1, 2 ** 32 - 1))]
+    for limits in unfit:
+        p.certificate(f'{named(limits)}: nothing', b'', b'', 5, 2, 0, 0, 0, limits=limits)
+        p.run(f'{named(limits)}: no run', b'', b'', 5, 2, 0, 0, 0, limits=limits)
+        p.list(f'{named(limits)}: no list', b'', 0, 5, 2, 0, 0, 0, limits=limits)
+    for limits in unfit:
+        p.certificate(f'{named(limits)}: 128 locations', over, b'', 5, 2, 0, 0, 0, limits=limits)
+        p.run(f'{named(limits)}: 128 locations, no run', over, b'', 5, 2, 0, 0, 0, limits=limits)
+        p.list(f'{named(limits)}: 128 locations, no list', over, 0, 5, 2, 0, 0, 0, limits=limits)
+    least = marker.Limits(1, 1)
+    broken = [
+        (b'', 1, 0), (T.set('version', 2), 2, 2), (C, 3, 3), (fixed(T.bytes()[:-1]), 4, 62), (T.set('n', 0), 5, 4),
+        (tank(switches=[switch(0, 0, 1)]), 6, 58), (fixed(over.bytes() + b'\0'), 4, over.length()),
+        (fixed(joined(4)[0].bytes() + b'\0'), 4, joined(4)[0].length()),
+    ]
+    for sheet, number, place in broken:
+        p.certificate(f'{named(least)}: model refused as {number} at {place}', sheet, C, number, 0, place, 0, 0, limits=least)
+    p.certificate('limits 1 1: no certificate', T, b'', 1, 1, 0, 0, 0, limits=least)
+
+
+def limits_of_two_desks(papers):
+    """A paper within both desks' limits gets the same answer at both: here what the papers above have at the exam desk. The program states the
+    exam's."""
+    p = papers
+    p.certificate('practice desk: T with C', T, C, 0, 1, 49, 3, 100, limits=PRACTICE)
+    p.certificate('practice desk: first multiplier 2', T, C.set('multiplier0.0', 2), 10, 1, 14, 0, 0, limits=PRACTICE)
+    p.certificate('practice desk: region bound 9', T, C.set('region0.0.1', 9), 11, 1, 14, 0, 0, limits=PRACTICE)
+    p.run('practice desk: T from 6', T, run(1, 0, (6,)), 12, 1, 10, 0, 0, limits=PRACTICE)
+    p.run('practice desk: T at 5', T, AT_FIVE, 14, 1, 15, 0, 0, limits=PRACTICE)
+    p.run('practice desk: 5 to 8 in 1', T, run(1, 0, (5,), flow(1, 8)), 13, 1, 15, 0, 0, limits=PRACTICE)
+    p.certificate('practice desk: last proof as 2, 0', T, C.set('hypothesis2.0', 2).set('hypothesis2.1', 0), 9, 1, 44, 2, 66, limits=PRACTICE)
+    p.certificate('practice desk: 64 locations', located(8, 8), C, 7, 0, 4, 0, 0, limits=PRACTICE)
+    p.certificate('practice desk: 4096 joint switches', joined(8)[0], C, 8, 0, 4, 0, 0, limits=PRACTICE)
+    p.state(marker.Limits(1, 1))
+    p.input('limits 1 1: input of 64 locations', located(8, 8).bytes() + run(1, 63, (0,)).bytes(), 'UNSAFE 0')
+    p.state(marker.Limits(0, 0))
+    p.input('limits 0 0: input of T and C', T.bytes() + C.bytes(), 'SAFE 3')
+    p.input('limits 0 0: input of 128 locations', plain(modes=(8, 8, 2))[0].bytes() + C.bytes(), 'REFUSED 7 0 4 0 0')
+
+
 SECTIONS = [
     the_table, rejected_readings, standing_still, shown_rows, headers, cuts, counts_of_a_model, conditions_of_a_model, switches_of_a_model, refused_models_in_each_call,
     fields_of_a_certificate, fields_of_a_run, fields_of_a_jump, joint_steps, starts, conditions, large_numbers,
     order_of_joint_switches, order_of_hypotheses, order_of_locations, order_of_staying_variables, contradictions, scores,
     plant_certificate, plant_run, joint_list, inputs, sizes,
+    limits_of_the_tank, limits_on_locations, limits_on_joints, limits_of_the_plant, limits_before_the_sheets, limits_of_two_desks,
 ]
 
 EXAMPLES = {
@@ -816,7 +976,7 @@ def write_papers(folder):
     for section in SECTIONS:
         section(papers)
     data = b''.join(papers.records)
-    assert len(data) < 400_000
+    assert len(data) < 500_000 and len(papers.records) < 2_000
     (folder / 'stdin').write_bytes(data)
     (folder / 'stdout').write_text('\n'.join(papers.lines) + '\n')
     print(len(papers.lines), 'papers,', len(papers.records), 'records,', len(data), 'bytes')

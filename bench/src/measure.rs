@@ -1,7 +1,7 @@
 //! Interleaved timing of both markers on one paper.
 
 use crate::papers::Case;
-use differential::marker::Answer;
+use differential::marker::{Answer, EXAM};
 use differential::{library, marker};
 use std::cell::RefCell;
 use std::ffi::c_int;
@@ -68,22 +68,28 @@ pub fn measure(case: &Case, samples: usize) -> Figures {
 
 pub type Mark = Box<dyn Fn(&[u8], &[u8]) -> Answer>;
 
-/// The library's call and the independent marker's.
+/// The library's call and the independent marker's, at the exam desk.
 pub fn calls(call: Call) -> (Mark, Mark) {
     match call {
-        Call::Certificate => (Box::new(library::mark_certificate), Box::new(marker::mark_certificate)),
-        Call::Run => (Box::new(library::mark_run), Box::new(marker::mark_run)),
+        Call::Certificate => (
+            Box::new(|model, second| library::mark_certificate(model, second, EXAM)),
+            Box::new(|model, second| marker::mark_certificate(model, second, EXAM)),
+        ),
+        Call::Run => (
+            Box::new(|model, second| library::mark_run(model, second, EXAM)),
+            Box::new(|model, second| marker::mark_run(model, second, EXAM)),
+        ),
         Call::JointList => {
             let table = || RefCell::new(vec![marker::JointSwitch::default(); 4_096]);
             let (by_library, by_rust) = (table(), table());
             (
-                Box::new(move |model, _| library::joint_list(model, &mut by_library.borrow_mut())),
-                Box::new(move |model, _| marker::joint_list(model, &mut by_rust.borrow_mut())),
+                Box::new(move |model, _| library::joint_list(model, &mut by_library.borrow_mut(), EXAM)),
+                Box::new(move |model, _| marker::joint_list(model, &mut by_rust.borrow_mut(), EXAM)),
             )
         }
         Call::ShowRow(obligation) => (
-            Box::new(move |model, second| library::show_row(model, second, obligation, 0)),
-            Box::new(move |model, second| marker::show_row(model, second, obligation, 0).0),
+            Box::new(move |model, second| library::show_row(model, second, obligation, 0, EXAM)),
+            Box::new(move |model, second| marker::show_row(model, second, obligation, 0, EXAM).0),
         ),
     }
 }

@@ -1,18 +1,18 @@
--- A certificate's marking put together: a model that was read is within the exam's limits; regions that were read make a good paper; where
--- all proofs have passed the score is 100; and how each part's answer makes that of the whole. Assumes nothing.
+-- A certificate's marking put together: regions that were read make a good paper; where all proofs have passed the score is 100; and how
+-- each part's answer makes that of the whole. Assumes nothing.
 use mathlib.Core.Path.{_≡_, refl, sym, ap, ap₂, _∙_, subst}
 use mathlib.Core.List.{List}
 use Prim.Native.Nat.{ℕ, zero, suc, _≤_, min}
 use native.Mathlib.Nat.{mul-div-cancel}
 use native.Mathlib.Omega.{arith}
 use lib.ListN.{length}
-use Rattle.formats.specs.Reading.{Got, got, refused, _>>_, header, finished}
+use Rattle.formats.specs.Reading.{Got, got, refused, finished}
 use Rattle.formats.specs.Rows.{Condition}
 use Rattle.formats.specs.Model.{Model}
 use Rattle.formats.specs.Locations.{locationCount}
 use Rattle.formats.specs.Joint.{joints}
 use Rattle.models.specs.Index.{entry, componentsFrom, modelFrom}
-use Rattle.formats.specs.ModelSheet.{Limits, readModel, examLimits}
+use Rattle.formats.specs.declared.Limits.{Limits}
 use Rattle.formats.specs.Certificate.{readRegions}
 use Rattle.second_sheets.specs.CertificateAnswers.{regionsFrom}
 use Rattle.formats.proofs.Gives.{passes}
@@ -28,6 +28,7 @@ use Rattle.scores.proofs.CountGoals.{obligations-length, locations-few, jumps-f
 use Rattle.certificates.proofs.MarkLaws.{Goes, goes, mark-tasks, stands-passed, stands-stopped}
 use Rattle.hypotheses.specs.Listing.{tasks}
 use Rattle.papers.specs.Opening.{opened, Open}
+use Rattle.rules.proofs.Calls.{certificateBy}
 use Rattle.papers.proofs.OpenLaws.{open-refused, open-goes-on, opened-answer}
 
 -- its obligations are not many
@@ -117,27 +118,17 @@ module _ (m : Model) (s : List ℕ) (g : Got (List Condition)) where
   unfolding markRegions
   regions-rest regions place e = sym (ap (markRegions m s) e)
 
--- The whole
-pub certificate-model : (limits : Limits) (model second : List ℕ) (number place : ℕ) → readModel limits model ≡ refused number place → answer number 0 place 0 0 ≡ markCertificate limits model second
-unfolding markCertificate withModel
-certificate-model limits model second number place e =
-    sym (ap (λ g. withModel g (λ m. markRegions m second ((header 2 >> readRegions m) second 0))) e)
-
-pub certificate-sheet : (limits : Limits) (model second : List ℕ) (m : Model) (next : ℕ) → readModel limits model ≡ got m next → markRegions m second ((header 2 >> readRegions m) second 0) ≡ markCertificate limits model second
-unfolding markCertificate withModel
-certificate-sheet limits model second m next e =
-    sym (ap (λ g. withModel g (λ m. markRegions m second ((header 2 >> readRegions m) second 0))) e)
-
--- a paper that does not open is refused so; one that is open is marked from its body on
-module _ (model second : List ℕ) where
-  pub certificate-refused : (opened examLimits 2 model second .number ≡ 0 → ⊥) → opened examLimits 2 model second ≡ markCertificate examLimits model second
+-- The whole, by how the model opens: a paper that does not open is refused so; one that is open is marked from its body on
+module _ (limits : Limits) (model second : List ℕ) where
+  pub certificate-refused : (opened limits 2 model second .number ≡ 0 → ⊥) → opened limits 2 model second ≡ markCertificate limits model second
+  unfolding markCertificate withModel
   certificate-refused f =
-      opened-answer examLimits 2 model second
-      ∙ open-refused examLimits 2 model second (λ n s p. answer n s p 0 0) readRegions (λ m. markRegions m second) (markCertificate examLimits model second)
-      (λ m number at. regions-stop m second (refused number at) number at refl) (certificate-model examLimits model second) (certificate-sheet examLimits model second) f
+      opened-answer limits 2 model second
+      ∙ open-refused limits 2 model second (λ n s p. answer n s p 0 0) readRegions (λ m. markRegions m second) (certificateBy second)
+      (λ m number at. regions-stop m second (refused number at) number at refl) (λ number sheet at. refl) (λ m. refl) f
 
-  pub certificate-open : {index : List ℕ} → Open 2 model index second → markRegions (modelFrom model index) second (readRegions (modelFrom model index) second 4) ≡ markCertificate examLimits model second
-  certificate-open {index} w =
-      open-goes-on examLimits 2 model second (λ n s p. answer n s p 0 0) readRegions (λ m. markRegions m second) (markCertificate examLimits model second)
-      (λ m number at. regions-stop m second (refused number at) number at refl) (certificate-model examLimits model second) (certificate-sheet examLimits model second)
-      (modelFrom model index) (w .end) (w .version) (w .reads) (w .headed)
+  pub certificate-open : {index : List ℕ} → Open limits 2 model index second → markRegions (modelFrom model index) second (readRegions (modelFrom model index) second 4) ≡ markCertificate limits model second
+  unfolding markCertificate withModel
+  certificate-open w =
+      open-goes-on limits 2 model second (λ n s p. answer n s p 0 0) readRegions (λ m. markRegions m second) (certificateBy second)
+      (λ m number at. regions-stop m second (refused number at) number at refl) (λ number sheet at. refl) (λ m. refl) w

@@ -3,6 +3,7 @@ use crate::Marking;
 use crate::obligations::mark_obligations;
 use fields::Next;
 use fields::header::finished;
+use formats::Limits;
 use models::layout::INDEX_LENGTH;
 use models::layout::Index;
 use models::layout::VARIABLES_AT;
@@ -21,7 +22,6 @@ ghost use lib.ListN.{length};
 ghost use Rattle.formats.specs.Locations.{locationCount};
 ghost use Rattle.formats.specs.Joint.{joints};
 ghost use Rattle.models.specs.Index.{entry, componentsFrom};
-ghost use Rattle.formats.specs.ModelSheet.{examLimits};
 ghost use Rattle.rules.specs.Marking.{passed, closeCertificate, markCertificate};
 ghost use Rattle.papers.specs.Paper.{GoodPaper, Accepted, obligationsFor};
 ghost use Rattle.certificates.specs.Passed.{stoppedAnswer, markedBody, markedRest};
@@ -97,12 +97,12 @@ fn mark_body(model: &[u8], index: &Index, second: &[u8]) -> Answer
     }
 }
 
-// Marks a certificate: the model goes first, then the certificate sheet.
-pub fn mark_certificate(model: &[u8], second: &[u8]) -> Answer
-    ensures { λ r. ⌜ r ≡ markCertificate examLimits (now (model .entry)) (now (second .entry)) ⌝ }
+// Marks a certificate: the stated limits and the model go first, then the certificate sheet.
+pub fn mark_certificate(model: &[u8], second: &[u8], limits: Limits) -> Answer
+    ensures { λ r. ⌜ r ≡ markCertificate limits (now (model .entry)) (now (second .entry)) ⌝ }
 {
     let mut index = [0u16; INDEX_LENGTH];
-    let opened = open_paper(model, second, 2, &mut index);
+    let opened = open_paper(model, second, 2, &mut index, limits);
     if opened.number != 0 {
         return opened;
     }

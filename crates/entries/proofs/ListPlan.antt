@@ -8,81 +8,77 @@ use native.Mathlib.Omega.{arith}
 use lib.Dec.{leb}
 use lib.ListN.{length, getD, take, drop, set, length-append, length-map, length-take, length-drop}
 use borrow.Author.Tests.{leb-true}
-use Rattle.formats.specs.Reading.{Got, got, refused}
 use Rattle.formats.specs.Model.{Model}
 use Rattle.formats.specs.Joint.{joints}
-use Rattle.formats.specs.ModelSheet.{examLimits, readModel}
+use Rattle.formats.specs.declared.Limits.{Limits}
+use Rattle.rules.specs.Opening.{ModelOpened, opens, shut, openModel}
 use Rattle.models.specs.Index.{componentsFrom, modelFrom}
 use Rattle.rules.specs.declared.Answer.{Answer}
 use Rattle.rules.specs.declared.Joint.{Joint}
 use Rattle.rules.specs.Marking.{answer, withModel}
-use Rattle.rules.specs.Beside.{recordOf, listAnswer, filled, tableAfter}
+use Rattle.rules.specs.Beside.{recordOf, listOf, listAnswer, filled, tableAfter}
 use Rattle.joint_lists.specs.declared.Batch.{Batch}
 use Rattle.joint_lists.specs.Records.{recordsFrom, SheetIndex}
 use Rattle.joint_lists.specs.Batches.{unpackedOf, recordsIn, Told}
+use Rattle.rules.proofs.Calls.{listBy, tableBy}
 use Rattle.papers.specs.Paper.{Accepted}
-use Rattle.papers.proofs.PaperLaws.{accepted}
-use Rattle.joint_lists.proofs.RecordLaws.{whole-list, index-model}
+use Rattle.joint_lists.proofs.RecordLaws.{whole-list}
 use Rattle.joint_lists.proofs.BatchLaws.{none-told, told-length, words-told}
 
 -- how many records are written, which, and what the table is afterwards
-pub record Plan (model index : List ℕ) (count : ℕ) (table : List Joint) : Type 0 where
+pub record Plan (limits : Limits) (model index : List ℕ) (count : ℕ) (table : List Joint) : Type 0 where
   pub records : List Joint
   pub whole : length records ≡ count
   pub fits : count ≤ length table
   pub usable : 0 < count → Accepted model index
   pub starts : 0 < count → recordsFrom model index 0 0 ≡ records
-  pub after : tableAfter examLimits model table ≡ records ++ drop count table
+  pub after : tableAfter limits model table ≡ records ++ drop count table
 
-module _ (model index : List ℕ) (table : List Joint) (indexed : SheetIndex model index) where
-  nothing : tableAfter examLimits model table ≡ table → Plan model index 0 table
+-- a model that opens is one
+same-opened : {m n : Model} → opens m ≡ opens n → m ≡ n
+same-opened e = cc
+
+module _ (limits : Limits) (model index : List ℕ) (table : List Joint) (indexed : SheetIndex limits model index) where
+  nothing : tableAfter limits model table ≡ table → Plan limits model index 0 table
   nothing e =
       record { records = []; whole = refl; fits = omega arith; usable = λ h. absurd (omega arith); starts = λ h. absurd (omega arith); after = e }
 
-  module _ (m : Model) (next : ℕ) (e : readModel examLimits model ≡ got m next) where
+  module _ (m : Model) (e : openModel limits model ≡ opens m) where
     same : m .components ≡ componentsFrom model index
     unfolding modelFrom
-    same = ap (λ (n : Model). n .components) (index-model model index (indexed .same) m next e)
+    same = ap (λ (n : Model). n .components) (same-opened (sym e ∙ indexed .holds m e .opened))
 
-    read : readModel examLimits model ≡ got (modelFrom model index) next
-    read = e ∙ ap (λ (n : Model). got n next) (index-model model index (indexed .same) m next e)
-
-    after-read : tableAfter examLimits model table ≡ filled (joints (m .components)) table
+    after-read : tableAfter limits model table ≡ filled (joints (m .components)) table
     unfolding tableAfter
-    after-read = ap (λ (g : Got Model). elim g [ got m next ↦ filled (joints (m .components)) table | refused number at ↦ table ]) e
-
-    answer-read : listAnswer examLimits model (length table) ≡ cond (leb (length (joints (m .components))) (length table)) (answer 0 0 (length model) (length (joints (m .components))) 0) (answer 15 2 (length (joints (m .components))) 0 0)
-    unfolding listAnswer withModel
-    answer-read =
-        ap (λ (g : Got Model). withModel g (λ m. cond (leb (length (joints (m .components))) (length table)) (answer 0 0 (length model) (length (joints (m .components))) 0) (answer 15 2 (length (joints (m .components))) 0 0))) e
+    after-read = ap (tableBy table) e
 
     records-read : recordsFrom model index 0 0 ≡ map recordOf (joints (m .components))
     unfolding recordsFrom
     records-read = ap (map recordOf) (whole-list (componentsFrom model index) ∙ ap joints (sym same))
 
-    by-room : (b : Bool) → leb (length (joints (m .components))) (length table) ≡ b → Plan model index (cond b (answer 0 0 (length model) (length (joints (m .components))) 0) (answer 15 2 (length (joints (m .components))) 0 0) .done) table
+    by-room : (b : Bool) → leb (length (joints (m .components))) (length table) ≡ b → Plan limits model index (cond b (answer 0 0 (length model) (length (joints (m .components))) 0) (answer 15 2 (length (joints (m .components))) 0 0) .done) table
     unfolding answer filled
     by-room true t =
         record {
           records = map recordOf (joints (m .components));
           whole = length-map (joints (m .components)) recordOf;
           fits = leb-true (length (joints (m .components))) (length table) t;
-          usable = λ h. accepted model index next read (indexed .counted m next e);
+          usable = λ h. indexed .holds m e .accepted;
           starts = λ h. records-read;
           after = after-read ∙ ap (λ (b : Bool). elim b [ true ↦ map recordOf (joints (m .components)) ++ drop (length (joints (m .components))) table | false ↦ table ]) t;
         }
     by-room false t = nothing (after-read ∙ ap (λ (b : Bool). elim b [ true ↦ map recordOf (joints (m .components)) ++ drop (length (joints (m .components))) table | false ↦ table ]) t)
 
-  by-reading : (g : Got Model) → readModel examLimits model ≡ g → Plan model index (listAnswer examLimits model (length table) .done) table
-  unfolding listAnswer withModel answer tableAfter
-  by-reading (got m next) e = subst (λ (a : Answer). Plan model index (a .done) table) (sym (answer-read m next e)) (by-room m next e (leb (length (joints (m .components))) (length table)) refl)
-  by-reading (refused number at) e =
-      subst (λ (n : ℕ). Plan model index n table)
-      (sym (ap (λ (g : Got Model). withModel g (λ m. cond (leb (length (joints (m .components))) (length table)) (answer 0 0 (length model) (length (joints (m .components))) 0) (answer 15 2 (length (joints (m .components))) 0 0)) .done) e))
-      (nothing (ap (λ (g : Got Model). elim g [ got m next ↦ filled (joints (m .components)) table | refused number at ↦ table ]) e))
+  by-reading : (g : ModelOpened) → openModel limits model ≡ g → Plan limits model index (listAnswer limits model (length table) .done) table
+  unfolding listAnswer listOf withModel answer tableAfter
+  by-reading (opens m) e =
+      subst (λ (a : Answer). Plan limits model index (a .done) table) (sym (ap (listBy model (length table)) e))
+      (by-room m e (leb (length (joints (m .components))) (length table)) refl)
+  by-reading (shut number sheet at) e =
+      subst (λ (a : Answer). Plan limits model index (a .done) table) (sym (ap (listBy model (length table)) e)) (nothing (ap (tableBy table) e))
 
-  pub plan : (a : Answer) (count : ℕ) → a ≡ listAnswer examLimits model (length table) → count ≡ a .done → Plan model index count table
-  plan a count e c = subst (λ (n : ℕ). Plan model index n table) (ap (λ (b : Answer). b .done) (sym e) ∙ sym c) (by-reading (readModel examLimits model) refl)
+  pub plan : (a : Answer) (count : ℕ) → a ≡ listAnswer limits model (length table) → count ≡ a .done → Plan limits model index count table
+  plan a count e c = subst (λ (n : ℕ). Plan limits model index n table) (ap (λ (b : Answer). b .done) (sym e) ∙ sym c) (by-reading (openModel limits model) refl)
 
 -- a table with its first i records written
 taken : (i : ℕ) (rs ts : List Joint) (j : Joint) (js : List Joint) → drop i rs ≡ j ∷ js → i < length ts → set (take i rs ++ drop i ts) i j ≡ take (suc i) rs ++ drop (suc i) ts
@@ -98,7 +94,7 @@ next-dropped zero (r ∷ rs) j js e = ap (λ (xs : List Joint). elim xs [ [] ↦
 next-dropped (suc i) [] j js e = let z : _≡_ {A = ℕ} 0 1 = cc in absurd (omega arith)
 next-dropped (suc i) (r ∷ rs) j js e = next-dropped i rs j js e
 
-module _ {model index : List ℕ} {count : ℕ} {table : List Joint} (p : Plan model index count table) where
+module _ {limits : Limits} {model index : List ℕ} {count : ℕ} {table : List Joint} (p : Plan limits model index count table) where
   -- i records are written, and j of a batch's; the list goes on with the batch's others, then at the batch's place
   pub record Written (i j : ℕ) (b : Batch) (tab : List Joint) : Type 0 where
     pub within : i ≤ count
@@ -156,7 +152,7 @@ module _ {model index : List ℕ} {count : ℕ} {table : List Joint} (p : Plan m
             left = λ k. ap (λ (n : ℕ). drop n (recordsIn (b .words) (b .count)) ++ recordsFrom model index (b .slot) (b .x)) (add-one j) ∙ sym (next-dropped i (p .records) r _ first) ∙ ap (λ (k : ℕ). drop k (p .records)) (sym (add-one i));
           }
 
-    pub written-all : count ≤ i → tab ≡ tableAfter examLimits model table
+    pub written-all : count ≤ i → tab ≡ tableAfter limits model table
     written-all h = w .tab-is ∙ ap₂ (λ (rs ts : List Joint). rs ++ ts) (all i (p .records) (omega (arith, p .whole, w .within))) (ap (λ (k : ℕ). drop k table) equal) ∙ sym (p .after)
       where
         all : (i : ℕ) (rs : List Joint) → length rs ≤ i → take i rs ≡ rs

@@ -1,4 +1,4 @@
-// The joint list, written record after record into a table that the exam desk lends.
+// The joint list, written record after record into a table that the desk lends.
 use joint_lists::list::list_begin;
 use joint_lists::list::record_count;
 use joint_lists::records::list_start;
@@ -9,14 +9,19 @@ use rules::Joint;
 ghost use mathlib.Core.Path.{_≡_};
 ghost use lib.ListN.{length};
 ghost use Rattle.rules.specs.Beside.{listAnswer, tableAfter};
-ghost use Rattle.formats.specs.ModelSheet.{examLimits};
+ghost use Rattle.formats.specs.ModelSheet.{stated};
 
 // The joint list of a model, in order; later records of the table keep their content, and a refusal writes nothing.
 #[no_mangle]
-pub extern "C" fn silfoddra_joint_list(model: &[u8], table: &mut [Joint]) -> Answer
-    ensures { λ r. ⌜ (r ≡ listAnswer examLimits (now (model .entry)) (length (now (table .entry)))) × (now (table .exit) ≡ tableAfter examLimits (now (model .entry)) (now (table .entry))) ⌝ }
+pub extern "C" fn silfoddra_joint_list(
+    model: &[u8],
+    table: &mut [Joint],
+    locations: u32,
+    joints: u32,
+) -> Answer
+    ensures { λ r. ⌜ (r ≡ listAnswer (stated locations joints) (now (model .entry)) (length (now (table .entry)))) × (now (table .exit) ≡ tableAfter (stated locations joints) (now (model .entry)) (now (table .entry))) ⌝ }
 {
-    let listing = list_begin(model, table.len());
+    let listing = list_begin(model, table.len(), locations, joints);
     let answer = listing.answer;
     let index = listing.index;
     let count = record_count(answer);

@@ -1,5 +1,6 @@
 pub mod FieldLaws
 pub mod Gives
+pub mod ModelSheet
 pub mod Members
 pub mod WellFormed
 pub mod Locations

@@ -1,6 +1,6 @@
 -- Where readings end: a value is followed by a place that is no earlier, within the sheet; a refusal has a number from 1 to 9 and a
 -- place within the sheet. A law for each way of putting readings together, then each reading. Assumes nothing.
-use mathlib.Core.Path.{_≡_, refl}
+use mathlib.Core.Path.{_≡_, refl, sym, subst}
 use mathlib.Core.Bool.{Bool, true, false, cond}
 use mathlib.Core.List.{List, [], _∷_}
 use Prim.Native.Nat.{ℕ, zero, suc, _+_, _*_, _-_, _^_, _≤_}
@@ -11,7 +11,9 @@ use borrow.Author.Tests.{leb-true}
 use Rattle.formats.specs.Reading.{Got, got, refused, Reader, andThen, _>>=_, _>>_, give, here, expect, field, u8, u16, u32, s32, passing, must, within, below, many, each, lengthRight, sized, header, finished, withinSigned}
 use Rattle.formats.specs.Rows.{readRow, readCondition}
 use Rattle.formats.specs.Model.{Component, Model, readMode, readSwitch, readComponent, readUnsafe, readModelBody}
-use Rattle.formats.specs.ModelSheet.{Limits, readModel}
+use Rattle.formats.specs.declared.Limits.{Limits}
+use Rattle.formats.specs.ModelSheet.{limitsTest, readModel}
+use Rattle.formats.proofs.ModelSheet.{in-a-chain}
 use Rattle.formats.specs.Certificate.{readRegions, readEntry, readEntries, readProof}
 use Rattle.formats.specs.RunSheet.{readValues, readOpening, readFlow, readJump, readStepOf, readStep}
 
@@ -196,18 +198,20 @@ placed-body version =
 
 -- a model sheet
 pub model-fine : (limits : Limits) (s : List ℕ) → Fine s 0 (readModel limits s)
-unfolding readModel
+unfolding limitsTest
 model-fine limits s =
-    placed-bind {least = 0} (placed-header 1)
+    subst (Fine s 0) (sym (in-a-chain limits s))
+    (placed-bind {least = 0} (placed-header 1)
     (λ version.
     placed-here
     (λ place.
     placed-bind (placed-body version)
     (λ m.
     placed-then placed-finished
-    (placed-then (placed-expect _ 7 place (omega arith) (omega arith) (omega arith))
-    (placed-then (placed-expect _ 8 place (omega arith) (omega arith) (omega arith)) (placed-give m))))))
-    .fine s 0 (omega arith) (omega arith)
+    (placed-then
+    (placed-then (placed-expect _ 7 place (omega arith) (omega arith) (omega arith)) (placed-expect _ 8 place (omega arith) (omega arith) (omega arith)))
+    (placed-give m)))))
+    .fine s 0 (omega arith) (omega arith))
 
 -- a certificate's fields
 pub placed-regions : {least : ℕ} (m : Model) → Placed least (readRegions m)

@@ -1,6 +1,6 @@
 -- Where the rows of a sheet stand: every row that a model or a certificate's regions give ends within the sheet that it was read from.
 -- A law for each way of putting readings of one sheet together, then each reading that has rows. Assumes nothing.
-use mathlib.Core.Path.{_≡_, refl, subst}
+use mathlib.Core.Path.{_≡_, refl, sym, _∙_, subst}
 use mathlib.Core.Bool.{Bool, true, false, cond}
 use mathlib.Core.List.{List, [], _∷_}
 use Prim.Native.Nat.{ℕ, zero, suc, _+_, _*_, _≤_}
@@ -13,7 +13,9 @@ use Rattle.farkas.specs.Lists.{All, none, more}
 use Rattle.formats.specs.Reading.{got, refused, Reader, andThen, _>>=_, _>>_, give, here, field, u32, s32, many, finished}
 use Rattle.formats.specs.Rows.{SheetRow, Condition, readRow, readCondition}
 use Rattle.formats.specs.Model.{Mode, Component, Model, readMode, readSwitch, readComponent, readUnsafe, readModelBody}
-use Rattle.formats.specs.ModelSheet.{Limits, readModel}
+use Rattle.formats.specs.declared.Limits.{Limits}
+use Rattle.formats.specs.ModelSheet.{readModel}
+use Rattle.formats.proofs.ModelSheet.{in-a-chain}
 use Rattle.formats.specs.Certificate.{readRegions}
 use Rattle.formats.proofs.Gives.{got-value, got-next, passes, gives-any, gives-many}
 
@@ -169,13 +171,12 @@ body-within s version =
     (λ unsafe j. from-give _ (record { components = i; unsafe = j })))))))
 
 pub rows-within : (limits : Limits) (s : List ℕ) (m : Model) (next : ℕ) → readModel limits s ≡ got m next → ModelWithin s m
-unfolding readModel
 rows-within limits s m next e =
     from-bind from-any
     (λ version u.
     from-bind from-any
-    (λ place u. from-bind (body-within s version) (λ m w. from-then finished (from-then _ (from-then _ (from-give m w))))))
-    .holds 0 m next e
+    (λ place u. from-bind (body-within s version) (λ m w. from-then finished (from-then _ (from-give m w)))))
+    .holds 0 m next (sym (in-a-chain limits s) ∙ e)
 
 -- the regions of a certificate
 pub regions-within : (m : Model) (s : List ℕ) (p : ℕ) (regions : List Condition) (next : ℕ) → readRegions m s p ≡ got regions next → All (RowsWithin s) regions

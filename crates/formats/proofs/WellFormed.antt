@@ -9,7 +9,9 @@ use Rattle.formats.specs.Reading.{got, finished, u8, u32, give, many, wi
 use Rattle.formats.specs.Rows.{Condition, readRow, readCondition}
 use Rattle.formats.specs.Model.{Mode, Switch, Component, Model, readMode, readSwitch, readComponent, readUnsafe, readModelBody}
 use Rattle.formats.specs.Locations.{locationCount}
-use Rattle.formats.specs.ModelSheet.{Limits, readModel}
+use Rattle.formats.specs.declared.Limits.{Limits}
+use Rattle.formats.specs.ModelSheet.{readModel}
+use Rattle.formats.proofs.ModelSheet.{in-a-chain}
 use Rattle.formats.specs.Certificate.{readRegions, readEntry, readEntries, readProof}
 use Rattle.farkas.specs.Farkas.{Entry, Proof}
 use Rattle.farkas.specs.Lists.{All, none, more}
@@ -141,15 +143,10 @@ body-gives version =
 
 -- a model that a sheet gives is well formed
 pub well-formed : (limits : Limits) (s : List ℕ) (m : Model) (next : ℕ) → readModel limits s ≡ got m next → WellFormed m
-unfolding readModel
 well-formed limits s m next e =
     gives-bind gives-any
-    (λ version u.
-    gives-bind gives-any
-    (λ place v.
-    gives-bind (body-gives version)
-    (λ m w. gives-then finished (gives-then _ (gives-then _ (gives-give m w))))))
-    .holds s 0 m next e
+    (λ version u. gives-bind gives-any (λ place v. gives-bind (body-gives version) (λ m w. gives-then finished (gives-then _ (gives-give m w)))))
+    .holds s 0 m next (sym (in-a-chain limits s) ∙ e)
 
 -- the regions of a certificate: one per location, rows as wide as the model has variables
 pub regions-give : (m : Model) → Gives (λ regions. (length regions ≡ locationCount (m .components)) × All (λ r. (length r ≤ 16) × Wide (m .variables) r) regions) (readRegions m)

@@ -1,5 +1,5 @@
--- The joint list by its slots: it is the whole list from the first slot on; how it goes on from a place; a record of it from what the code
--- finds; and the index of a sheet. Assumes nothing.
+-- The joint list by its slots: it is the whole list from the first slot on; how it goes on from a place; and a record of it from what the
+-- code finds. Assumes nothing.
 use mathlib.Core.Path.{_≡_, refl, sym, ap, ap₂, _∙_}
 use mathlib.Core.List.{List, [], _∷_, _++_, map, append-assoc}
 use Prim.Native.Nat.{ℕ, zero, suc, _+_, _*_, _-_, _/_, _%_, _≤_, _<_}
@@ -7,25 +7,18 @@ use native.Mathlib.Numerals.{add-one}
 use native.Mathlib.Omega.{arith}
 use lib.ListN.{length, getD, drop, length-append, length-map, List·getD-append}
 use lib.Seq.{drop-cons, drop-nil, drop-append-add}
-use Rattle.fields.specs.declared.Next.{Next}
-use Rattle.fields.specs.declared.Next.the-variants as next
-use Rattle.fields.specs.Answers.{gotAs}
-use Rattle.formats.specs.Reading.{Got, got, refused}
-use Rattle.formats.specs.Model.{Component, Model}
+use Rattle.formats.specs.Model.{Component}
 use Rattle.formats.specs.Locations.{locationCount, modesAt, locationOf}
 use Rattle.formats.specs.Joint.{switchesOf, modesAfter, JointSwitch, jointsOf, joints, countUp, joinAll, fourSwitches, jointFrom}
-use Rattle.formats.specs.ModelSheet.{examLimits, readModel}
-use Rattle.models.specs.Index.{componentsFrom, modelFrom, GoodIndex}
-use Rattle.model_sheets.specs.Limits.{CountedAfter}
+use Rattle.models.specs.Index.{componentsFrom, GoodIndex}
 use Rattle.formats.specs.JointTotals.{eventTotal}
-use Rattle.formats.proofs.Gives.{got-value}
 use Rattle.formats.proofs.JointCounts.{event-length}
 use Rattle.formats.proofs.JointProduct.{countable, event-none}
 use Rattle.models.proofs.GoodIndexLaws.{good-components}
 use Rattle.joint_switches.proofs.JointLoops.{record-at}
 use Rattle.rules.specs.declared.Joint.{Joint}
 use Rattle.rules.specs.Beside.{recordOf}
-use Rattle.joint_lists.specs.Records.{slotJoints, jointsFrom, recordsFrom, noJoint, modelBy, SheetIndex}
+use Rattle.joint_lists.specs.Records.{slotJoints, jointsFrom, recordsFrom, noJoint}
 use Rattle.papers.proofs.JoinedLaws.{joinedOn, joined-first, joined-none}
 
 -- numbers in a row, and lists that are joined
@@ -159,31 +152,3 @@ unfolding recordOf fourSwitches jointFrom slotJoints
 slot-record components slot x switches target h e t =
     ap₂ (λ (ws : List ℕ) (l : ℕ). record { source = slot / 16; event = slot % 16; switches = ws; target = l }) e t
     ∙ ap recordOf (sym (record-at components (slot / 16) (slot % 16) x noJoint (omega (arith, h, slot-length components slot))))
-
--- The index of a model sheet
-by-index : (m : Model) (x : Next) → elim (gotAs m x) [ got m' next ↦ got m next | refused number at ↦ refused number at ] ≡ gotAs m x
-unfolding gotAs
-by-index m (next.At p) = refl
-by-index m (next.Refused number place) = refl
-
-index-has : (model index : List ℕ) (x : Next) → gotAs (modelFrom model index) x ≡ readModel examLimits model → modelBy model index ≡ readModel examLimits model
-unfolding modelBy
-index-has model index x e =
-    ap (λ (g : Got Model). elim g [ got m next ↦ got (modelFrom model index) next | refused number at ↦ refused number at ]) (sym e)
-    ∙ by-index (modelFrom model index) x
-    ∙ e
-
-read-at : (m m' : Model) (x : Next) (n : ℕ) → gotAs m x ≡ got m' n → (end : ℕ) × (x ≡ next.At end)
-unfolding gotAs
-read-at m m' (next.At p) n e = (p, refl)
-read-at m m' (next.Refused number place) n e = let z : _≡_ {A = ℕ} 0 1 = cc in absurd (omega arith)
-
-pub index-of : (model index : List ℕ) (x : Next) → gotAs (modelFrom model index) x ≡ readModel examLimits model → CountedAfter model index x → SheetIndex model index
-index-of model index x e counted =
-    record { same = index-has model index x e; counted = λ m next q. let r = read-at (modelFrom model index) m x next (e ∙ q) in counted (r .0) (r .1) }
-
-pub index-model : (model index : List ℕ) → modelBy model index ≡ readModel examLimits model → (m : Model) (next : ℕ) → readModel examLimits model ≡ got m next → m ≡ modelFrom model index
-unfolding modelBy
-index-model model index same m next e =
-    let put : modelBy model index ≡ got (modelFrom model index) next = ap (λ (g : Got Model). elim g [ got m next ↦ got (modelFrom model index) next | refused number at ↦ refused number at ]) e in
-    got-value (sym e ∙ sym same ∙ put)

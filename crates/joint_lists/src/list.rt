@@ -1,11 +1,10 @@
 // The joint list's answer: whether a lent table has room for every joint switch of a model, and how many there are.
 use crate::Listing;
-use fields::Next;
-use model_sheets::sheet::model_into;
+use formats::Limits;
 use models::layout::INDEX_LENGTH;
 use models::layout::Index;
 use models::layout::JOINTS_AT;
-use papers::answers::on_model;
+use papers::opening::open_model;
 use rules::Answer;
 ghost use mathlib.Core.Path.{_≡_};
 ghost use Prim.Native.Nat.{_≤_};
@@ -13,9 +12,9 @@ ghost use lib.ListN.{length};
 ghost use Rattle.models.specs.Index.{componentsFrom};
 ghost use Rattle.joint_switches.specs.Counted.{Counted};
 ghost use Rattle.formats.specs.Joint.{joints};
-ghost use Rattle.formats.specs.ModelSheet.{examLimits};
-ghost use Rattle.rules.specs.Beside.{listAnswer};
-ghost use Rattle.joint_lists.specs.Records.{listOf, SheetIndex};
+ghost use Rattle.formats.specs.ModelSheet.{stated};
+ghost use Rattle.rules.specs.Beside.{listOf, listAnswer};
+ghost use Rattle.joint_lists.specs.Records.{SheetIndex};
 
 // The answer on a model that was read: its index has its joint switches counted; 15 where the table is too short.
 fn count_answer(model: &[u8], index: &Index, lent: usize) -> Answer
@@ -43,22 +42,24 @@ fn count_answer(model: &[u8], index: &Index, lent: usize) -> Answer
 }
 
 // The answer for a table of so many records, with the model read into a lent index.
-fn answer_into(model: &[u8], records: usize, index: &mut Index) -> Answer
-    ensures { λ r. ⌜ r ≡ listAnswer examLimits (now (model .entry)) records ⌝ }
-    ensures { λ _. ⌜ SheetIndex (now (model .entry)) (now (index .exit)) ⌝ }
+fn answer_into(model: &[u8], records: usize, index: &mut Index, limits: Limits) -> Answer
+    ensures { λ r. ⌜ r ≡ listAnswer limits (now (model .entry)) records ⌝ }
+    ensures { λ _. ⌜ SheetIndex limits (now (model .entry)) (now (index .exit)) ⌝ }
 {
-    match model_into(model, index) {
-        Next::Refused(number, place) => on_model(number, place),
-        Next::At(_) => count_answer(model, index, records),
+    let opened = open_model(model, index, limits);
+    if opened.number != 0 {
+        return opened;
     }
+    count_answer(model, index, records)
 }
 
 // The answer for a table of so many records, and the model's index.
-pub fn list_begin(model: &[u8], records: usize) -> Listing
-    ensures { λ r. ⌜ (r .answer ≡ listAnswer examLimits (now (model .entry)) records) × SheetIndex (now (model .entry)) (r .index) ⌝ }
+pub fn list_begin(model: &[u8], records: usize, locations: u32, joints: u32) -> Listing
+    ensures { λ r. ⌜ (r .answer ≡ listAnswer (stated locations joints) (now (model .entry)) records) × SheetIndex (stated locations joints) (now (model .entry)) (r .index) ⌝ }
 {
+    let limits = Limits { locations, joints };
     let mut index = [0u16; INDEX_LENGTH];
-    let answer = answer_into(model, records, &mut index);
+    let answer = answer_into(model, records, &mut index, limits);
     Listing { answer, index }
 }
 

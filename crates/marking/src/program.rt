@@ -1,6 +1,7 @@
 // The line for any input: the input is cut into two sheets, and the second is marked as a run or as a certificate.
 use crate::Line;
 use certificates::certificate::mark_certificate;
+use model_sheets::limits::exam_limits;
 use rules::Answer;
 use runs::run::mark_run;
 ghost use mathlib.Core.Path.{_≡_};
@@ -60,14 +61,15 @@ fn certificate_line(a: Answer) -> Line
     refused_line(a)
 }
 
-// The line for two sheets.
+// The line for two sheets, under the exam's limits.
 fn mark_sheets(first: &[u8], second: &[u8]) -> Line
     ensures { λ r. ⌜ lineOf r ≡ sheetsLine (now (first .entry)) (now (second .entry)) ⌝ }
 {
+    let exam = exam_limits();
     if is_run(second) {
-        return run_line(mark_run(first, second));
+        return run_line(mark_run(first, second, exam));
     }
-    certificate_line(mark_certificate(first, second))
+    certificate_line(mark_certificate(first, second, exam))
 }
 
 // The line for any input; of more than 65,536 bytes it is a refusal.

@@ -3,17 +3,20 @@
 // A paper: the label's length and the label, a kind, a number in two bytes, a sheet's length in two bytes, and the sheet. Kind 0 takes
 // the sheet as the model for the papers that follow, 1 marks it as a certificate, 2 as a run; 3 asks for the joint list's answer with
 // so many records lent as the number says; 4 asks for the program's line for the sheet's bytes as its input; 5 asks for the part that show
-// row gives, with the number's high byte as the obligation and its low byte as the hypothesis: how many bytes, and the bytes.
+// row gives, with the number's high byte as the obligation and its low byte as the hypothesis: how many bytes, and the bytes; 6 states, in
+// the sheet's first eight bytes, the limits on locations and joint switches for the papers that follow, until then the exam's.
 use certificates::certificate::mark_certificate;
+use formats::Limits;
 use joint_lists::list::list_begin;
 use libc::STDIN_FILENO;
 use libc::STDOUT_FILENO;
 use marking::text::LINE_LENGTH;
 use marking::text::mark_text;
+use model_sheets::limits::exam_limits;
 use queries::show::show_row;
 use rules::Answer;
 use runs::run::mark_run;
-ghost use Prim.Native.Nat.{_^_, _<_};
+ghost use Prim.Native.Nat.{_-_, _^_, _<_};
 
 // Writes a number after a separator.
 fn number(before: &[u8], n: u32) {
@@ -72,30 +75,72 @@ fn two_bytes(all: &[u8], at: usize) -> usize
     byte_at(all, at) * 256 + byte_at(all, at + 1)
 }
 
+// The number in the four bytes at a place.
+fn four_bytes(all: &[u8], at: usize) -> u32
+    requires { ⌜ at < 2 ^ 19 ⌝ }
+{
+    (two_bytes(all, at) as u32) * 65536 + two_bytes(all, at + 2) as u32
+}
+
 // Marks a sheet beside a model.
-fn mark<'a>(kind: usize, asked: u32, model: &'a [u8], sheet: &'a [u8]) {
+fn mark<'a>(kind: usize, asked: u32, model: &'a [u8], sheet: &'a [u8], limits: Limits) {
     if kind == 4 {
         write_line(sheet);
         return;
     }
     if kind == 1 {
-        write_answer(b": ", mark_certificate(model, sheet));
+        write_answer(b": ", mark_certificate(model, sheet, limits));
     } else if kind == 2 {
-        write_answer(b": ", mark_run(model, sheet));
+        write_answer(b": ", mark_run(model, sheet, limits));
     } else if kind == 3 {
-        let listing = list_begin(model, asked as usize);
+        let listing = list_begin(model, asked as usize, limits.locations, limits.joints);
         write_answer(b": ", listing.answer);
     } else {
-        write_part(show_row(model, sheet, asked / 256, asked % 256));
+        write_part(show_row(model, sheet, asked / 256, asked % 256, limits));
     }
     io::write_all(STDOUT_FILENO, b"\n");
 }
 
-// Where the next paper begins, and the model that it is marked beside.
+// Where the next paper begins, the model that it is marked beside, and the limits that are stated for it.
 struct Place {
     at: usize,
     model: usize,
     end: usize,
+    limits: Limits,
+}
+
+// Where the papers go on after one: 0 is their model from then on, 6 states their limits.
+fn go_on(all: &[u8], place: Place, kind: usize, sheet: usize, end: usize) -> Place
+    requires { ⌜ sheet < 2 ^ 19 - 8 ⌝ }
+{
+    let model = place.model;
+    let model_end = place.end;
+    let limits = place.limits;
+    if kind == 0 {
+        return Place {
+            at: end,
+            model: sheet,
+            end,
+            limits,
+        };
+    }
+    if kind == 6 {
+        return Place {
+            at: end,
+            model,
+            end: model_end,
+            limits: Limits {
+                locations: four_bytes(all, sheet),
+                joints: four_bytes(all, sheet + 4),
+            },
+        };
+    }
+    Place {
+        at: end,
+        model,
+        end: model_end,
+        limits,
+    }
 }
 
 // Marks the paper at a place.
@@ -103,10 +148,11 @@ fn paper(all: &[u8], place: Place) -> Place {
     let at = place.at;
     let model = place.model;
     let model_end = place.end;
+    let limits = place.limits;
     if all.len() <= at {
         return place;
     }
-    if 524288 <= at {
+    if 500000 <= at {
         return place;
     }
     let label = at + 1;
@@ -117,25 +163,17 @@ fn paper(all: &[u8], place: Place) -> Place {
         return place;
     }
     let kind = byte_at(all, head);
-    if kind == 0 {
-        return Place {
-            at: end,
-            model: sheet,
-            end,
-        };
+    if kind != 0 && kind != 6 {
+        io::write_all(STDOUT_FILENO, &all[label..head]);
+        mark(
+            kind,
+            two_bytes(all, head + 1) as u32,
+            &all[model..model_end],
+            &all[sheet..end],
+            limits,
+        );
     }
-    io::write_all(STDOUT_FILENO, &all[label..head]);
-    mark(
-        kind,
-        two_bytes(all, head + 1) as u32,
-        &all[model..model_end],
-        &all[sheet..end],
-    );
-    Place {
-        at: end,
-        model,
-        end: model_end,
-    }
+    go_on(all, place, kind, sheet, end)
 }
 
 // Marks the papers.
@@ -144,6 +182,7 @@ fn papers(all: &[u8]) {
         at: 0,
         model: 0,
         end: 0,
+        limits: exam_limits(),
     };
     let mut n: u32 = 0;
     while n < 2000 {
@@ -153,7 +192,7 @@ fn papers(all: &[u8]) {
 }
 
 fn main() {
-    let mut all = [0u8; 409600];
+    let mut all = [0u8; 524288];
     let n = io::read_full(STDIN_FILENO, &mut all);
     papers(&all[..n]);
 }

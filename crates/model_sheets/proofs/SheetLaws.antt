@@ -13,10 +13,11 @@ use Rattle.formats.specs.Reading.{Got, got, refused, Reader, andThen, _>>=_, _>
 use Rattle.formats.specs.Model.{Component, Model, readModelBody}
 use Rattle.formats.specs.Locations.{locationCount}
 use Rattle.formats.specs.Joint.{joints}
-use Rattle.formats.specs.ModelSheet.{Limits, examLimits, readModel}
+use Rattle.formats.specs.declared.Limits.{Limits}
+use Rattle.formats.specs.ModelSheet.{limitsTest, readModel}
+use Rattle.formats.proofs.ModelSheet.{in-a-chain}
 use Rattle.models.specs.Index.{modelFrom, GoodIndex}
 use Rattle.fields.specs.Answers.{gotAs}
-use Rattle.models.specs.Counts.{limitsTest}
 use Rattle.formats.proofs.FieldLaws.{field-read, byte-read}
 use Rattle.formats.proofs.Gives.{passes, tested, got-value, got-next, bind-got, then-got, and-left, and-right}
 use Rattle.fields.proofs.Skipping.{bind-refused}
@@ -79,57 +80,37 @@ then-refused : {A B : Type 0} (r : Reader A) (t : Reader B) (s : List ℕ) (p : 
 unfolding _>>_ andThen
 then-refused r t s p e = ap (λ g. andThen g (λ a. t) s) e
 
-two-tests : {B : Type 0} (a b : Bool) (b₀ : B) (s : List ℕ) (p : ℕ) (x : Next) → gotAs tt x ≡ (expect a 7 4 >> expect b 8 4) s p → gotAs b₀ x ≡ (expect a 7 4 >> (expect b 8 4 >> give b₀)) s p
-unfolding expect _>>_ andThen give gotAs
-two-tests true true b₀ s p (next.At q) e = ap (λ (n : ℕ). got b₀ n) (got-next e)
-two-tests true true b₀ s p (next.Refused n q) e = let z : _≡_ {A = ℕ} 0 1 = cc in absurd (omega arith)
-two-tests true false b₀ s p (next.At q) e = let z : _≡_ {A = ℕ} 0 1 = cc in absurd (omega arith)
-two-tests true false b₀ s p (next.Refused n q) e =
-    let u : n ≡ 8 = cc in
-    let v : q ≡ 4 = cc in
-    cc
-two-tests false b b₀ s p (next.At q) e = let z : _≡_ {A = ℕ} 0 1 = cc in absurd (omega arith)
-two-tests false b b₀ s p (next.Refused n q) e =
-    let u : n ≡ 7 = cc in
-    let v : q ≡ 4 = cc in
-    cc
-
-limits-then : (limits : Limits) (m : Model) (s : List ℕ) (p : ℕ) (x : Next) → gotAs tt x ≡ limitsTest limits (m .components) 4 s p → gotAs m x ≡ (expect (leb (locationCount (m .components)) (limits .locations)) 7 4 >> (expect (leb (length (joints (m .components))) (limits .joints)) 8 4 >> give m)) s p
-unfolding limitsTest
-limits-then limits m s p x e = two-tests (leb (locationCount (m .components)) (limits .locations)) (leb (length (joints (m .components))) (limits .joints)) m s p x e
+limits-then : {A : Type 0} (a : A) (r : Reader (Unit {0})) (s : List ℕ) (p : ℕ) (x : Next) → gotAs tt x ≡ r s p → gotAs a x ≡ (r >> give a) s p
+unfolding _>>_ andThen give gotAs
+limits-then a r s p (next.At q) e = ap (λ g. andThen g (λ u. give a) s) e
+limits-then a r s p (next.Refused number q) e = ap (λ g. andThen g (λ u. give a) s) e
 
 -- the two limits, by the counts
-module _ (components : List Component) (s : List ℕ) (p : ℕ) where
-  pub limits-seven : 64 < locationCount components → limitsTest examLimits components 4 s p ≡ refused 7 4
-  unfolding limitsTest examLimits expect _>>_ andThen
-  limits-seven h = rw (lt-leb (locationCount components) 64 h) refl
+module _ (limits : Limits) (components : List Component) (s : List ℕ) (p : ℕ) where
+  pub limits-seven : limits .locations < locationCount components → limitsTest limits components 4 s p ≡ refused 7 4
+  unfolding limitsTest expect _>>_ andThen
+  limits-seven h = rw (lt-leb (locationCount components) (limits .locations) h) refl
 
-  pub limits-eight : locationCount components ≤ 64 → 4096 < length (joints components) → limitsTest examLimits components 4 s p ≡ refused 8 4
-  unfolding limitsTest examLimits expect _>>_ andThen
-  limits-eight h k = rw (le-leb (locationCount components) 64 h, lt-leb (length (joints components)) 4096 k) refl
-
-  pub limits-pass : locationCount components ≤ 64 → length (joints components) ≤ 4096 → limitsTest examLimits components 4 s p ≡ got tt p
-  unfolding limitsTest examLimits expect _>>_ andThen
-  limits-pass h k = rw (le-leb (locationCount components) 64 h, le-leb (length (joints components)) 4096 k) refl
+  pub limits-eight : locationCount components ≤ limits .locations → limits .joints < length (joints components) → limitsTest limits components 4 s p ≡ refused 8 4
+  unfolding limitsTest expect _>>_ andThen
+  limits-eight h k = rw (le-leb (locationCount components) (limits .locations) h, lt-leb (length (joints components)) (limits .joints) k) refl
 
 -- the parts of the sheet
 module _ (limits : Limits) (s : List ℕ) where
   pub sheet-first : (number place : ℕ) → header 1 s 0 ≡ refused number place → readModel limits s ≡ refused number place
-  unfolding readModel
-  sheet-first number place e = bind-refused (header 1) _ s 0 e
+  sheet-first number place e = in-a-chain limits s ∙ bind-refused (header 1) _ s 0 e
 
   module _ (one : header 1 s 0 ≡ got 1 4) where
     pub sheet-second : (number place : ℕ) → readModelBody 1 s 4 ≡ refused number place → readModel limits s ≡ refused number place
-    unfolding readModel
-    sheet-second number place e = bind-got (header 1) _ s 0 one (here-then _ s 4 (bind-refused (readModelBody 1) _ s 4 e))
+    sheet-second number place e = in-a-chain limits s ∙ bind-got (header 1) _ s 0 one (here-then _ s 4 (bind-refused (readModelBody 1) _ s 4 e))
 
     module _ (m : Model) (end : ℕ) (two : readModelBody 1 s 4 ≡ got m end) where
       pub sheet-third : (number place : ℕ) → finished s end ≡ refused number place → readModel limits s ≡ refused number place
-      unfolding readModel
-      sheet-third number place e = bind-got (header 1) _ s 0 one (here-then _ s 4 (bind-got (readModelBody 1) _ s 4 two (then-refused finished _ s end e)))
+      sheet-third number place e =
+          in-a-chain limits s
+          ∙ bind-got (header 1) _ s 0 one (here-then _ s 4 (bind-got (readModelBody 1) _ s 4 two (then-refused finished _ s end e)))
 
       pub sheet-limits : (next : ℕ) → finished s end ≡ got tt next → (x : Next) → gotAs tt x ≡ limitsTest limits (m .components) 4 s next → gotAs m x ≡ readModel limits s
-      unfolding readModel
       sheet-limits next three x e =
-          limits-then limits m s next x e
-          ∙ sym (bind-got (header 1) _ s 0 one (here-then _ s 4 (bind-got (readModelBody 1) _ s 4 two (then-got finished _ s end three refl))))
+          limits-then m (limitsTest limits (m .components) 4) s next x e
+          ∙ sym (in-a-chain limits s ∙ bind-got (header 1) _ s 0 one (here-then _ s 4 (bind-got (readModelBody 1) _ s 4 two (then-got finished _ s end three refl))))

@@ -3,6 +3,7 @@ use fields::Field;
 use fields::Next;
 use fields::header::finished;
 use fields::header::header;
+use formats::Limits;
 use joint_switches::joints::location_count;
 use joint_switches::totals::event_totals;
 use joint_switches::totals::joint_total;
@@ -13,17 +14,12 @@ use models::layout::JOINTS_AT;
 use models::layout::LOCATIONS_AT;
 ghost use mathlib.Core.Path.{_≡_};
 ghost use Prim.Native.Nat.{_≤_};
+ghost use lib.Dec.{T};
 ghost use lib.ListN.{length};
-ghost use Rattle.formats.specs.ModelSheet.{examLimits, readModel};
+ghost use Rattle.formats.specs.ModelSheet.{limitsFit, limitsTest, readModel};
 ghost use Rattle.models.specs.Index.{GoodIndex, componentsFrom, modelFrom, Kept, indexLength};
 ghost use Rattle.fields.specs.Answers.{gotAs};
-ghost use Rattle.models.specs.Counts.{limitsTest};
 ghost use Rattle.model_sheets.specs.Limits.{Small, Standing, OnlyCounts, CountedAfter};
-
-// How many locations and joint switches a model may have.
-pub const LOCATIONS: u32 = 64;
-
-pub const JOINTS: u32 = 4096;
 
 // Keeps the counts in an index.
 fn keep_counts(totals: [u32; 16], joints: u32, locations: u32, index: &mut [u16])
@@ -40,28 +36,30 @@ fn keep_counts(totals: [u32; 16], joints: u32, locations: u32, index: &mut [u16]
     index[LOCATIONS_AT] = locations as u16;
 }
 
-// Whether the model is within the limits: 7 and 8, at the place of its first count. If it is, the counts are kept in its index.
-fn within_limits(s: &[u8], index: &mut Index, next: usize) -> Next
+// Whether the model is within the stated limits: 7 and 8, at the place of its first count. If it is, the counts are kept in its index.
+fn within_limits(s: &[u8], index: &mut Index, next: usize, limits: Limits) -> Next
     requires { ⌜ GoodIndex (now s) (now index) ⌝ }
-    ensures { λ r. ⌜ gotAs tt r ≡ limitsTest examLimits (componentsFrom (now (s .entry)) (now (index .entry))) 4 (now (s .entry)) next ⌝ }
+    requires { ⌜ T (limitsFit limits) ⌝ }
+    ensures { λ r. ⌜ gotAs tt r ≡ limitsTest limits (componentsFrom (now (s .entry)) (now (index .entry))) 4 (now (s .entry)) next ⌝ }
     ensures { λ r. ⌜ OnlyCounts (now (index .entry)) (now (index .exit)) × CountedAfter (now (s .entry)) (now (index .exit)) r ⌝ }
 {
     let locations = location_count(s, index);
-    if LOCATIONS < locations {
+    if limits.locations < locations {
         return Next::Refused(7, 4);
     }
     let totals = event_totals(s, index);
     let joints = joint_total(s, index, totals);
-    if JOINTS < joints {
+    if limits.joints < joints {
         return Next::Refused(8, 4);
     }
     keep_counts(totals, joints, locations, index);
     Next::At(next)
 }
 
-// A model sheet, read into a lent index, which then has its counts too. After a refusal the index is free.
-pub fn model_into(s: &[u8], index: &mut Index) -> Next
-    ensures { λ r. ⌜ gotAs (modelFrom (now (s .entry)) (now (index .exit))) r ≡ readModel examLimits (now (s .entry)) ⌝ }
+// A model sheet, read under stated limits into a lent index, which then has its counts too. After a refusal the index is free.
+pub fn model_into(s: &[u8], index: &mut Index, limits: Limits) -> Next
+    requires { ⌜ T (limitsFit limits) ⌝ }
+    ensures { λ r. ⌜ gotAs (modelFrom (now (s .entry)) (now (index .exit))) r ≡ readModel limits (now (s .entry)) ⌝ }
     ensures { λ _. ⌜ Kept 0 indexLength (now (index .entry)) (now (index .exit)) ⌝ }
     ensures { λ r. ⌜ CountedAfter (now (s .entry)) (now (index .exit)) r ⌝ }
 {
@@ -71,7 +69,7 @@ pub fn model_into(s: &[u8], index: &mut Index) -> Next
             Next::Refused(number, place) => Next::Refused(number, place),
             Next::At(end) => match finished(s, end) {
                 Next::Refused(number, place) => Next::Refused(number, place),
-                Next::At(next) => within_limits(s, index, next),
+                Next::At(next) => within_limits(s, index, next, limits),
             },
         },
     }

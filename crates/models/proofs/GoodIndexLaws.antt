@@ -14,7 +14,9 @@ use Rattle.farkas.specs.Lists.{All, none, more}
 use Rattle.formats.specs.Reading.{got, finished}
 use Rattle.fields.specs.Places.{numbersAt, rowAt, rowsFrom}
 use Rattle.formats.specs.Model.{Mode, Switch, Component, Unsafe, Model, readMode, readSwitch, readComponent, readUnsafe, readModelBody}
-use Rattle.formats.specs.ModelSheet.{Limits, readModel}
+use Rattle.formats.specs.declared.Limits.{Limits}
+use Rattle.formats.specs.ModelSheet.{readModel}
+use Rattle.formats.proofs.ModelSheet.{in-a-chain}
 use Rattle.formats.specs.Joint.{switchOf, leaves, countUp}
 use Rattle.models.specs.Index.{entry, ownerPlace, componentPlace, modePlace, switchPlace, unsafePlace, spanRows, modeFrom, switchFrom, componentFrom, unsafeFrom, componentsFrom, modelFrom, GoodSpan, GoodModeAt, GoodSwitchAt, GoodBlock, GoodIndex}
 use Rattle.models.specs.Counts.{componentAt}
@@ -218,13 +220,10 @@ body-few version =
     (λ unsafe j. gives-give _ (record { components = i .1; unsafe = j .1 })))))))
 
 pub few-rows : (limits : Limits) (s : List ℕ) (m : Model) (next : ℕ) → readModel limits s ≡ got m next → FewRows m
-unfolding readModel
 few-rows limits s m next e =
     gives-bind gives-any
-    (λ version u.
-    gives-bind gives-any
-    (λ place u. gives-bind (body-few version) (λ m w. gives-then finished (gives-then _ (gives-then _ (gives-give m w))))))
-    .holds s 0 m next e
+    (λ version u. gives-bind gives-any (λ place u. gives-bind (body-few version) (λ m w. gives-then finished (gives-then _ (gives-give m w)))))
+    .holds s 0 m next (sym (in-a-chain limits s) ∙ e)
 
 -- from the model to the index
 span-good : (s : List ℕ) (n : ℕ) (index : List ℕ) (i : ℕ) → RowsWithin s (spanRows s n index i) → length (spanRows s n index i) ≤ 8 → GoodSpan s n index i

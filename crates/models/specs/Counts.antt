@@ -4,13 +4,10 @@ use mathlib.Core.Path.{_≡_}
 use mathlib.Core.Bool.{false}
 use mathlib.Core.List.{List}
 use Prim.Native.Nat.{ℕ, _+_, _<_}
-use lib.Dec.{eqb, leb}
-use lib.ListN.{length, getD, take}
-use Rattle.formats.specs.Reading.{Reader, _>>_, expect}
+use lib.Dec.{eqb}
+use lib.ListN.{getD, take}
 use Rattle.formats.specs.Model.{Component, Unsafe}
-use Rattle.formats.specs.Locations.{locationCount}
-use Rattle.formats.specs.Joint.{stays, joints}
-use Rattle.formats.specs.ModelSheet.{Limits}
+use Rattle.formats.specs.Joint.{stays}
 use Rattle.models.specs.Index.{entry, componentPlace, componentFrom, unsafePlace, unsafeFrom}
 
 -- the k-th component of an index
@@ -32,9 +29,3 @@ pub record KnownModes (index modes : List ℕ) : Type 0 where
 -- each component's number is that of one of its switches, or says that the component stays
 pub record KnownSwitches (index switches : List ℕ) : Type 0 where
   pub known : (k : ℕ) → k < entry index 1 → eqb (getD switches k 0) stays ≡ false → getD switches k 0 < entry index (componentPlace k + 2)
-
--- 7, then 8: the two limits on a model, with their place
-unfoldable pub limitsTest : Limits → List Component → ℕ → Reader (Unit {0})
-limitsTest limits components place = do
-  expect (leb (locationCount components) (limits .locations)) 7 place
-  expect (leb (length (joints components)) (limits .joints)) 8 place

@@ -8,18 +8,19 @@ use Prim.Native.Nat.{ℕ, _≤_, _+_}
 use native.Mathlib.Omega.{arith}
 use lib.Dec.{leb, T, eqb, leb→le}
 use lib.ListN.{length, take}
-use borrow.Author.Tests.{leb-true}
-use Rattle.formats.specs.Reading.{Got, got, refused, Reader, andThen, _>>=_, _>>_, expect, header, finished, bigEndian, lengthRight}
+use Rattle.formats.specs.Reading.{Got, got, refused, Reader, andThen, _>>=_, _>>_, header, bigEndian, lengthRight}
 use Rattle.formats.specs.Rows.{Condition}
 use Rattle.formats.specs.Model.{Model}
 use Rattle.formats.specs.Locations.{locationCount}
 use Rattle.formats.specs.Joint.{joints}
 use Rattle.models.specs.Index.{entry, componentsFrom, modelFrom}
 use Rattle.joint_switches.specs.Counted.{Counted}
-use Rattle.formats.specs.ModelSheet.{Limits, examLimits, readModel}
+use Rattle.formats.specs.declared.Limits.{Limits}
+use Rattle.formats.specs.ModelSheet.{limitsFit, readModel}
+use Rattle.formats.proofs.ModelSheet.{in-a-chain, read-whole, fit-low}
 use Rattle.formats.specs.Certificate.{readRegions}
 use Rattle.second_sheets.specs.CertificateAnswers.{regionsFrom, regionsFor, GoodRegions}
-use Rattle.formats.proofs.Gives.{Gives, passes, gives-bind, gives-then, gives-give, gives-any, then-got, and-left, and-right}
+use Rattle.formats.proofs.Gives.{passes, then-got, and-left, and-right}
 use Rattle.model_sheets.proofs.SheetLaws.{header-read, sheet-first}
 use Rattle.formats.proofs.Placed.{Fine, placed-regions, placed-header, model-fine}
 use Rattle.models.proofs.GoodIndexLaws.{index-good}
@@ -28,58 +29,24 @@ use Rattle.papers.specs.Paper.{GoodPaper, Accepted}
 use Rattle.fields.proofs.HeaderLaws.{header-unsized}
 use Rattle.rules.specs.Runs.{after}
 
--- a test that had to be passed was passed
-expected : {A : Type 0} {P : A → Type 0} (b : Bool) (number place : ℕ) (r : Reader A) → (b ≡ true → Gives P r) → Gives P (expect b number place >> r)
-unfolding expect _>>_ andThen
-expected true number place r f = gives-then (expect true number place) (f refl)
-expected false number place r f = record { holds = λ s p a next e. let z : _≡_ {A = ℕ} 0 1 = cc in absurd (omega arith) }
-
--- a model that a sheet gives has at most as many joint switches as the limits allow
-pub few-joints : (limits : Limits) (s : List ℕ) (m : Model) (next : ℕ) → readModel limits s ≡ got m next → length (joints (m .components)) ≤ limits .joints
-unfolding readModel
-few-joints limits s m next e =
-    gives-bind gives-any
-    (λ version u.
-    gives-bind gives-any
-    (λ place u.
-    gives-bind gives-any
-    (λ (m : Model) u. gives-then finished (gives-then _ (expected (leb (length (joints (m .components))) (limits .joints)) 8 place _ (λ t. gives-give m (leb-true (length (joints (m .components))) (limits .joints) t)))))))
-    .holds s 0 m next e
-
--- its sheet is short
+-- a model sheet that was read is short
 pub model-short : (limits : Limits) (s : List ℕ) (m : Model) (next : ℕ) → readModel limits s ≡ got m next → length s ≤ 32768
-unfolding readModel _>>=_
+unfolding _>>=_
 model-short limits s m next e =
-    let w = passes (header 1 s 0) _ s m next e in
+    let w = passes (header 1 s 0) _ s m next (sym (in-a-chain limits s) ∙ e) in
     header-read 1 s (w .value) (w .place) (w .first) .short
 
--- a model that a sheet gives has at most as many locations as the limits allow
-few-locations : (limits : Limits) (s : List ℕ) (m : Model) (next : ℕ) → readModel limits s ≡ got m next → locationCount (m .components) ≤ limits .locations
-unfolding readModel
-few-locations limits s m next e =
-    gives-bind gives-any
-    (λ version u.
-    gives-bind gives-any
-    (λ place u.
-    gives-bind gives-any
-    (λ (m : Model) u.
-    gives-then finished
-    (expected (leb (locationCount (m .components)) (limits .locations)) 7 place _
-    (λ t. gives-then _ (gives-give m (leb-true (locationCount (m .components)) (limits .locations) t)))))))
-    .holds s 0 m next e
-
-pub few-read : (model index : List ℕ) (next : ℕ) → readModel examLimits model ≡ got (modelFrom model index) next → locationCount (componentsFrom model index) ≤ 64
-unfolding examLimits modelFrom
-few-read model index next e = few-locations examLimits model (modelFrom model index) next e
-
-pub accepted : (model index : List ℕ) (next : ℕ) → readModel examLimits model ≡ got (modelFrom model index) next → Counted model index → Accepted model index
-unfolding examLimits modelFrom
-accepted model index next e counted =
+-- a model that was read under limits that fit
+pub accepted : (limits : Limits) (model index : List ℕ) (next : ℕ) → T (limitsFit limits) → readModel limits model ≡ got (modelFrom model index) next → Counted model index → Accepted model index
+unfolding modelFrom
+accepted limits model index next t e counted =
+    let w = read-whole limits model (modelFrom model index) next e .few in
+    let low = fit-low limits t in
     record {
-      good = index-good examLimits model index next e;
-      short = model-short examLimits model (modelFrom model index) next e;
-      few = few-read model index next e;
-      joined = few-joints examLimits model (modelFrom model index) next e;
+      good = index-good limits model index next e;
+      short = model-short limits model (modelFrom model index) next e;
+      few = omega (arith, w .locations, low .locations);
+      joined = omega (arith, w .joined, low .joints);
       counted = counted;
     }
 

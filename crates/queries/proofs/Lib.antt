@@ -1,3 +1,4 @@
 pub mod FindLaws
 pub mod HeldLaws
 pub mod ShowLaws
+pub mod Desks

@@ -15,7 +15,8 @@ use Rattle.formats.specs.Rows.{Condition}
 use Rattle.formats.specs.Model.{Model}
 use Rattle.formats.specs.Locations.{locationCount}
 use Rattle.models.specs.Index.{entry, componentsFrom, modelFrom}
-use Rattle.formats.specs.ModelSheet.{Limits, readModel, examLimits}
+use Rattle.formats.specs.declared.Limits.{Limits}
+use Rattle.rules.specs.Opening.{ModelOpened, opens, shut}
 use Rattle.formats.specs.Certificate.{readRegions}
 use Rattle.second_sheets.specs.CertificateAnswers.{regionsFrom}
 use Rattle.queries.specs.declared.Which.{Which}
@@ -38,6 +39,7 @@ use Rattle.hypotheses.proofs.RoleLines.{roles}
 use Rattle.rules.proofs.MarkedRanges.{found-within}
 use Rattle.queries.proofs.FindLaws.{one-gone}
 use Rattle.papers.specs.Opening.{opened, Open}
+use Rattle.rules.proofs.Calls.{foundBy, roleBy}
 use Rattle.papers.proofs.OpenLaws.{open-refused, open-goes-on}
 
 -- The answers by a number in the list are those by the one obligation that has it
@@ -81,9 +83,9 @@ module _ (limits : Limits) (model index second regions : List ℕ) (o h : ℕ) w
       ∙ sym (row-one (rolesFor model index second regions) (paperObligations model index second regions) o h)
       ∙ ap (λ (t : Told). t .row) (w .told o h)
 
-  pub opens : {r : Opened} → r ≡ outcome.Open → OpensTo limits model index second regions r → OpenFor limits model index second regions
+  pub is-open : {r : Opened} → r ≡ outcome.Open → OpensTo limits model index second regions r → OpenFor limits model index second regions
   unfolding OpensTo
-  opens e w = subst (OpensTo limits model index second regions) e w
+  is-open e w = subst (OpensTo limits model index second regions) e w
 
   pub which-stopped : {r : Opened} (number sheet place : ℕ) → r ≡ outcome.Refused number sheet place → OpensTo limits model index second regions r → whichRefused number sheet place ≡ whichObligation limits model second o
   unfolding OpensTo toldRefused toldFor
@@ -124,37 +126,30 @@ pub told-rest : (m : Model) (second : List ℕ) (o h : ℕ) (g : Got (List Condi
 unfolding toldIn toldAfter whichAfter findAfter roleAfter
 told-rest m second o h g regions next e = sym (ap (toldAfter m second o h) e)
 
-abbrev whichGot : List ℕ → ℕ → Got Model → Which
-whichGot second o g = elim g [ got m next ↦ whichAfter m second o ((header 2 >> readRegions m) second 0) | refused number at ↦ whichRefused number 0 at ]
+-- what is told, by how the model opens
+abbrev pub whichBy : List ℕ → ℕ → ModelOpened → Which
+whichBy second o g =
+    elim g as (λ x. Which) [
+      | opens m ↦ whichAfter m second o ((header 2 >> readRegions m) second 0)
+      | shut number sheet at ↦ whichRefused number sheet at
+    ]
 
-abbrev findGot : List ℕ → ℕ → ℕ → Got Model → Found
-findGot second o h g = elim g [ got m next ↦ findAfter m o h ((header 2 >> readRegions m) second 0) | refused number at ↦ unfound number 0 at ]
-
-abbrev roleGot : List ℕ → ℕ → ℕ → Got Model → Role
-roleGot second o h g = elim g [ got m next ↦ roleAfter m o h ((header 2 >> readRegions m) second 0) | refused number at ↦ noRole ]
-
-pub told-model : (limits : Limits) (model second : List ℕ) (o h number at : ℕ) → readModel limits model ≡ refused number at → toldRefused number 0 at ≡ toldFor limits model second o h
-unfolding toldRefused toldFor whichObligation findHypothesis hypothesisLocated hypothesisRole rowFound noRow
-told-model limits model second o h number at e =
-    sym (ap (λ (g : Got Model). record { which = whichGot second o g; row = located (rowFound (findGot second o h g)) (roleGot second o h g) }) e)
-
-pub told-sheet : (limits : Limits) (model second : List ℕ) (o h : ℕ) (m : Model) (next : ℕ) → readModel limits model ≡ got m next → toldAfter m second o h ((header 2 >> readRegions m) second 0) ≡ toldFor limits model second o h
-unfolding toldAfter toldFor whichObligation findHypothesis hypothesisLocated hypothesisRole
-told-sheet limits model second o h m next e =
-    sym (ap (λ (g : Got Model). record { which = whichGot second o g; row = located (rowFound (findGot second o h g)) (roleGot second o h g) }) e)
+abbrev toldBy : List ℕ → ℕ → ℕ → ModelOpened → Told
+toldBy second o h g = record { which = whichBy second o g; row = located (rowFound (foundBy second o h g)) (roleBy second o h g) }
 
 -- a paper that does not open is refused so; one that is open is told from its body on
-module _ (model second : List ℕ) (o h : ℕ) where
-  pub told-refused-first : (opened examLimits 2 model second .number ≡ 0 → ⊥) → toldRefused (opened examLimits 2 model second .number) (opened examLimits 2 model second .sheet) (opened examLimits 2 model second .place) ≡ toldFor examLimits model second o h
+module _ (limits : Limits) (model second : List ℕ) (o h : ℕ) where
+  pub told-refused-first : (opened limits 2 model second .number ≡ 0 → ⊥) → toldRefused (opened limits 2 model second .number) (opened limits 2 model second .sheet) (opened limits 2 model second .place) ≡ toldFor limits model second o h
+  unfolding toldRefused toldAfter toldFor whichObligation findHypothesis hypothesisLocated hypothesisRole rowFound noRow
   told-refused-first f =
-      open-refused examLimits 2 model second toldRefused readRegions (λ m. toldAfter m second o h) (toldFor examLimits model second o h)
-      (λ m number at. told-stops m second o h (refused number at) number at refl) (told-model examLimits model second o h) (told-sheet examLimits model second o h) f
+      open-refused limits 2 model second toldRefused readRegions (λ m. toldAfter m second o h) (toldBy second o h)
+      (λ m number at. told-stops m second o h (refused number at) number at refl) (λ number sheet at. refl) (λ m. refl) f
 
-  pub told-open : {index : List ℕ} → Open 2 model index second → toldAfter (modelFrom model index) second o h (readRegions (modelFrom model index) second 4) ≡ toldFor examLimits model second o h
-  told-open {index} w =
-      open-goes-on examLimits 2 model second toldRefused readRegions (λ m. toldAfter m second o h) (toldFor examLimits model second o h)
-      (λ m number at. told-stops m second o h (refused number at) number at refl) (told-model examLimits model second o h) (told-sheet examLimits model second o h)
-      (modelFrom model index) (w .end) (w .version) (w .reads) (w .headed)
+  pub told-open : {index : List ℕ} → Open limits 2 model index second → toldAfter (modelFrom model index) second o h (readRegions (modelFrom model index) second 4) ≡ toldFor limits model second o h
+  unfolding toldRefused toldAfter toldFor whichObligation findHypothesis hypothesisLocated hypothesisRole rowFound noRow
+  told-open w =
+      open-goes-on limits 2 model second toldRefused readRegions (λ m. toldAfter m second o h) (toldBy second o h)
+      (λ m number at. told-stops m second o h (refused number at) number at refl) (λ number sheet at. refl) (λ m. refl) w
 
 -- What is found lies inside its sheet
 stands-inside : (model second : List ℕ) (sheet place size : ℕ) → place + size ≤ length (sheetOf model second sheet) → RowInside model second (standsIn sheet place size)

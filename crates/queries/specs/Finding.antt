@@ -13,7 +13,8 @@ use Rattle.formats.specs.Model.{Model}
 use Rattle.formats.specs.Locations.{locationCount, modesAt}
 use Rattle.formats.specs.Joint.{JointSwitch, switchesOf, joints, countUp, joinAll, jointsOf, jointFrom}
 use Rattle.models.specs.Index.{entry, componentsFrom, modelFrom, variablesIn}
-use Rattle.formats.specs.ModelSheet.{Limits, readModel}
+use Rattle.formats.specs.declared.Limits.{Limits}
+use Rattle.rules.specs.Opening.{opens, shut, openModel}
 use Rattle.formats.specs.Certificate.{readRegions}
 use Rattle.queries.specs.declared.Which.{Which}
 use Rattle.queries.specs.declared.Shown.{Shown}
@@ -72,9 +73,9 @@ whichAfter m second o (got regions next) = whichIn (length second) (obligations 
 -- "once the model and all regions read well"
 unfoldable pub whichObligation : Limits → List ℕ → List ℕ → ℕ → Which
 whichObligation limits model second o =
-    elim (readModel limits model) [
-      | got m next ↦ whichAfter m second o ((header 2 >> readRegions m) second 0)
-      | refused number at ↦ whichRefused number 0 at
+    elim (openModel limits model) [
+      | opens m ↦ whichAfter m second o ((header 2 >> readRegions m) second 0)
+      | shut number sheet at ↦ whichRefused number sheet at
     ]
 
 -- What a hypothesis is: the sister call's number, sheet and place; how many bytes its row has; its role and owner

@@ -9,6 +9,7 @@ use crate::find::find;
 use crate::rows::refused_row;
 use crate::rows::sought_row;
 use fields::Next;
+use formats::Limits;
 use models::layout::INDEX_LENGTH;
 use models::layout::Index;
 use models::layout::LOCATIONS_AT;
@@ -20,7 +21,6 @@ use second_sheets::ranges::REGIONS_LENGTH;
 use second_sheets::ranges::Regions;
 ghost use mathlib.Core.Path.{_≡_};
 ghost use lib.ListN.{length};
-ghost use Rattle.formats.specs.ModelSheet.{examLimits};
 ghost use Rattle.papers.specs.Paper.{GoodPaper};
 ghost use Rattle.rules.specs.Beside.{findHypothesis, showAnswer, showPart};
 ghost use Rattle.queries.specs.Finding.{whichObligation, groupWhich, rowFound, hypothesisLocated, hypothesisAnswer, RowInside, whichOf, OpensTo, PartIs, soughtOneFor, rowAnswer};
@@ -82,11 +82,17 @@ fn sought_which(
     }
 }
 
-// Both sheets read: the model goes first, then the second sheet up to the end of its regions.
-fn open_regions(model: &[u8], second: &[u8], index: &mut Index, regions: &mut Regions) -> Opened
-    ensures { λ r. ⌜ OpensTo examLimits (now (model .entry)) (now (index .exit)) (now (second .entry)) (now (regions .exit)) r ⌝ }
+// Both sheets read: the stated limits and the model go first, then the second sheet up to the end of its regions.
+fn open_regions(
+    model: &[u8],
+    second: &[u8],
+    index: &mut Index,
+    regions: &mut Regions,
+    limits: Limits,
+) -> Opened
+    ensures { λ r. ⌜ OpensTo limits (now (model .entry)) (now (index .exit)) (now (second .entry)) (now (regions .exit)) r ⌝ }
 {
-    let opened = open_paper(model, second, 2, index);
+    let opened = open_paper(model, second, 2, index, limits);
     if opened.number != 0 {
         return Opened::Refused(opened.number, opened.sheet, opened.place);
     }
@@ -99,12 +105,12 @@ fn open_regions(model: &[u8], second: &[u8], index: &mut Index, regions: &mut Re
 }
 
 // Which obligation has a number.
-pub fn which(model: &[u8], second: &[u8], o: u32) -> Which
-    ensures { λ r. ⌜ r ≡ whichObligation examLimits (now (model .entry)) (now (second .entry)) o ⌝ }
+pub fn which(model: &[u8], second: &[u8], o: u32, limits: Limits) -> Which
+    ensures { λ r. ⌜ r ≡ whichObligation limits (now (model .entry)) (now (second .entry)) o ⌝ }
 {
     let mut index = [0u16; INDEX_LENGTH];
     let mut regions = [0u16; REGIONS_LENGTH];
-    match open_regions(model, second, &mut index, &mut regions) {
+    match open_regions(model, second, &mut index, &mut regions, limits) {
         Opened::Refused(number, sheet, place) => Which {
             number,
             sheet,
@@ -121,14 +127,14 @@ pub fn which(model: &[u8], second: &[u8], o: u32) -> Which
 }
 
 // Where the row of a hypothesis stands, with its role and owner; and that it lies inside its sheet.
-pub fn find_row(model: &[u8], second: &[u8], o: u32, h: u32) -> Located
-    ensures { λ r. ⌜ r ≡ hypothesisLocated examLimits (now (model .entry)) (now (second .entry)) o h ⌝ }
+pub fn find_row(model: &[u8], second: &[u8], o: u32, h: u32, limits: Limits) -> Located
+    ensures { λ r. ⌜ r ≡ hypothesisLocated limits (now (model .entry)) (now (second .entry)) o h ⌝ }
     ensures { λ r. ⌜ RowInside (now (model .entry)) (now (second .entry)) (r .row) ⌝ }
-    ensures { λ r. ⌜ rowAnswer (r .row) ≡ showAnswer examLimits (now (model .entry)) (now (second .entry)) o h ⌝ }
+    ensures { λ r. ⌜ rowAnswer (r .row) ≡ showAnswer limits (now (model .entry)) (now (second .entry)) o h ⌝ }
 {
     let mut index = [0u16; INDEX_LENGTH];
     let mut regions = [0u16; REGIONS_LENGTH];
-    match open_regions(model, second, &mut index, &mut regions) {
+    match open_regions(model, second, &mut index, &mut regions, limits) {
         Opened::Refused(number, sheet, place) => refused_row(number, sheet, place),
         Opened::Open => {
             let sought = find(model, &index, second, &regions, o);
@@ -138,10 +144,10 @@ pub fn find_row(model: &[u8], second: &[u8], o: u32, h: u32) -> Located
 }
 
 // A hypothesis by its number: where its row stands, how many bytes it has, its role, and the component or variable that it belongs to.
-pub fn show_hypothesis(model: &[u8], second: &[u8], o: u32, h: u32) -> Shown
-    ensures { λ r. ⌜ r ≡ hypothesisAnswer examLimits (now (model .entry)) (now (second .entry)) o h ⌝ }
+pub fn show_hypothesis(model: &[u8], second: &[u8], o: u32, h: u32, limits: Limits) -> Shown
+    ensures { λ r. ⌜ r ≡ hypothesisAnswer limits (now (model .entry)) (now (second .entry)) o h ⌝ }
 {
-    let located = find_row(model, second, o, h);
+    let located = find_row(model, second, o, h, limits);
     let role = located.role;
     let owner = located.owner;
     let row = located.row;
@@ -182,10 +188,10 @@ pub fn show_hypothesis(model: &[u8], second: &[u8], o: u32, h: u32) -> Shown
 }
 
 // The sister of show row: the number, with the row's sheet and offset.
-pub fn show_answer(model: &[u8], second: &[u8], o: u32, h: u32) -> Answer
-    ensures { λ r. ⌜ r ≡ showAnswer examLimits (now (model .entry)) (now (second .entry)) o h ⌝ }
+pub fn show_answer(model: &[u8], second: &[u8], o: u32, h: u32, limits: Limits) -> Answer
+    ensures { λ r. ⌜ r ≡ showAnswer limits (now (model .entry)) (now (second .entry)) o h ⌝ }
 {
-    let shown = show_hypothesis(model, second, o, h);
+    let shown = show_hypothesis(model, second, o, h, limits);
     Answer {
         number: shown.number,
         sheet: shown.sheet,
@@ -196,11 +202,11 @@ pub fn show_answer(model: &[u8], second: &[u8], o: u32, h: u32) -> Answer
 }
 
 // Show row: the bytes of one hypothesis in whichever sheet holds it, or no bytes.
-pub fn show_row<'a>(model: &'a [u8], second: &'a [u8], o: u32, h: u32) -> &'a [u8]
-    ensures { λ r. ⌜ now r ≡ showPart examLimits (now (model .entry)) (now (second .entry)) o h ⌝ }
-    ensures { λ r. ⌜ PartIs (now (model .entry)) (now (second .entry)) (rowFound (findHypothesis examLimits (now (model .entry)) (now (second .entry)) o h)) (now r) ⌝ }
+pub fn show_row<'a>(model: &'a [u8], second: &'a [u8], o: u32, h: u32, limits: Limits) -> &'a [u8]
+    ensures { λ r. ⌜ now r ≡ showPart limits (now (model .entry)) (now (second .entry)) o h ⌝ }
+    ensures { λ r. ⌜ PartIs (now (model .entry)) (now (second .entry)) (rowFound (findHypothesis limits (now (model .entry)) (now (second .entry)) o h)) (now r) ⌝ }
 {
-    let located = find_row(model, second, o, h);
+    let located = find_row(model, second, o, h, limits);
     let row = located.row;
     match row {
         RowFound::InModel(place, size) => {

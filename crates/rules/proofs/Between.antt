@@ -23,7 +23,8 @@ use Rattle.formats.specs.Rows.{Condition}
 use Rattle.formats.specs.Model.{Mode, Model}
 use Rattle.formats.specs.Locations.{locationCount, modesAt}
 use Rattle.formats.specs.Joint.{isJoint}
-use Rattle.formats.specs.ModelSheet.{Limits, readModel}
+use Rattle.formats.specs.declared.Limits.{Limits}
+use Rattle.formats.specs.ModelSheet.{readModel}
 use Rattle.formats.specs.RunSheet.{Step, flow, jump}
 use Rattle.rules.specs.Runs.{State, conditionHolds, modesIn, admissible, startAllowed, difference, sameValues, ratesHold, stillAtZero, flowRule, movers, stayingVariables, stayingKept, jumpRows, jumpRule, after, ruleMet, stepAllowed, stepsAllowed, Run, endOf, isUnsafe}
 use Rattle.rules.specs.Marking.{markCertificate}

@@ -1,22 +1,26 @@
--- A certificate is accepted exactly when both sheets read well and every obligation's multipliers meet Farkas' condition. The marking
--- reads and tests proof by proof; that is the same as reading all proofs and then testing all. Assumes nothing.
+-- A certificate is accepted exactly when the stated limits fit, both sheets read well and every obligation's multipliers meet Farkas'
+-- condition. The marking reads and tests proof by proof; that is the same as reading all proofs and then testing all. Assumes nothing.
 use mathlib.Core.Path.{_≡_, refl, sym, ap, _∙_, subst}
 use mathlib.Core.Logic.{_↔_}
 use mathlib.Core.List.{List, [], _∷_}
 use Prim.Native.Nat.{ℕ, zero, suc, _+_, _≤_}
 use native.Mathlib.Omega.{arith}
+use lib.Dec.{T}
 use lib.ListN.{length}
 use Rattle.farkas.specs.Farkas.{Proof, Meets, farkasTest}
 use Rattle.farkas.proofs.Promise.{zero-means}
 use Rattle.formats.specs.Reading.{Got, got, refused, Reader, _>>=_, _>>_, give, each, header, finished}
 use Rattle.formats.specs.Rows.{Condition}
 use Rattle.formats.specs.Model.{Model}
-use Rattle.formats.specs.ModelSheet.{Limits, readModel}
+use Rattle.formats.specs.declared.Limits.{Limits}
+use Rattle.formats.specs.ModelSheet.{limitsFit, readModel}
 use Rattle.formats.specs.Certificate.{readRegions, readProof}
 use Rattle.formats.proofs.Gives.{passes, got-value, each-got, bind-got, then-got}
-use Rattle.formats.proofs.Placed.{Fine, placed-finished, model-fine}
+use Rattle.formats.proofs.Placed.{Fine, placed-finished}
 use Rattle.rules.specs.declared.Answer.{Answer}
 use Rattle.rules.specs.Obligations.{Obligation, zeroOnly, obligations}
+use Rattle.rules.proofs.Opening.{read-opens, with-model}
+use Rattle.rules.specs.Opening.{openModel}
 use Rattle.rules.specs.Marking.{answer, scoreOf, refusedScore, Marked, passed, stopped, testProof, markProof, markProofs, closeCertificate, markRegions, withModel, markCertificate}
 use Rattle.rules.proofs.MarkedRanges.{Marks, proofs-mark, regions-fine}
 use Rattle.rules.specs.ReadWell.{Certificate, readProofs, readCertificate, rowsOf, AllMeet, met-none, met-more, CertificateHolds}
@@ -113,16 +117,20 @@ goes-on : (all : List Obligation) (s : List ℕ) (place : ℕ) → place ≤ len
 goes-on all s place l u next d e = subst (λ k. Marks s (length all) k) e (proofs-mark all s place 0 (length all) l (omega arith)) .0
 
 -- what acceptance tells of each part
-pub record ModelRead (g : Got Model) (f : Model → Answer) : Type 0 where
-  pub m : Model
-  pub end : ℕ
-  pub read : g ≡ got m end
-  pub rest : f m .number ≡ 0
+record ModelRead (limits : Limits) (s : List ℕ) (f : Model → Answer) : Type 0 where
+  m : Model
+  end : ℕ
+  fit : T (limitsFit limits)
+  read : readModel limits s ≡ got m end
+  rest : f m .number ≡ 0
 
-pub model-read : (s : List ℕ) (g : Got Model) (f : Model → Answer) → Fine s 0 g → withModel g f .number ≡ 0 → ModelRead g f
-unfolding withModel answer
-model-read s (refused n at) f fine h = absurd (omega (arith, fine .0))
-model-read s (got m next) f fine h = record { m = m; end = next; read = refl; rest = h }
+model-read : (limits : Limits) (s : List ℕ) (f : Model → Answer) → withModel (openModel limits s) f .number ≡ 0 → ModelRead limits s f
+unfolding answer
+model-read limits s f =
+    with-model (λ a. a .number ≡ 0 → ModelRead limits s f) limits s f
+    (λ h. absurd (omega arith))
+    (λ number at i j k h. absurd (omega arith))
+    (λ m next t e h. record { m = m; end = next; fit = t; read = e; rest = h })
 
 record RegionsRead (m : Model) (s : List ℕ) (g : Got (List Condition)) : Type 0 where
   regions : List Condition
@@ -166,12 +174,13 @@ whole-certificate m s regions place next end proofs r p f =
 pub accepted-holds : (limits : Limits) (model second : List ℕ) → markCertificate limits model second .number ≡ 0 → CertificateHolds limits model second
 unfolding markCertificate
 accepted-holds limits model second h =
-    let w = model-read model (readModel limits model) (λ m. markRegions m second ((header 2 >> readRegions m) second 0)) (model-fine limits model) h in
+    let w = model-read limits model (λ m. markRegions m second ((header 2 >> readRegions m) second 0)) h in
     let r = regions-read (w .m) second ((header 2 >> readRegions (w .m)) second 0) (regions-fine (w .m) second) (w .rest) in
     let all = obligations (w .m) (r .regions) in
     let c = close-read (length all) second (markProofs all second (r .place) 0) (stops all second (r .place) (r .within)) (goes-on all second (r .place) (r .within)) (r .rest) in
     let v = marked-read all second (r .place) 0 tt (c .next) (c .done) (c .passes) .0 in
     record {
+      fit = w .fit;
       m = w .m;
       modelEnd = w .end;
       modelReads = w .read;
@@ -213,7 +222,7 @@ holds-accepted limits model second w =
     let v = parts-of (w .m) second (w .certificate) (w .secondEnd) (w .secondReads) in
     let all = obligations (w .m) (w .certificate .regions) in
     let passes-all = read-marked all second (v .place) 0 (w .certificate .proofs) (v .next) (v .proofs) (w .meet) in
-    ap (λ g. withModel g (λ m. markRegions m second ((header 2 >> readRegions m) second 0)) .number) (w .modelReads)
+    ap (λ g. withModel g (λ m. markRegions m second ((header 2 >> readRegions m) second 0)) .number) (read-opens limits model (w .m) (w .modelEnd) (w .fit) (w .modelReads))
     ∙ ap (λ g. markRegions (w .m) second g .number) (v .regions)
     ∙ ap (λ k. closeCertificate (length all) second k .number) passes-all
     ∙ ap (λ g. (elim g as (λ x. Answer) [ got u k ↦ answer 0 1 (length second) (0 + length all) (scoreOf (0 + length all) (length all)) | refused n at ↦ answer n 1 at (0 + length all) (refusedScore (0 + length all) (length all)) ]) .number) (v .finishes)

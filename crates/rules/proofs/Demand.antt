@@ -13,7 +13,8 @@ use Rattle.farkas.specs.Lists.{All, none, more}
 use Rattle.formats.specs.Reading.{got, _>>=_, give, each, header}
 use Rattle.formats.specs.Rows.{Condition}
 use Rattle.formats.specs.Model.{Model}
-use Rattle.formats.specs.ModelSheet.{Limits, readModel}
+use Rattle.formats.specs.declared.Limits.{Limits}
+use Rattle.formats.specs.ModelSheet.{readModel}
 use Rattle.formats.proofs.Gives.{passes, got-value, gives-then}
 use Rattle.formats.proofs.Members.{all-in}
 use Rattle.formats.proofs.WellFormed.{WellFormed, well-formed, regions-give, proof-gives}

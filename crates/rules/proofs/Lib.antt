@@ -4,6 +4,8 @@ pub mod Shown
 pub mod Hypotheses
 pub mod Safety
 pub mod ObligationTotal
+pub mod Opening
+pub mod Calls
 pub mod MarkedRanges
 pub mod CertificateExactly
 pub mod RunExactly
@@ -11,6 +13,7 @@ pub mod Outcomes
 pub mod Ranges
 pub mod HypothesesExactly
 pub mod Demand
+pub mod Desks
 pub mod Between
 pub mod Rejected
 pub mod Movers

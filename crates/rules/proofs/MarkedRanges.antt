@@ -1,6 +1,6 @@
 -- Every answer's fields stay in their ranges: number, sheet, place within the sheet that it names, done and score. And the row that
 -- show row finds stands within the sheet that it names. Assumes nothing.
-use mathlib.Core.Path.{_≡_, refl, subst}
+use mathlib.Core.Path.{_≡_, refl, subst, sym}
 use mathlib.Core.Logic.{⊎-elim}
 use mathlib.Core.Bool.{Bool, true, false, cond, _&&_}
 use mathlib.Core.List.{List, [], _∷_, map}
@@ -20,7 +20,8 @@ use Rattle.formats.specs.Rows.{Condition}
 use Rattle.formats.specs.Model.{Mode, Component, Unsafe, Model}
 use Rattle.formats.specs.Locations.{locationCount, modesAt, modeOf}
 use Rattle.formats.specs.Joint.{stays, switchOf, JointSwitch, joints, joinAll}
-use Rattle.formats.specs.ModelSheet.{Limits, readModel}
+use Rattle.formats.specs.declared.Limits.{Limits}
+use Rattle.formats.specs.ModelSheet.{readModel}
 use Rattle.formats.specs.Certificate.{readRegions}
 use Rattle.formats.specs.RunSheet.{Step, Opening, readValues, readOpening}
 use Rattle.formats.proofs.Gives.{Gives, passes, gives-bind, gives-then, gives-give, gives-any, gives-within}
@@ -30,8 +31,11 @@ use Rattle.formats.proofs.RowPlaces.{RowsWithin, ModeWithin, ComponentWithin, M
 use Rattle.rules.specs.declared.Answer.{Answer}
 use Rattle.rules.specs.Runs.{State, present, modesIn, startAllowed, movers, stayingVariables, stepAllowed, after, modesFit, isUnsafe}
 use Rattle.rules.specs.Obligations.{Hypothesis, nowhere, standing, onX, onNext, onRates, timeRow, stayingRows, modeRows, startHypotheses, flowHypotheses, unsafeHypotheses, jumpHypotheses, Kind, atStart, afterFlow, afterJump, Obligation, zeroOnly, perRow, startObligations, flowObligations, unsafeObligations, locationObligations, jumpObligations, jumpsObligations, obligationsOver, regionOf, obligations}
-use Rattle.rules.specs.Marking.{answer, scoreOf, refusedScore, Marked, passed, stopped, testProof, markProof, markProofs, closeCertificate, markRegions, withModel, markCertificate, testStep, markStep, markSteps, closeRun, firstState, markOpening, markRun}
-use Rattle.rules.specs.Beside.{listAnswer, Found, found, unfound, noObligation, findIn, findAfter, findHypothesis, foundAnswer, showAnswer, sheetOf}
+use Rattle.rules.proofs.Calls.{foundBy}
+use Rattle.rules.proofs.Opening.{Begins, begins, with-model}
+use Rattle.rules.specs.Opening.{openModel}
+use Rattle.rules.specs.Marking.{answer, scoreOf, refusedScore, Marked, passed, stopped, testProof, markProof, markProofs, closeCertificate, markRegions, markCertificate, testStep, markStep, markSteps, closeRun, firstState, markOpening, markRun}
+use Rattle.rules.specs.Beside.{listAnswer, Found, found, unfound, noObligation, findIn, findAfter, findHypothesis, foundAnswer, showAnswer, sheetOf, listOf}
 use Rattle.rules.proofs.Hypotheses.{all-so, join-all}
 
 -- the fields of an answer on these two sheets, all but done, whose bound is each call's own
@@ -104,12 +108,6 @@ close-certificate model second total (passed u place done) w =
     go (got v next) x = let l = score-fits done total (omega arith) in omega arith
     go (refused number at) x = let l = refused-score-fits done total in omega arith
 
--- the model goes first: it is refused with nothing done, or what follows has the property
-pub with-model : (P : Answer → Type 0) (model : List ℕ) (g : Got Model) (f : Model → Answer) → Fine model 0 g → ((number at : ℕ) → 1 ≤ number → number ≤ 9 → at ≤ length model → P (answer number 0 at 0 0)) → ((m : Model) (next : ℕ) → g ≡ got m next → P (f m)) → P (withModel g f)
-unfolding withModel
-with-model P model (got m next) f w refusal value = value m next refl
-with-model P model (refused number at) f w refusal value = refusal number at (w .0) (w .1) (w .2)
-
 -- the second sheet up to its regions
 pub regions-fine : (m : Model) (s : List ℕ) → Fine s 0 ((header 2 >> readRegions m) s 0)
 regions-fine m s = placed-then {least = 0} (placed-header 2) (placed-regions m) .fine s 0 (omega arith) (omega arith)
@@ -133,9 +131,10 @@ regions-marked limits model second m modelEnd (refused number at) e d w = (omega
 certificate-ranges : (limits : Limits) (model second : List ℕ) → CertificateRange limits model second (markCertificate limits model second)
 unfolding markCertificate answer
 certificate-ranges limits model second =
-    with-model (CertificateRange limits model second) model (readModel limits model) _ (model-fine limits model)
+    with-model (CertificateRange limits model second) limits model _
+    (omega arith, before-proofs refl)
     (λ number at i j k. (omega arith, before-proofs refl))
-    (λ m next e. regions-marked limits model second m next _ e refl (regions-fine m second))
+    (λ m next t e. regions-marked limits model second m next _ e refl (regions-fine m second))
 
 pub certificate-in-range : (limits : Limits) (model second : List ℕ) → AnswerRange model second (markCertificate limits model second)
 certificate-in-range limits model second = certificate-ranges limits model second .0
@@ -230,9 +229,10 @@ opening-marked limits model second m modelEnd (refused number at) e d w = (omega
 run-ranges : (limits : Limits) (model second : List ℕ) → RunRange limits model second (markRun limits model second)
 unfolding markRun answer
 run-ranges limits model second =
-    with-model (RunRange limits model second) model (readModel limits model) _ (model-fine limits model)
+    with-model (RunRange limits model second) limits model _
+    (omega arith, before-steps refl)
     (λ number at i j k. (omega arith, before-steps refl))
-    (λ m next e. opening-marked limits model second m next _ e refl (opening-fine m second))
+    (λ m next t e. opening-marked limits model second m next _ e refl (opening-fine m second))
 
 pub run-in-range : (limits : Limits) (model second : List ℕ) → AnswerRange model second (markRun limits model second)
 run-in-range limits model second = run-ranges limits model second .0
@@ -264,11 +264,12 @@ pub record ListRange (limits : Limits) (model second : List ℕ) (lent : ℕ) (a
   pub needs : a .number ≡ 15 → Needs limits model lent a
 
 pub list-in-range : (limits : Limits) (model second : List ℕ) (lent : ℕ) → ListRange limits model second lent (listAnswer limits model lent)
-unfolding listAnswer answer
+unfolding listAnswer listOf answer
 list-in-range limits model second lent =
-    with-model (ListRange limits model second lent) model (readModel limits model) _ (model-fine limits model)
+    with-model (ListRange limits model second lent) limits model _
+    (record { range = omega arith; done = omega arith; needs = λ e. absurd (omega arith) })
     (λ number at i j k. record { range = omega arith; done = omega arith; needs = λ e. absurd (omega arith) })
-    (λ m next e. go m next e (leb (length (joints (m .components))) lent) refl)
+    (λ m next t e. go m next e (leb (length (joints (m .components))) lent) refl)
   where
     go : (m : Model) (next : ℕ) → readModel limits model ≡ got m next → (b : Bool) → leb (length (joints (m .components))) lent ≡ b → ListRange limits model second lent (cond b (answer 0 0 (length model) (length (joints (m .components))) 0) (answer 15 2 (length (joints (m .components))) 0 0))
     go m next e true d = record { range = omega arith; done = leb-true _ lent d; needs = λ h. absurd (omega arith) }
@@ -428,12 +429,16 @@ module _ (limits : Limits) (model second : List ℕ) (o h : ℕ) where
 
   found-well : FoundWell model second (findHypothesis limits model second o h)
   unfolding findHypothesis sheetOf
-  found-well = go (readModel limits model) refl (model-fine limits model)
+  found-well = go (begins limits model)
     where
-      go : (g : Got Model) → readModel limits model ≡ g → Fine model 0 g → FoundWell model second (elim g [ got m next ↦ findAfter m o h ((header 2 >> readRegions m) second 0) | refused number at ↦ unfound number 0 at ])
-      go (got m next) e x =
-          after-well m _ (rows-within limits model m next e) refl (regions-fine m second)
-      go (refused number at) e x = omega arith
+      go : Begins limits model (openModel limits model) → FoundWell model second (foundBy second o h (openModel limits model))
+      go (Begins.unfit e x) = subst (λ g. FoundWell model second (foundBy second o h g)) (sym x) (omega arith)
+      go (Begins.unread number at t e x) =
+          let w = subst (Fine model 0) e (model-fine limits model) in
+          subst (λ g. FoundWell model second (foundBy second o h g)) (sym x) (omega arith)
+      go (Begins.begun m end t e x) =
+          subst (λ g. FoundWell model second (foundBy second o h g)) (sym x)
+          (after-well m _ (rows-within limits model m end e) refl (regions-fine m second))
 
   pub found-within : (x : Hypothesis) → findHypothesis limits model second o h ≡ found x → RowStands model second x
   found-within x e = subst (FoundWell model second) e found-well

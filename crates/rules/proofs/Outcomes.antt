@@ -15,13 +15,16 @@ use Rattle.farkas.proofs.Promise.{zero-means}
 use Rattle.formats.specs.Reading.{Got, got, refused, _>>_, give, many, each, header, finished}
 use Rattle.formats.specs.Rows.{Condition}
 use Rattle.formats.specs.Model.{Model}
-use Rattle.formats.specs.ModelSheet.{Limits, readModel}
+use Rattle.formats.specs.declared.Limits.{Limits}
+use Rattle.formats.specs.ModelSheet.{limitsFit, readModel}
 use Rattle.formats.specs.Certificate.{readRegions}
 use Rattle.formats.specs.RunSheet.{Step, Opening, readOpening, readStep}
 use Rattle.formats.proofs.Gives.{got-value, each-got}
 use Rattle.rules.specs.declared.Answer.{Answer}
 use Rattle.rules.specs.Runs.{State, startAllowed, stepAllowed, stepsAllowed, after, endOf, isUnsafe}
 use Rattle.rules.specs.Obligations.{Obligation, obligations}
+use Rattle.rules.proofs.Opening.{Begins, begins, read-opens}
+use Rattle.rules.specs.Opening.{ModelOpened, openModel}
 use Rattle.rules.specs.Marking.{answer, scoreOf, refusedScore, Marked, passed, stopped, testProof, markProof, markProofs, closeCertificate, markRegions, withModel, markCertificate, testStep, markStep, markSteps, closeRun, firstState, markOpening, markRun}
 use Rattle.rules.specs.ReadWell.{readProofs, rowsOf, AllMeet, met-none, met-more, CertificateHolds, RunSheet}
 use Rattle.rules.specs.Outcomes.{ProofFails, ProofsStop, StepFails, StepsStop, CertificateEnds, RunEnds}
@@ -270,7 +273,7 @@ certificate-accepted limits model second w =
     let v = parts-of (w .m) second (w .certificate) (w .secondEnd) (w .secondReads) in
     let all = obligations (w .m) (w .certificate .regions) in
     let passes-all = read-marked all second (v .place) 0 (w .certificate .proofs) (v .next) (v .proofs) (w .meet) in
-    ap (λ g. withModel g (λ m. markRegions m second ((header 2 >> readRegions m) second 0))) (w .modelReads)
+    ap (λ g. withModel g (λ m. markRegions m second ((header 2 >> readRegions m) second 0))) (read-opens limits model (w .m) (w .modelEnd) (w .fit) (w .modelReads))
     ∙ ap (λ g. markRegions (w .m) second g) (v .regions)
     ∙ ap (λ k. closeCertificate (length all) second k) passes-all
     ∙ ap (λ g. elim g as (λ x. Answer) [ got u k ↦ answer 0 1 (length second) (0 + length all) (scoreOf (0 + length all) (length all)) | refused n at ↦ answer n 1 at (0 + length all) (refusedScore (0 + length all) (length all)) ]) (v .finishes)
@@ -281,7 +284,7 @@ certificate-accepted limits model second w =
     count n = omega arith
 
 -- what every marking of a certificate says
-module _ (limits : Limits) (model second : List ℕ) (m : Model) (end : ℕ) (reads : readModel limits model ≡ got m end) where
+module _ (limits : Limits) (model second : List ℕ) (m : Model) (end : ℕ) (fit : T (limitsFit limits)) (reads : readModel limits model ≡ got m end) where
   module _ (regions : List Condition) (place : ℕ) (regioned : (header 2 >> readRegions m) second 0 ≡ got regions place) where
     abbrev all : List Obligation
     all = obligations m regions
@@ -293,35 +296,38 @@ module _ (limits : Limits) (model second : List ℕ) (m : Model) (end : ℕ) (re
     finish-ends proofs next d p h c (got v k) f =
         let same : d ≡ total = omega arith in
         CertificateEnds.accepted
-        (record { m = m; modelEnd = end; modelReads = reads; certificate = record { regions = regions; proofs = proofs }; secondEnd = k; secondReads = whole-certificate m second regions place next k proofs regioned p f; meet = h })
+        (record { fit = fit; m = m; modelEnd = end; modelReads = reads; certificate = record { regions = regions; proofs = proofs }; secondEnd = k; secondReads = whole-certificate m second regions place next k proofs regioned p f; meet = h })
         (ap (λ (n : ℕ). answer 0 1 (length second) n (scoreOf n total)) same ∙ ap (λ (n : ℕ). answer 0 1 (length second) total n) (full-score total))
     finish-ends proofs next d p h c (refused n k) f =
         let same : d ≡ total = omega arith in
-        CertificateEnds.bytes-left reads regioned p h f (ap (λ (x : ℕ). answer n 1 k x (refusedScore x total)) same)
+        CertificateEnds.bytes-left fit reads regioned p h f (ap (λ (x : ℕ). answer n 1 k x (refusedScore x total)) same)
 
     proofs-end : (k : Marked (Unit {0})) → markProofs all second place 0 ≡ k → CertificateEnds limits model second (closeCertificate total second k)
     unfolding closeCertificate
-    proofs-end (stopped number at d) e = CertificateEnds.proof-fails reads regioned (proofs-stop-exactly all second place number at d .0 e) refl
+    proofs-end (stopped number at d) e = CertificateEnds.proof-fails fit reads regioned (proofs-stop-exactly all second place number at d .0 e) refl
     proofs-end (passed u next d) e =
         let w = marked-read all second place 0 u next d e in
         finish-ends (w .0 .proofs) next d (w .0 .read) (w .0 .meet) (w .1) (finished second next) refl
 
   regions-end : (g : Got (List Condition)) → (header 2 >> readRegions m) second 0 ≡ g → CertificateEnds limits model second (markRegions m second g)
   unfolding markRegions
-  regions-end (refused number at) e = CertificateEnds.regions-unread reads e refl
+  regions-end (refused number at) e = CertificateEnds.regions-unread fit reads e refl
   regions-end (got regions place) e = proofs-end regions place e (markProofs (obligations m regions) second place 0) refl
 
-model-ends : (limits : Limits) (model second : List ℕ) (g : Got Model) → readModel limits model ≡ g → CertificateEnds limits model second (withModel g (λ m. markRegions m second ((header 2 >> readRegions m) second 0)))
-unfolding withModel
-model-ends limits model second (refused number at) e = CertificateEnds.model-unread e refl
-model-ends limits model second (got m end) e = regions-end limits model second m end e ((header 2 >> readRegions m) second 0) refl
-
 pub certificate-ends : (limits : Limits) (model second : List ℕ) → CertificateEnds limits model second (markCertificate limits model second)
-unfolding markCertificate
-certificate-ends limits model second = model-ends limits model second (readModel limits model) refl
+unfolding markCertificate withModel
+certificate-ends limits model second = go (begins limits model)
+  where
+    ends : ModelOpened → Type 0
+    ends g = CertificateEnds limits model second (withModel g (λ m. markRegions m second ((header 2 >> readRegions m) second 0)))
+
+    go : Begins limits model (openModel limits model) → ends (openModel limits model)
+    go (Begins.unfit e o) = subst ends (sym o) (CertificateEnds.limits-unfit e refl)
+    go (Begins.unread number at t e o) = subst ends (sym o) (CertificateEnds.model-unread t e refl)
+    go (Begins.begun m end t e o) = subst ends (sym o) (regions-end limits model second m end t e ((header 2 >> readRegions m) second 0) refl)
 
 -- what every marking of a run says
-module _ (limits : Limits) (model second : List ℕ) (m : Model) (end : ℕ) (reads : readModel limits model ≡ got m end) where
+module _ (limits : Limits) (model second : List ℕ) (m : Model) (end : ℕ) (fit : T (limitsFit limits)) (reads : readModel limits model ≡ got m end) where
   module _ (o : Opening) (place : ℕ) (opened : (header 3 >> readOpening m) second 0 ≡ got o place) (starts : T (startAllowed m (o .q) (firstState o))) where
     abbrev first : State
     first = firstState o
@@ -330,18 +336,18 @@ module _ (limits : Limits) (model second : List ℕ) (m : Model) (end : ℕ) (re
     verdict-ends steps next last d r a f c true u =
         let sheet : RunSheet = record { opening = o; steps = steps } in
         RunEnds.accepted
-        (record { m = m; modelEnd = end; modelReads = reads; sheet = sheet; secondEnd = last; secondReads = parts-read m second sheet last (record { openingEnd = place; opening = opened; stepsEnd = next; steps = r; finish = f }); starts = starts; allowed = a; ends = subst T (sym u) tt })
+        (record { fit = fit; m = m; modelEnd = end; modelReads = reads; sheet = sheet; secondEnd = last; secondReads = parts-read m second sheet last (record { openingEnd = place; opening = opened; stepsEnd = next; steps = r; finish = f }); starts = starts; allowed = a; ends = subst T (sym u) tt })
         (ap (λ (n : ℕ). answer 0 1 (length second) n 100) c)
-    verdict-ends steps next last d r a f c false u = RunEnds.end-safe reads opened starts r a f u (ap (λ (n : ℕ). answer 14 1 (length second) n 0) c)
+    verdict-ends steps next last d r a f c false u = RunEnds.end-safe fit reads opened starts r a f u (ap (λ (n : ℕ). answer 14 1 (length second) n 0) c)
 
     close-ends : (v : State) (steps : List Step) (next d : ℕ) → many (o .steps) (readStep m) second place ≡ got steps next → T (stepsAllowed m (o .q) first steps) → v ≡ endOf m first steps → d ≡ o .steps → (g : Got (Unit {0})) → finished second next ≡ g → RunEnds limits model second (elim g as (λ x. Answer) [ got u k ↦ cond (isUnsafe m (o .q) v) (answer 0 1 (length second) d 100) (answer 14 1 (length second) d 0) | refused n k ↦ answer n 1 k d 0 ])
     close-ends v steps next d r a e c (got u k) f =
         verdict-ends steps next k d r a f c (isUnsafe m (o .q) v) (ap (isUnsafe m (o .q)) (sym e))
-    close-ends v steps next d r a e c (refused n k) f = RunEnds.bytes-left reads opened starts r a f (ap (λ (x : ℕ). answer n 1 k x 0) c)
+    close-ends v steps next d r a e c (refused n k) f = RunEnds.bytes-left fit reads opened starts r a f (ap (λ (x : ℕ). answer n 1 k x 0) c)
 
     steps-end : (k : Marked State) → markSteps m (o .q) first (o .steps) second place 0 ≡ k → RunEnds limits model second (closeRun m (o .q) second k)
     unfolding closeRun
-    steps-end (stopped number at d) e = RunEnds.step-fails reads opened starts (steps-stop-exactly m (o .q) second first (o .steps) place number at d .0 e) refl
+    steps-end (stopped number at d) e = RunEnds.step-fails fit reads opened starts (steps-stop-exactly m (o .q) second first (o .steps) place number at d .0 e) refl
     steps-end (passed v next d) e =
         let w = steps-passed m (o .q) second first (o .steps) place 0 v next d e in
         let again = sym e ∙ pass-steps m (o .q) second first (o .steps) place 0 (o .steps) (w .steps) next (omega arith) (w .read) (w .allowed) in
@@ -350,18 +356,21 @@ module _ (limits : Limits) (model second : List ℕ) (m : Model) (end : ℕ) (re
 
   opening-ends : (g : Got Opening) → (header 3 >> readOpening m) second 0 ≡ g → RunEnds limits model second (markOpening m second g)
   unfolding markOpening
-  opening-ends (refused number at) e = RunEnds.opening-unread reads e refl
+  opening-ends (refused number at) e = RunEnds.opening-unread fit reads e refl
   opening-ends (got o place) e = go (startAllowed m (o .q) (firstState o)) refl
     where
       go : (b : Bool) → startAllowed m (o .q) (firstState o) ≡ b → RunEnds limits model second (elim b as (λ x. Answer) [ true ↦ closeRun m (o .q) second (markSteps m (o .q) (firstState o) (o .steps) second place 0) | false ↦ answer 12 1 (o .place) 0 0 ])
       go true t = steps-end o place e (subst T (sym t) tt) (markSteps m (o .q) (firstState o) (o .steps) second place 0) refl
-      go false t = RunEnds.start-disallowed reads e t refl
-
-run-model-ends : (limits : Limits) (model second : List ℕ) (g : Got Model) → readModel limits model ≡ g → RunEnds limits model second (withModel g (λ m. markOpening m second ((header 3 >> readOpening m) second 0)))
-unfolding withModel
-run-model-ends limits model second (refused number at) e = RunEnds.model-unread e refl
-run-model-ends limits model second (got m end) e = opening-ends limits model second m end e ((header 3 >> readOpening m) second 0) refl
+      go false t = RunEnds.start-disallowed fit reads e t refl
 
 pub run-ends : (limits : Limits) (model second : List ℕ) → RunEnds limits model second (markRun limits model second)
-unfolding markRun
-run-ends limits model second = run-model-ends limits model second (readModel limits model) refl
+unfolding markRun withModel
+run-ends limits model second = go (begins limits model)
+  where
+    ends : ModelOpened → Type 0
+    ends g = RunEnds limits model second (withModel g (λ m. markOpening m second ((header 3 >> readOpening m) second 0)))
+
+    go : Begins limits model (openModel limits model) → ends (openModel limits model)
+    go (Begins.unfit e o) = subst ends (sym o) (RunEnds.limits-unfit e refl)
+    go (Begins.unread number at t e o) = subst ends (sym o) (RunEnds.model-unread t e refl)
+    go (Begins.begun m end t e o) = subst ends (sym o) (opening-ends limits model second m end t e ((header 3 >> readOpening m) second 0) refl)

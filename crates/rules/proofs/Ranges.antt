@@ -1,7 +1,7 @@
 -- The ranges that 01 gives for the fields of a sheet, as propositions on what the sheet holds, and that reading gives nothing outside
--- them: models, proofs and run sheets. WellFormed (crate sheets) has what the code's own proofs need of this, and is proved of an index
+-- them: models, proofs and run sheets. WellFormed (crate formats) has what the code's own proofs need of this, and is proved of an index
 -- too; here is every range. Assumes nothing.
-use mathlib.Core.Path.{_≡_, refl, sym, ap, subst}
+use mathlib.Core.Path.{_≡_, refl, sym, ap, subst, _∙_}
 use mathlib.Core.Logic.{_⊎_, inl, inr, ⊎-elim}
 use mathlib.Core.Bool.{Bool, true, false, cond, _&&_, _||_}
 use mathlib.Core.List.{List, [], _∷_}
@@ -15,15 +15,17 @@ use lib.Signed.{leZ, _≤ℤ_}
 use mir.Facts.{and-yes}
 use Rattle.farkas.specs.Farkas.{Entry, Proof}
 use Rattle.farkas.specs.Lists.{All}
-use Rattle.formats.specs.Reading.{got, Reader, _>>_, expect, u8, u16, u32, s32, must, within, withinSigned, each, header, here, finished, sized}
+use Rattle.formats.specs.Reading.{got, Reader, u8, u16, u32, s32, must, within, withinSigned, each, header, here, finished, sized}
 use Rattle.formats.specs.Rows.{Condition, readCondition}
 use Rattle.formats.specs.Model.{Mode, Switch, Component, Unsafe, Model, hasEvent, readMode, readSwitch, readComponent, readUnsafe, readModelBody}
 use Rattle.formats.specs.Locations.{locationCount}
 use Rattle.formats.specs.Joint.{stays, joints}
-use Rattle.formats.specs.ModelSheet.{Limits, readModel}
+use Rattle.formats.specs.declared.Limits.{Limits}
+use Rattle.formats.specs.ModelSheet.{readModel}
+use Rattle.formats.proofs.ModelSheet.{chain, in-a-chain, read-whole}
 use Rattle.formats.specs.Certificate.{readEntry, readEntries, readProof}
 use Rattle.formats.specs.RunSheet.{Step, flow, jump, Opening, readValues, readOpening, readFlow, readJump, readStepOf, readStep}
-use Rattle.formats.proofs.Gives.{Gives, passes, gives-bind, gives-then, gives-give, gives-any, gives-must, gives-weaken, gives-within, gives-below, gives-many}
+use Rattle.formats.proofs.Gives.{Gives, gives-bind, gives-then, gives-give, gives-any, gives-must, gives-weaken, gives-within, gives-below, gives-many}
 use Rattle.formats.proofs.WellFormed.{condition-gives}
 use Rattle.rules.specs.Runs.{modesFit}
 
@@ -117,20 +119,6 @@ gives-each : {A B : Type 0} {P : A → B → Type 0} {f : A → Reader B} → ((
 unfolding each
 gives-each g [] = gives-give [] Both.none
 gives-each g (x ∷ xs) = gives-bind (g x) (λ b h. gives-bind (gives-each g xs) (λ rest k. gives-give (b ∷ rest) (Both.more h k)))
-
--- a test that is no field
-gives-expect : (ok : Bool) (number place : ℕ) → Gives (λ u. T ok) (expect ok number place)
-unfolding expect
-gives-expect true number place = record { holds = λ s p a next e. tt }
-gives-expect false number place = record { holds = λ s p a next e. let z : _≡_ {A = ℕ} 0 1 = cc in absurd (omega arith) }
-
-gives-expected : {B : Type 0} {Q : B → Type 0} (ok : Bool) (number place : ℕ) {t : Reader B} → (T ok → Gives Q t) → Gives Q (expect ok number place >> t)
-unfolding _>>_
-gives-expected ok number place {t = t} g = record {
-  holds = λ s p b next e.
-      let w = passes (expect ok number place s p) (λ a. t) s b next e in
-      g (gives-expect ok number place .holds s p (w .value) (w .place) (w .first)) .holds s (w .place) b next (w .second);
-}
 
 either : (a b : Bool) → T (a || b) → T a ⊎ T b
 either true b t = inl tt
@@ -261,21 +249,14 @@ header-gives kind =
 
 -- a model that a sheet gives lies in all ranges
 pub model-ranges : (limits : Limits) (s : List ℕ) (m : Model) (next : ℕ) → readModel limits s ≡ got m next → ModelRanges limits m
-unfolding readModel
 model-ranges limits s m next e =
+    let few = read-whole limits s m next e .few in
+    let ranges : Gives (λ m. locationCount (m .components) ≤ limits .locations → length (joints (m .components)) ≤ limits .joints → ModelRanges limits m) (chain limits) =
     gives-bind (header-gives 1)
     (λ version v.
     gives-bind {r = here} gives-any
-    (λ place u.
-    gives-bind (body-ranges version)
-    (λ m w.
-    gives-then finished
-    (gives-expected (leb (locationCount (m .components)) (limits .locations)) 7 place
-    (λ x.
-    gives-expected (leb (length (joints (m .components))) (limits .joints)) 8 place
-    (λ y.
-    gives-give m (w .1 limits v (leb→le (locationCount (m .components)) (limits .locations) x) (leb→le (length (joints (m .components))) (limits .joints) y))))))))
-    .holds s 0 m next e
+    (λ place u. gives-bind (body-ranges version) (λ m w. gives-then finished (gives-then _ (gives-give m (w .1 limits v)))))) in
+    ranges .holds s 0 m next (sym (in-a-chain limits s) ∙ e) (few .locations) (few .joined)
 
 -- proofs
 entries-range : (hypotheses least count : ℕ) → Gives (λ es. (length es ≡ count) × Ascending hypotheses least es) (readEntries hypotheses least count)

@@ -15,7 +15,8 @@ use Rattle.formats.specs.Rows.{Condition}
 use Rattle.formats.specs.Model.{Mode, Switch, Component, Unsafe, Model}
 use Rattle.formats.specs.Locations.{modesAt}
 use Rattle.formats.specs.Joint.{stays, switchOf, JointSwitch, joints, joinAll}
-use Rattle.formats.specs.ModelSheet.{Limits, readModel}
+use Rattle.formats.specs.declared.Limits.{Limits}
+use Rattle.rules.specs.Opening.{ModelOpened, opens, shut, openModel}
 use Rattle.formats.specs.Certificate.{readRegions}
 use Rattle.formats.specs.Reading.{Got, got, refused, _>>_, header}
 use Rattle.formats.proofs.Members.{all-members}
@@ -218,8 +219,8 @@ after-refused m o h number sheet place (got regions next) e = in-refused (rolesO
 
 pub refused-role : (limits : Limits) (model second : List ℕ) (o h number sheet place : ℕ) → findHypothesis limits model second o h ≡ unfound number sheet place → hypothesisRole limits model second o h ≡ noRole
 unfolding findHypothesis hypothesisRole
-refused-role limits model second o h number sheet place e = go (readModel limits model) e
+refused-role limits model second o h number sheet place e = go (openModel limits model) e
   where
-    go : (g : Got Model) → (elim g as (λ x. Found) [ got m next ↦ findAfter m o h ((header 2 >> readRegions m) second 0) | refused n at ↦ unfound n 0 at ]) ≡ unfound number sheet place → (elim g as (λ x. Role) [ got m next ↦ roleAfter m o h ((header 2 >> readRegions m) second 0) | refused n at ↦ noRole ]) ≡ noRole
-    go (got m next) k = after-refused m o h number sheet place ((header 2 >> readRegions m) second 0) k
-    go (refused n at) k = refl
+    go : (g : ModelOpened) → (elim g as (λ x. Found) [ opens m ↦ findAfter m o h ((header 2 >> readRegions m) second 0) | shut n b at ↦ unfound n b at ]) ≡ unfound number sheet place → (elim g as (λ x. Role) [ opens m ↦ roleAfter m o h ((header 2 >> readRegions m) second 0) | shut n b at ↦ noRole ]) ≡ noRole
+    go (opens m) k = after-refused m o h number sheet place ((header 2 >> readRegions m) second 0) k
+    go (shut n b at) k = refl

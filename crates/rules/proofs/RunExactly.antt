@@ -1,5 +1,5 @@
--- The marking accepts exactly the run sheets that read well and hold a run of the model that ends unsafe; an accepted sheet gives that
--- run, and the state where it ends is one that it visits. Assumes nothing.
+-- Under limits that fit the marking accepts exactly the run sheets that read well and hold a run of the model that ends unsafe, and under
+-- others none; an accepted sheet gives that run, and the state where it ends is one that it visits. Assumes nothing.
 use mathlib.Core.Path.{_≡_, refl, sym, ap, ap₂, _∙_, subst, subst₂}
 use mathlib.Core.Logic.{_↔_}
 use mathlib.Core.Bool.{Bool, true, false, cond}
@@ -11,16 +11,18 @@ use lib.ListN.{length}
 use mir.Facts.{and-yes, yes-and}
 use Rattle.formats.specs.Reading.{Got, got, refused, Reader, andThen, _>>=_, _>>_, give, passing, many, header, finished}
 use Rattle.formats.specs.Model.{Model}
-use Rattle.formats.specs.ModelSheet.{Limits, readModel}
+use Rattle.formats.specs.declared.Limits.{Limits}
+use Rattle.formats.specs.ModelSheet.{limitsFit, readModel}
 use Rattle.formats.specs.RunSheet.{Step, Opening, readOpening, readStep}
 use Rattle.formats.proofs.Gives.{got-value, got-next, passes, Tested, tested, gives-then}
-use Rattle.formats.proofs.Placed.{Fine, placed-finished, model-fine}
+use Rattle.formats.proofs.Placed.{Fine, placed-finished}
 use Rattle.rules.specs.declared.Answer.{Answer}
 use Rattle.rules.specs.Runs.{State, startAllowed, stepAllowed, stepsAllowed, after, Run, visited, endOf, isUnsafe}
+use Rattle.rules.proofs.Opening.{read-opens, with-model}
 use Rattle.rules.specs.Marking.{answer, Marked, passed, stopped, withModel, testStep, markStep, markSteps, closeRun, firstState, markOpening, markRun}
 use Rattle.rules.specs.ReadWell.{RunSheet, readRunSheet, RunHolds}
 use Rattle.rules.proofs.ListFacts.{is-true}
-use Rattle.rules.proofs.MarkedRanges.{Marks, with-model, opening-fine, opening-gives, steps-mark}
+use Rattle.rules.proofs.MarkedRanges.{Marks, opening-fine, opening-gives, steps-mark}
 
 -- one reading, then the next, where the first gave a value
 module _ {A B : Type 0} (r : Reader A) {s : List ℕ} {p : ℕ} {a : A} {next : ℕ} (e : r s p ≡ got a next) where
@@ -145,7 +147,7 @@ run-accepted limits model second h =
     let k = pass-steps m (o .q) second (firstState o) (o .steps) (w .openingEnd) 0 (o .steps) (h .sheet .steps) (w .stepsEnd) (omega arith) (w .steps) (h .allowed) in
     let starts = is-true (startAllowed m (o .q) (firstState o)) (h .starts) in
     let ends = is-true (isUnsafe m (o .q) (endOf m (firstState o) (h .sheet .steps))) (h .ends) in
-    rw (h .modelReads, w .opening, starts, k, w .finish, ends, markOpening, closeRun)
+    rw (read-opens limits model m (h .modelEnd) (h .fit) (h .modelReads), w .opening, starts, k, w .finish, ends, markOpening, closeRun)
 
 -- an end with number 0: the steps passed, nothing is left, and the state is unsafe
 record RunClosed (m : Model) (q : ℕ) (second : List ℕ) (k : Marked State) : Type 0 where
@@ -172,9 +174,9 @@ run-closed m q second total (passed v place done) w e =
         record { end = v; place = place; done = done; next = next; steps = refl; finish = d; unsafe = verdict (isUnsafe m q v) h }
     go (refused number at) d x h = absurd (omega arith)
 
-opening-holds : (limits : Limits) (model second : List ℕ) (m : Model) (modelEnd : ℕ) (g : Got Opening) → readModel limits model ≡ got m modelEnd → (header 3 >> readOpening m) second 0 ≡ g → Fine second 0 g → markOpening m second g .number ≡ 0 → RunHolds limits model second
+opening-holds : (limits : Limits) (model second : List ℕ) (m : Model) (modelEnd : ℕ) (g : Got Opening) → T (limitsFit limits) → readModel limits model ≡ got m modelEnd → (header 3 >> readOpening m) second 0 ≡ g → Fine second 0 g → markOpening m second g .number ≡ 0 → RunHolds limits model second
 unfolding markOpening answer
-opening-holds limits model second m modelEnd (got o place) e d w h = go (startAllowed m (o .q) (firstState o)) refl h
+opening-holds limits model second m modelEnd (got o place) t e d w h = go (startAllowed m (o .q) (firstState o)) refl h
   where
     go : (b : Bool) → startAllowed m (o .q) (firstState o) ≡ b → (elim b as (λ x. Answer) [ true ↦ closeRun m (o .q) second (markSteps m (o .q) (firstState o) (o .steps) second place 0) | false ↦ answer 12 1 (o .place) 0 0 ]) .number ≡ 0 → RunHolds limits model second
     go true f k =
@@ -182,6 +184,7 @@ opening-holds limits model second m modelEnd (got o place) e d w h = go (startAl
         let s = steps-passed m (o .q) second (firstState o) (o .steps) place 0 (c .end) (c .place) (c .done) (c .steps) in
         let sheet : RunSheet = record { opening = o; steps = s .steps } in
         record {
+          fit = t;
           m = m;
           modelEnd = modelEnd;
           modelReads = e;
@@ -193,14 +196,15 @@ opening-holds limits model second m modelEnd (got o place) e d w h = go (startAl
           ends = subst (λ v. T (isUnsafe m (o .q) v)) (s .ends) (c .unsafe);
         }
     go false f k = absurd (omega arith)
-opening-holds limits model second m modelEnd (refused number at) e d w h = absurd (omega arith)
+opening-holds limits model second m modelEnd (refused number at) t e d w h = absurd (omega arith)
 
 run-holds : (limits : Limits) (model second : List ℕ) → markRun limits model second .number ≡ 0 → RunHolds limits model second
 unfolding markRun answer
 run-holds limits model second =
-    with-model (λ a. a .number ≡ 0 → RunHolds limits model second) model (readModel limits model) _ (model-fine limits model)
+    with-model (λ a. a .number ≡ 0 → RunHolds limits model second) limits model _
+    (λ h. absurd (omega arith))
     (λ number at i j k h. absurd (omega arith))
-    (λ m next e. opening-holds limits model second m next _ e refl (opening-fine m second))
+    (λ m next t e. opening-holds limits model second m next _ t e refl (opening-fine m second))
 
 pub run-exactly : (limits : Limits) (model second : List ℕ) → (markRun limits model second .number ≡ 0) ↔ RunHolds limits model second
 unfolding answer

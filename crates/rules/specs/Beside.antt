@@ -9,10 +9,11 @@ use Rattle.rules.specs.declared.Joint.{Joint}
 use Rattle.farkas.specs.Rows.{zeroRow}
 use Rattle.formats.specs.Reading.{Got, got, refused, _>>_, header}
 use Rattle.formats.specs.Rows.{Condition}
-use Rattle.formats.specs.Model.{Model}
+use Rattle.formats.specs.Model.{Component, Model}
 use Rattle.formats.specs.Joint.{JointSwitch, joints, fourSwitches}
-use Rattle.formats.specs.ModelSheet.{Limits, readModel}
+use Rattle.formats.specs.declared.Limits.{Limits}
 use Rattle.formats.specs.Certificate.{readRegions}
+use Rattle.rules.specs.Opening.{opens, shut, openModel}
 use Rattle.rules.specs.Obligations.{Hypothesis, nowhere, Obligation, afterFlow, obligations}
 use Rattle.rules.specs.Marking.{answer, withModel}
 
@@ -22,13 +23,14 @@ recordOf j = record { source = j .source; event = j .event; switches = fourSwitc
 
 -- the joint list's answer: "with only one sheet handed over sheet 0 and its length", done the records written; 15, "table too short":
 -- "sheet 2, count needed"
+unfoldable pub listOf : List Component → ℕ → ℕ → Answer
+listOf components size lent =
+    cond (leb (length (joints components)) lent)
+    (answer 0 0 size (length (joints components)) 0)
+    (answer 15 2 (length (joints components)) 0 0)
+
 unfoldable pub listAnswer : Limits → List ℕ → ℕ → Answer
-listAnswer limits model lent =
-    withModel (readModel limits model)
-    (λ m.
-    cond (leb (length (joints (m .components))) lent)
-    (answer 0 0 (length model) (length (joints (m .components))) 0)
-    (answer 15 2 (length (joints (m .components))) 0 0))
+listAnswer limits model lent = withModel (openModel limits model) (λ m. listOf (m .components) (length model) lent)
 
 -- the table afterwards: the list "in order; later records keep their content"; "A refusal writes nothing"
 unfoldable pub filled : List JointSwitch → List Joint → List Joint
@@ -37,7 +39,7 @@ filled list table =
 
 unfoldable pub tableAfter : Limits → List ℕ → List Joint → List Joint
 tableAfter limits model table =
-    elim (readModel limits model) [ got m next ↦ filled (joints (m .components)) table | refused number at ↦ table ]
+    elim (openModel limits model) [ opens m ↦ filled (joints (m .components)) table | shut number sheet at ↦ table ]
 
 -- Show row. What is found: a hypothesis, or a refusal with its number, sheet and place
 pub data Found : Type 0 where
@@ -62,9 +64,9 @@ findAfter m o h (got regions next) = findIn (obligations m regions) o h
 -- "once the model and all regions read well"
 unfoldable pub findHypothesis : Limits → List ℕ → List ℕ → ℕ → ℕ → Found
 findHypothesis limits model second o h =
-    elim (readModel limits model) [
-      | got m next ↦ findAfter m o h ((header 2 >> readRegions m) second 0)
-      | refused number at ↦ unfound number 0 at
+    elim (openModel limits model) [
+      | opens m ↦ findAfter m o h ((header 2 >> readRegions m) second 0)
+      | shut number sheet at ↦ unfound number sheet at
     ]
 
 -- "A sister call on the same arguments gives the number, with the row's sheet and offset (2 and 0 for a row in no sheet)"

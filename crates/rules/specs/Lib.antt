@@ -1,3 +1,4 @@
+pub mod Opening
 pub mod Runs
 pub mod Between
 pub mod Obligations

@@ -8,9 +8,10 @@ use Rattle.farkas.specs.Farkas.{Proof, farkasTest}
 use Rattle.formats.specs.Reading.{Reader, Got, got, refused, _>>_, header, finished}
 use Rattle.formats.specs.Rows.{Condition}
 use Rattle.formats.specs.Model.{Model}
-use Rattle.formats.specs.ModelSheet.{Limits, readModel}
+use Rattle.formats.specs.declared.Limits.{Limits}
 use Rattle.formats.specs.Certificate.{readRegions, readProof}
 use Rattle.formats.specs.RunSheet.{Step, Opening, readOpening, readStep}
+use Rattle.rules.specs.Opening.{ModelOpened, opens, shut, openModel}
 use Rattle.rules.specs.Runs.{State, startAllowed, stepAllowed, after, isUnsafe}
 use Rattle.rules.specs.Obligations.{Obligation, zeroOnly, obligations}
 
@@ -70,13 +71,13 @@ markRegions m s (got regions place) =
     closeCertificate (length all) s (markProofs all s place 0)
 
 -- "The model goes first"
-unfoldable pub withModel : Got Model → (Model → Answer) → Answer
-withModel (refused number at) f = answer number 0 at 0 0
-withModel (got m next) f = f m
+unfoldable pub withModel : ModelOpened → (Model → Answer) → Answer
+withModel (shut number sheet at) f = answer number sheet at 0 0
+withModel (opens m) f = f m
 
 unfoldable pub markCertificate : Limits → List ℕ → List ℕ → Answer
 markCertificate limits model second =
-    withModel (readModel limits model) (λ m. markRegions m second ((header 2 >> readRegions m) second 0))
+    withModel (openModel limits model) (λ m. markRegions m second ((header 2 >> readRegions m) second 0))
 
 -- "a step once read": 13 at the step's first byte
 unfoldable pub testStep : Model → ℕ → State → ℕ → Got Step → Got Step
@@ -117,4 +118,4 @@ markOpening m sheet (got o next) =
 
 unfoldable pub markRun : Limits → List ℕ → List ℕ → Answer
 markRun limits model second =
-    withModel (readModel limits model) (λ m. markOpening m second ((header 3 >> readOpening m) second 0))
+    withModel (openModel limits model) (λ m. markOpening m second ((header 3 >> readOpening m) second 0))

@@ -10,7 +10,8 @@ use Rattle.farkas.specs.Farkas.{Proof, Meets}
 use Rattle.formats.specs.Reading.{Reader, got, _>>=_, _>>_, give, many, each, header, finished}
 use Rattle.formats.specs.Rows.{Condition}
 use Rattle.formats.specs.Model.{Model}
-use Rattle.formats.specs.ModelSheet.{Limits, readModel}
+use Rattle.formats.specs.declared.Limits.{Limits}
+use Rattle.formats.specs.ModelSheet.{limitsFit, readModel}
 use Rattle.formats.specs.Certificate.{readRegions, readProof}
 use Rattle.formats.specs.RunSheet.{Step, Opening, readOpening, readStep}
 use Rattle.rules.specs.Runs.{startAllowed, stepsAllowed, endOf, isUnsafe}
@@ -42,6 +43,7 @@ pub data AllMeet : List Obligation → List Proof → Type 0 where
   met-more : {o : Obligation} {p : Proof} {rest : List Obligation} {proofs : List Proof} → Meets (rowsOf o) (o .goal) p → AllMeet rest proofs → AllMeet (o ∷ rest) (p ∷ proofs)
 
 pub record CertificateHolds (limits : Limits) (model second : List ℕ) : Type 0 where
+  pub fit : T (limitsFit limits)
   pub m : Model
   pub modelEnd : ℕ
   pub modelReads : readModel limits model ≡ got m modelEnd
@@ -65,6 +67,7 @@ readRunSheet m = do
 
 -- demand 2 for runs: a trajectory of the model that ends unsafe
 pub record RunHolds (limits : Limits) (model second : List ℕ) : Type 0 where
+  pub fit : T (limitsFit limits)
   pub m : Model
   pub modelEnd : ℕ
   pub modelReads : readModel limits model ≡ got m modelEnd

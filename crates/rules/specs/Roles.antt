@@ -9,7 +9,8 @@ use Rattle.formats.specs.Reading.{Got, got, refused, _>>_, header}
 use Rattle.formats.specs.Rows.{Condition}
 use Rattle.formats.specs.Model.{Mode, Component, Unsafe, Model}
 use Rattle.formats.specs.Joint.{stays, switchOf, JointSwitch, joints, joinAll}
-use Rattle.formats.specs.ModelSheet.{Limits, readModel}
+use Rattle.formats.specs.declared.Limits.{Limits}
+use Rattle.rules.specs.Opening.{opens, shut, openModel}
 use Rattle.formats.specs.Certificate.{readRegions}
 use Rattle.rules.specs.Runs.{modesIn, stayingVariables}
 use Rattle.rules.specs.Obligations.{Kind, atStart, afterFlow, clearOfUnsafe, afterJump, Obligation, obligations, regionOf}
@@ -122,9 +123,9 @@ roleAfter m o h (got regions next) = roleIn (rolesOf m (regionOf regions)) (obli
 -- "once the model and all regions read well"
 unfoldable pub hypothesisRole : Limits → List ℕ → List ℕ → ℕ → ℕ → Role
 hypothesisRole limits model second o h =
-    elim (readModel limits model) [
-      | got m next ↦ roleAfter m o h ((header 2 >> readRegions m) second 0)
-      | refused number at ↦ noRole
+    elim (openModel limits model) [
+      | opens m ↦ roleAfter m o h ((header 2 >> readRegions m) second 0)
+      | shut number sheet at ↦ noRole
     ]
 
 -- and how many bytes the row has: "an empty part for −d ≤ 0, staying rows and refusals"

@@ -11,9 +11,9 @@ use lib.IntN.{ℤ}
 use lib.ListN.{length}
 use borrow.Author.Tests.{eq-eqb, ne-eqb}
 use Rattle.farkas.specs.Lists.{none, more}
-use Rattle.formats.specs.Reading.{Got, got, refused, _>>_, header, finished}
+use Rattle.formats.specs.Reading.{Got, got, refused, finished}
 use Rattle.formats.specs.Model.{Model}
-use Rattle.formats.specs.ModelSheet.{Limits, readModel, examLimits}
+use Rattle.formats.specs.declared.Limits.{Limits}
 use Rattle.formats.specs.RunSheet.{Step, Opening, readOpening, readStep}
 use Rattle.formats.proofs.Placed.{Fine, placed-finished, placed-step}
 use Rattle.rules.specs.declared.Answer.{Answer}
@@ -24,6 +24,7 @@ use Rattle.runs.specs.RunHeld.{markedAs, stoppedAt, stepsFrom}
 use Rattle.rules.specs.Marking.{answer, Marked, passed, stopped, withModel, testStep, markStep, markSteps, closeRun, firstState, markOpening, markRun}
 use Rattle.papers.specs.Opening.{opened, Open}
 use Rattle.models.specs.Index.{modelFrom}
+use Rattle.rules.proofs.Calls.{runBy}
 use Rattle.papers.proofs.OpenLaws.{open-refused, open-goes-on, opened-answer}
 
 -- One step: what its test comes to, and the marking after it
@@ -250,27 +251,17 @@ module _ (m : Model) (sheet : List ℕ) (g : Got Opening) where
         ap (λ x. closeRun m q sheet (markSteps m q x steps sheet next 0)) first
         ∙ ap (begun m sheet beginning next) (p ∙ ap (startAllowed m q) first) ∙ sym (ap (markOpening m sheet) reads ∙ begins m sheet beginning next)
 
--- The whole
-pub run-model : (limits : Limits) (model second : List ℕ) (number place : ℕ) → readModel limits model ≡ refused number place → answer number 0 place 0 0 ≡ markRun limits model second
-unfolding markRun withModel
-run-model limits model second number place e =
-    sym (ap (λ g. withModel g (λ m. markOpening m second ((header 3 >> readOpening m) second 0))) e)
-
-pub run-sheet : (limits : Limits) (model second : List ℕ) (m : Model) (next : ℕ) → readModel limits model ≡ got m next → markOpening m second ((header 3 >> readOpening m) second 0) ≡ markRun limits model second
-unfolding markRun withModel
-run-sheet limits model second m next e =
-    sym (ap (λ g. withModel g (λ m. markOpening m second ((header 3 >> readOpening m) second 0))) e)
-
--- a paper that does not open is refused so; one that is open is marked from its body on
-module _ (model second : List ℕ) where
-  pub run-refused : (opened examLimits 3 model second .number ≡ 0 → ⊥) → opened examLimits 3 model second ≡ markRun examLimits model second
+-- The whole, by how the model opens: a paper that does not open is refused so; one that is open is marked from its body on
+module _ (limits : Limits) (model second : List ℕ) where
+  pub run-refused : (opened limits 3 model second .number ≡ 0 → ⊥) → opened limits 3 model second ≡ markRun limits model second
+  unfolding markRun withModel
   run-refused f =
-      opened-answer examLimits 3 model second
-      ∙ open-refused examLimits 3 model second (λ n s p. answer n s p 0 0) readOpening (λ m. markOpening m second) (markRun examLimits model second)
-      (λ m number at. opening-stops m second (refused number at) number at refl) (run-model examLimits model second) (run-sheet examLimits model second) f
+      opened-answer limits 3 model second
+      ∙ open-refused limits 3 model second (λ n s p. answer n s p 0 0) readOpening (λ m. markOpening m second) (runBy second)
+      (λ m number at. opening-stops m second (refused number at) number at refl) (λ number sheet at. refl) (λ m. refl) f
 
-  pub run-open : {index : List ℕ} → Open 3 model index second → markOpening (modelFrom model index) second (readOpening (modelFrom model index) second 4) ≡ markRun examLimits model second
-  run-open {index} w =
-      open-goes-on examLimits 3 model second (λ n s p. answer n s p 0 0) readOpening (λ m. markOpening m second) (markRun examLimits model second)
-      (λ m number at. opening-stops m second (refused number at) number at refl) (run-model examLimits model second) (run-sheet examLimits model second)
-      (modelFrom model index) (w .end) (w .version) (w .reads) (w .headed)
+  pub run-open : {index : List ℕ} → Open limits 3 model index second → markOpening (modelFrom model index) second (readOpening (modelFrom model index) second 4) ≡ markRun limits model second
+  unfolding markRun withModel
+  run-open w =
+      open-goes-on limits 3 model second (λ n s p. answer n s p 0 0) readOpening (λ m. markOpening m second) (runBy second)
+      (λ m number at. opening-stops m second (refused number at) number at refl) (λ number sheet at. refl) (λ m. refl) w

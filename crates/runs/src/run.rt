@@ -3,6 +3,7 @@
 use crate::RunMarked;
 use fields::Next;
 use fields::header::finished;
+use formats::Limits;
 use joint_switches::joints::location_count;
 use joint_switches::joints::modes_at;
 use models::layout::INDEX_LENGTH;
@@ -25,7 +26,6 @@ ghost use mathlib.Core.Path.{_≡_};
 ghost use Prim.Native.Nat.{_+_, _^_, _≤_, _<_};
 ghost use lib.ListN.{length};
 ghost use Rattle.models.specs.Index.{modelFrom};
-ghost use Rattle.formats.specs.ModelSheet.{examLimits};
 ghost use Rattle.papers.specs.Paper.{Accepted};
 ghost use Rattle.runs.specs.RunHeld.{stoppedAt, markedAs, RunStands, markedBody, stepsFrom};
 ghost use Rattle.rules.specs.Marking.{closeRun, markRun};
@@ -156,12 +156,12 @@ fn mark_body(model: &[u8], index: &Index, s: &[u8], state: &mut [i64]) -> Answer
     }
 }
 
-// Marks a run: the model goes first, then the run sheet.
-pub fn mark_run(model: &[u8], second: &[u8]) -> Answer
-    ensures { λ r. ⌜ r ≡ markRun examLimits (now (model .entry)) (now (second .entry)) ⌝ }
+// Marks a run: the stated limits and the model go first, then the run sheet.
+pub fn mark_run(model: &[u8], second: &[u8], limits: Limits) -> Answer
+    ensures { λ r. ⌜ r ≡ markRun limits (now (model .entry)) (now (second .entry)) ⌝ }
 {
     let mut index = [0u16; INDEX_LENGTH];
-    let opened = open_paper(model, second, 3, &mut index);
+    let opened = open_paper(model, second, 3, &mut index, limits);
     if opened.number != 0 {
         return opened;
     }

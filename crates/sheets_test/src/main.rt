@@ -7,6 +7,7 @@ use fields::header::header;
 use joint_switches::joints::location_count;
 use libc::STDIN_FILENO;
 use libc::STDOUT_FILENO;
+use model_sheets::limits::exam_limits;
 use model_sheets::sheet::model_into;
 use models::layout::INDEX_LENGTH;
 use models::layout::Index;
@@ -44,7 +45,7 @@ fn answer_next(read: Next) {
 // Reads a model.
 fn try_model(s: &[u8]) {
     let mut index = [0u16; INDEX_LENGTH];
-    answer_next(model_into(s, &mut index));
+    answer_next(model_into(s, &mut index, exam_limits()));
 }
 
 // Reads a certificate's header and regions.
@@ -118,7 +119,7 @@ fn try_step(model: &[u8], index: &Index, s: &[u8], at: usize)
 // Reads what stands beside a model.
 fn try_beside(model: &[u8], kind: usize, at: usize, s: &[u8]) {
     let mut index = [0u16; INDEX_LENGTH];
-    match model_into(model, &mut index) {
+    match model_into(model, &mut index, exam_limits()) {
         Next::Refused(number, place) => answer(number, place),
         Next::At(_) => {
             if kind == 2 {

@@ -10,6 +10,7 @@
 mod compare;
 
 use compare::{Compared, Comparison};
+use differential::marker::Limits;
 use differential::papers::damage::{ALL, damaged, random_bytes};
 use differential::papers::{Random, Sheet, certificates, extremes, models, runs, texts};
 use std::path::PathBuf;
@@ -82,6 +83,7 @@ fn compare_all(options: &Options, comparison: &mut Comparison) -> Compared<u64> 
         comparison.origin = format!("fixed paper \"{}\"", paper.name);
         comparison.compare("fixed", &paper.model, &paper.second, &mut random)?;
     }
+    compare_limits(&mut random, comparison)?;
     let short = texts::short().filter(|_| !options.guard);
     for text in texts::fixed().into_iter().chain(short) {
         comparison.origin = format!("fixed text of {} bytes", text.bytes.len());
@@ -103,6 +105,21 @@ fn compare_all(options: &Options, comparison: &mut Comparison) -> Compared<u64> 
         }
     }
     Ok(round)
+}
+
+/// Papers on both sides of the limits of two desks, under all limits beside the ends of their ranges and beside the papers' counts.
+fn compare_limits(random: &mut Random, comparison: &mut Comparison) -> Compared<()> {
+    const LOCATIONS: [u32; 15] = [0, 1, 2, 15, 16, 17, 18, 63, 64, 65, 256, 257, 4_096, 4_097, u32::MAX];
+    const JOINTS: [u32; 15] = [0, 1, 2, 15, 16, 17, 64, 65, 255, 256, 257, 4_095, 4_096, 4_097, u32::MAX];
+    for paper in extremes::for_limits() {
+        for (locations, joints) in LOCATIONS.into_iter().flat_map(|locations| JOINTS.map(|joints| (locations, joints))) {
+            comparison.origin = format!("fixed paper \"{}\"", paper.name);
+            comparison.desk = Some(Limits { locations, joints });
+            comparison.compare("fixed, each under many limits", &paper.model, &paper.second, random)?;
+        }
+    }
+    comparison.desk = None;
+    Ok(())
 }
 
 /// One model with a certificate, one with a run, what becomes of them by damage, and random bytes; typed texts between them.

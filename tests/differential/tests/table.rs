@@ -1,6 +1,6 @@
-//! The independent marker on the examples of document 01's table, and on the fixed papers that must be accepted.
+//! The independent marker on the examples of document 01's table, and on the fixed papers that must be accepted. Limits are the exam's.
 
-use differential::marker::{Answer, HypothesisRow, JointSwitch, hypothesis, joint_list, mark_certificate, mark_run, show_row, which};
+use differential::marker::{Answer, EXAM, HypothesisRow, JointSwitch, hypothesis, joint_list, mark_certificate, mark_run, show_row, which};
 use differential::papers::extremes::{self, all, tank, tank_certificate};
 use differential::papers::models::Switch;
 use differential::papers::sheet::fix_length;
@@ -26,36 +26,36 @@ fn the_table_of_document_01() {
     let t = tank(-11, vec![]).bytes;
     let c = tank_certificate(10).bytes;
     assert_eq!((t.len(), c.len()), (66, 49));
-    assert_eq!(mark_certificate(&t, &c), answer([0, 1, 49, 3, 100]));
-    assert_eq!(mark_certificate(&[], &c), answer([1, 0, 0, 0, 0]));
+    assert_eq!(mark_certificate(&t, &c, EXAM), answer([0, 1, 49, 3, 100]));
+    assert_eq!(mark_certificate(&[], &c, EXAM), answer([1, 0, 0, 0, 0]));
     let (version, c) = changed(2, 9);
-    assert_eq!(mark_certificate(&version, &c), answer([2, 0, 2, 0, 0]));
-    assert_eq!(mark_certificate(&c, &c), answer([3, 0, 3, 0, 0]));
+    assert_eq!(mark_certificate(&version, &c, EXAM), answer([2, 0, 2, 0, 0]));
+    assert_eq!(mark_certificate(&c, &c, EXAM), answer([3, 0, 3, 0, 0]));
     let mut cut = t[..65].to_vec();
     fix_length(&mut cut);
-    assert_eq!(mark_certificate(&cut, &c), answer([4, 0, 62, 0, 0]));
-    assert_eq!(mark_certificate(&changed(4, 0).0, &c), answer([5, 0, 4, 0, 0]));
+    assert_eq!(mark_certificate(&cut, &c, EXAM), answer([4, 0, 62, 0, 0]));
+    assert_eq!(mark_certificate(&changed(4, 0).0, &c, EXAM), answer([5, 0, 4, 0, 0]));
     let labelled = |label| tank(-11, vec![Switch { source: 0, target: 0, label, jump: vec![] }]).bytes;
-    assert_eq!(mark_certificate(&labelled(1), &c).number, 6);
+    assert_eq!(mark_certificate(&labelled(1), &c, EXAM).number, 6);
     let many = paper("modes [8, 8, 2]");
-    assert_eq!(mark_run(&many.model.bytes, &many.second.bytes), answer([7, 0, 4, 0, 0]));
+    assert_eq!(mark_run(&many.model.bytes, &many.second.bytes, EXAM), answer([7, 0, 4, 0, 0]));
     let many = paper("joint switches [32, 32, 32] and 0");
-    assert_eq!(mark_certificate(&many.model.bytes, &many.second.bytes), answer([8, 0, 4, 0, 0]));
+    assert_eq!(mark_certificate(&many.model.bytes, &many.second.bytes, EXAM), answer([8, 0, 4, 0, 0]));
     let mut order = c.clone();
     (order[39], order[44]) = (2, 0);
-    assert_eq!(mark_certificate(&t, &order), answer([9, 1, 44, 2, 66]));
+    assert_eq!(mark_certificate(&t, &order, EXAM), answer([9, 1, 44, 2, 66]));
     let mut multiplier = c.clone();
     multiplier[23] = 2;
-    assert_eq!(mark_certificate(&t, &multiplier), answer([10, 1, 14, 0, 0]));
-    assert_eq!(mark_certificate(&t, &tank_certificate(9).bytes), answer([11, 1, 14, 0, 0]));
-    let run = |name| mark_run(&paper(name).model.bytes, &paper(name).second.bytes);
+    assert_eq!(mark_certificate(&t, &multiplier, EXAM), answer([10, 1, 14, 0, 0]));
+    assert_eq!(mark_certificate(&t, &tank_certificate(9).bytes, EXAM), answer([11, 1, 14, 0, 0]));
+    let run = |name| mark_run(&paper(name).model.bytes, &paper(name).second.bytes, EXAM);
     assert_eq!(run("T from 6"), answer([12, 1, 10, 0, 0]));
     assert_eq!(run("T, 5 to 8"), answer([13, 1, 15, 0, 0]));
     assert_eq!(run("T at 5"), answer([14, 1, 15, 0, 0]));
     assert_eq!(run("T, 5 to 9"), answer([0, 1, 24, 1, 100]));
     let mut table = [JointSwitch::default(); 2];
-    assert_eq!(joint_list(&labelled(0), &mut table[..0]), answer([15, 2, 1, 0, 0]));
-    assert_eq!(joint_list(&labelled(0), &mut table), answer([0, 0, 70, 1, 0]));
+    assert_eq!(joint_list(&labelled(0), &mut table[..0], EXAM), answer([15, 2, 1, 0, 0]));
+    assert_eq!(joint_list(&labelled(0), &mut table, EXAM), answer([0, 0, 70, 1, 0]));
     assert_eq!(table, [JointSwitch { source: 0, event: 0, switches: [0, 255, 255, 255], target: 0 }, JointSwitch::default()]);
 }
 
@@ -63,12 +63,12 @@ fn the_table_of_document_01() {
 fn rows_are_shown_and_obligations_named() {
     let t = tank(-11, vec![]).bytes;
     let c = tank_certificate(10).bytes;
-    assert_eq!(show_row(&t, &c, 0, 0), (answer([0, 0, 14, 0, 0]), &t[14..22]));
-    assert_eq!(show_row(&t, &c, 2, 0), (answer([0, 1, 6, 0, 0]), &c[6..14]));
-    assert_eq!(show_row(&t, &c, 1, 5), (answer([0, 2, 0, 0, 0]), &[][..]));
-    assert_eq!(show_row(&t, &c, 1, 6), (answer([5, 2, 0, 0, 0]), &[][..]));
-    assert_eq!(show_row(&t, &c, 3, 0), (answer([5, 2, 0, 0, 0]), &[][..]));
-    let named = which(&t, &c, 2);
+    assert_eq!(show_row(&t, &c, 0, 0, EXAM), (answer([0, 0, 14, 0, 0]), &t[14..22]));
+    assert_eq!(show_row(&t, &c, 2, 0, EXAM), (answer([0, 1, 6, 0, 0]), &c[6..14]));
+    assert_eq!(show_row(&t, &c, 1, 5, EXAM), (answer([0, 2, 0, 0, 0]), &[][..]));
+    assert_eq!(show_row(&t, &c, 1, 6, EXAM), (answer([5, 2, 0, 0, 0]), &[][..]));
+    assert_eq!(show_row(&t, &c, 3, 0, EXAM), (answer([5, 2, 0, 0, 0]), &[][..]));
+    let named = which(&t, &c, 2, EXAM);
     assert_eq!((named.number, named.kind, named.subject, named.line), (0, 2, 0, 0));
 }
 
@@ -89,7 +89,7 @@ fn rows_of_hypotheses_have_a_role() {
     ];
     for (obligation, asked, [number, sheet, place, size, role, owner]) in rows {
         let expected = HypothesisRow { number, sheet, place, size, role, owner };
-        assert_eq!(hypothesis(&t, &c, obligation, asked), expected, "hypothesis {asked} of obligation {obligation}");
+        assert_eq!(hypothesis(&t, &c, obligation, asked, EXAM), expected, "hypothesis {asked} of obligation {obligation}");
     }
 }
 
@@ -108,7 +108,7 @@ fn large_papers_are_accepted() {
     for (name, done) in certificates {
         let paper = paper(name);
         let length = paper.second.bytes.len() as u32;
-        assert_eq!(mark_certificate(&paper.model.bytes, &paper.second.bytes), answer([0, 1, length, done, 100]), "{name}");
+        assert_eq!(mark_certificate(&paper.model.bytes, &paper.second.bytes, EXAM), answer([0, 1, length, done, 100]), "{name}");
     }
     let runs = [
         ("model of 32,768 bytes", 0),
@@ -120,7 +120,7 @@ fn large_papers_are_accepted() {
     for (name, done) in runs {
         let paper = paper(name);
         let length = paper.second.bytes.len() as u32;
-        assert_eq!(mark_run(&paper.model.bytes, &paper.second.bytes), answer([0, 1, length, done, 100]), "{name}");
+        assert_eq!(mark_run(&paper.model.bytes, &paper.second.bytes, EXAM), answer([0, 1, length, done, 100]), "{name}");
     }
     assert_eq!(paper("certificate of 32,768 bytes").second.bytes.len(), 32_768);
     assert_eq!(paper("model of 32,768 bytes").model.bytes.len(), 32_768);

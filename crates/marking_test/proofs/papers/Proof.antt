@@ -11,6 +11,9 @@ Inv-loop all place₀ n₀ place n = n ≤ 2000
 abbrev μ-loop : tie.MeasureT-loop
 μ-loop all place₀ n₀ place n = 2000 - n
 
+exam-limits-requires : tie.Need-exam-limits-requires Inv-loop μ-loop
+exam-limits-requires c κs = search needs
+
 loop-holds : tie.Need-loop-holds Inv-loop μ-loop
 loop-holds c = omega arith
 
@@ -32,4 +35,4 @@ returns c = search needs
 pub papers-spec : {M : Type 1} → statement M
 papers-spec =
     tie.close
-    (tie.spec Inv-loop μ-loop loop-holds paper-requires add-n loop-less loop-again returns)
+    (tie.spec Inv-loop μ-loop exam-limits-requires loop-holds paper-requires add-n loop-less loop-again returns)

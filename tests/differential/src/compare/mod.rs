@@ -1,12 +1,15 @@
 //! One comparison: every call of the library against the independent marker, on two sheets or on a typed text.
 
 mod joint_list;
+mod limits;
 mod rows;
 mod typed;
 
 use differential::fence::{Edge, Fence};
+use differential::marker::Limits;
 use differential::papers::{Random, Sheet};
 use differential::{library, marker};
+use limits::{Size, Stated, shown};
 use std::collections::BTreeMap;
 use std::fmt::Debug;
 use std::path::Path;
@@ -16,8 +19,8 @@ pub struct Mismatch {
     call: String,
     origin: String,
     kind: String,
-    library: String,
-    marker: String,
+    /// Who gave what.
+    sides: [(&'static str, String); 2],
     /// What was handed over, by name.
     handed: Vec<(&'static str, Vec<u8>)>,
 }
@@ -28,8 +31,9 @@ impl Mismatch {
     /// Prints both answers and writes what was handed over as hex files.
     pub fn report(&self, folder: &Path) {
         println!("MISMATCH in {}: {} ({})", self.call, self.origin, self.kind);
-        println!("  library: {}", self.library);
-        println!("  marker:  {}", self.marker);
+        for (who, answer) in &self.sides {
+            println!("  {:<9} {answer}", format!("{who}:"));
+        }
         for (name, bytes) in &self.handed {
             let hex: String = bytes.iter().map(|byte| format!("{byte:02x}")).collect();
             let path = folder.join(format!("mismatch-{name}.hex"));
@@ -49,9 +53,26 @@ struct Count {
     passed: u64,
 }
 
+/// The paper at hand: its kind, its sheets, and which end of what is lent touches a closed page.
+#[derive(Clone, Copy)]
+struct Paper<'a> {
+    kind: &'a str,
+    model: &'a [u8],
+    second: &'a [u8],
+    edge: Edge,
+}
+
+impl<'a> Paper<'a> {
+    fn handed(&self) -> [(&'static str, &'a [u8]); 2] {
+        [("model", self.model), ("second", self.second)]
+    }
+}
+
 pub struct Comparison {
     /// What to say of the paper at hand, should it show a mismatch.
     pub origin: String,
+    /// The limits to state; none for random ones, of which each call has its own.
+    pub desk: Option<Limits>,
     counts: BTreeMap<String, Count>,
     texts: BTreeMap<&'static str, Count>,
     /// How often each number was the answer, by call.
@@ -60,6 +81,7 @@ pub struct Comparison {
     typed_numbers: [u64; 18],
     /// How often the row of a hypothesis had each role.
     roles: [u64; 9],
+    stated: Stated,
     other_calls: u64,
     fences: Option<Fences>,
 }
@@ -77,12 +99,14 @@ impl Comparison {
             || Fences { model: Fence::new(40_000), second: Fence::new(40_000), table: Fence::new(40_000), text: Fence::new(40_000) };
         Comparison {
             origin: String::new(),
+            desk: None,
             counts: BTreeMap::new(),
             texts: BTreeMap::new(),
             certificate_numbers: [0; 16],
             run_numbers: [0; 16],
             typed_numbers: [0; 18],
             roles: [0; 9],
+            stated: Stated::default(),
             other_calls: 0,
             fences: guard.then(fences),
         }
@@ -118,13 +142,16 @@ impl Comparison {
         }
         println!("rows of hypotheses by role: {}", by_number(&self.roles));
         println!("calls beside the marking: {}", self.other_calls);
+        self.stated.print();
     }
 
     /// Compares every call on this paper; the first that differs is given back.
     pub fn compare(&mut self, kind: &str, model: &Sheet, second: &Sheet, random: &mut Random) -> Compared<()> {
         let (model, second) = (&model.bytes[..], &second.bytes[..]);
-        let certificate = marker::mark_certificate(model, second);
-        let run = marker::mark_run(model, second);
+        let size = Size::of(model);
+        let (certificate_limits, run_limits) = (self.limits(size, random), self.limits(size, random));
+        let certificate = marker::mark_certificate(model, second, certificate_limits);
+        let run = marker::mark_run(model, second, run_limits);
         self.certificate_numbers[certificate.number as usize] += 1;
         self.run_numbers[run.number as usize] += 1;
         let count = self.counts.entry(kind.to_string()).or_default();
@@ -135,12 +162,14 @@ impl Comparison {
         }
 
         for &edge in self.edges() {
-            let answer = self.on_sheets(edge, model, second, library::mark_certificate);
-            self.same("silfoddra_mark_certificate", kind, model, second, answer, certificate)?;
-            let answer = self.on_sheets(edge, model, second, library::mark_run);
-            self.same("silfoddra_mark_run", kind, model, second, answer, run)?;
-            self.compare_joint_list(edge, kind, model, second, random)?;
-            self.compare_rows(edge, kind, model, second, random)?;
+            let paper = Paper { kind, model, second, edge };
+            let answer = self.on_sheets(paper, |model, second| library::mark_certificate(model, second, certificate_limits));
+            self.same("silfoddra_mark_certificate", paper, certificate_limits, answer, certificate)?;
+            let answer = self.on_sheets(paper, |model, second| library::mark_run(model, second, run_limits));
+            self.same("silfoddra_mark_run", paper, run_limits, answer, run)?;
+            self.compare_joint_list(paper, size, random)?;
+            self.compare_rows(paper, size, random)?;
+            self.compare_desks(paper, size, random)?;
         }
         Ok(())
     }
@@ -151,27 +180,33 @@ impl Comparison {
     }
 
     /// Makes a call, on copies between closed pages where that is asked for.
-    fn on_sheets<T>(&mut self, edge: Edge, model: &[u8], second: &[u8], call: impl FnOnce(&[u8], &[u8]) -> T) -> T {
+    fn on_sheets<T>(&mut self, paper: Paper, call: impl FnOnce(&[u8], &[u8]) -> T) -> T {
         match &mut self.fences {
-            Some(fences) => call(fences.model.lend(model, edge), fences.second.lend(second, edge)),
-            None => call(model, second),
+            Some(fences) => call(fences.model.lend(paper.model, paper.edge), fences.second.lend(paper.second, paper.edge)),
+            None => call(paper.model, paper.second),
         }
     }
 
-    fn same<T: Debug + PartialEq>(&self, call: &str, kind: &str, model: &[u8], second: &[u8], library: T, marker: T) -> Compared<()> {
-        self.agree(call, kind, &[("model", model), ("second", second)], library, marker)
+    fn same<T: Debug + PartialEq>(&self, call: &str, paper: Paper, limits: Limits, library: T, marker: T) -> Compared<()> {
+        let call = || format!("{call}, {}", shown(limits));
+        self.agree(call, paper.kind, &paper.handed(), [("library", library), ("marker", marker)])
     }
 
-    fn agree<T: Debug + PartialEq>(&self, call: &str, kind: &str, handed: &[(&'static str, &[u8])], library: T, marker: T) -> Compared<()> {
-        if library == marker {
+    fn agree<T: Debug + PartialEq>(
+        &self,
+        call: impl FnOnce() -> String,
+        kind: &str,
+        handed: &[(&'static str, &[u8])],
+        sides: [(&'static str, T); 2],
+    ) -> Compared<()> {
+        if sides[0].1 == sides[1].1 {
             return Ok(());
         }
         Err(Box::new(Mismatch {
-            call: call.to_string(),
+            call: call(),
             origin: self.origin.clone(),
             kind: kind.to_string(),
-            library: format!("{library:?}"),
-            marker: format!("{marker:?}"),
+            sides: sides.map(|(who, answer)| (who, format!("{answer:?}"))),
             handed: handed.iter().map(|&(name, bytes)| (name, bytes.to_vec())).collect(),
         }))
     }

@@ -1,31 +1,35 @@
 //! Show row's sister, the row of a hypothesis and which-obligation, with arguments in range and beside it.
 
-use super::{Compared, Comparison};
-use differential::fence::Edge;
+use super::{Compared, Comparison, Paper, Size};
+use differential::marker::EXAM;
 use differential::marker::certificate::{Claim, Hypotheses};
 use differential::marker::reader::Reader;
 use differential::{library, marker, papers::Random};
 
 impl Comparison {
-    pub(super) fn compare_rows(&mut self, edge: Edge, kind: &str, model: &[u8], second: &[u8], random: &mut Random) -> Compared<()> {
+    pub(super) fn compare_rows(&mut self, paper: Paper, size: Size, random: &mut Random) -> Compared<()> {
+        let Paper { model, second, .. } = paper;
         let obligations = obligation_count(model, second);
         for _ in 0..3 {
             let obligation = random_argument(random, obligations);
-            let which = marker::which(model, second, obligation);
-            let got = self.on_sheets(edge, model, second, |model, second| library::which(model, second, obligation));
-            self.same(&format!("silfoddra_which_obligation({obligation})"), kind, model, second, got, which)?;
+            let limits = self.limits(size, random);
+            let which = marker::which(model, second, obligation, limits);
+            let got = self.on_sheets(paper, |model, second| library::which(model, second, obligation, limits));
+            self.same(&format!("silfoddra_which_obligation({obligation})"), paper, limits, got, which)?;
 
             let hypothesis = random_argument(random, hypothesis_count(model, second, obligation));
-            let (answer, bytes) = marker::show_row(model, second, obligation, hypothesis);
-            let got = self.on_sheets(edge, model, second, |model, second| library::show_row(model, second, obligation, hypothesis));
-            self.same(&format!("silfoddra_show_row({obligation}, {hypothesis})"), kind, model, second, got, answer)?;
+            let limits = self.limits(size, random);
+            let (answer, bytes) = marker::show_row(model, second, obligation, hypothesis, limits);
+            let got = self.on_sheets(paper, |model, second| library::show_row(model, second, obligation, hypothesis, limits));
+            self.same(&format!("silfoddra_show_row({obligation}, {hypothesis})"), paper, limits, got, answer)?;
             if let Some(sheet) = [model, second].get(answer.sheet as usize).filter(|_| answer.number == 0) {
                 assert!(sheet[answer.place as usize..].starts_with(bytes) && !bytes.is_empty());
             }
 
-            let row = marker::hypothesis(model, second, obligation, hypothesis);
-            let got = self.on_sheets(edge, model, second, |model, second| library::hypothesis(model, second, obligation, hypothesis));
-            self.same(&format!("silfoddra_hypothesis({obligation}, {hypothesis})"), kind, model, second, got, row)?;
+            let limits = self.limits(size, random);
+            let row = marker::hypothesis(model, second, obligation, hypothesis, limits);
+            let got = self.on_sheets(paper, |model, second| library::hypothesis(model, second, obligation, hypothesis, limits));
+            self.same(&format!("silfoddra_hypothesis({obligation}, {hypothesis})"), paper, limits, got, row)?;
             if row.number == 0 {
                 self.roles[row.role as usize] += 1;
             }
@@ -56,7 +60,7 @@ fn hypothesis_count(model: &[u8], second: &[u8], obligation: u32) -> usize {
 }
 
 fn with_claim<T>(model: &[u8], second: &[u8], ask: impl FnOnce(&Claim) -> Option<T>) -> Option<T> {
-    let model = marker::Model::read(model).ok()?;
+    let model = marker::Model::read(model, EXAM).ok()?;
     ask(&Claim::read(&mut Reader::open(second, 2).ok()?, &model).ok()?)
 }
 

@@ -16,8 +16,8 @@ impl Comparison {
         count.accepted += u64::from(number == 0);
         for &edge in self.edges() {
             let got = self.read_row(edge, &text.bytes, text.variables);
-            let call = format!("silfoddra_read_row on {} variables", text.variables);
-            self.agree(&call, text.kind, &[("text", &text.bytes)], got, expected)?;
+            let call = || format!("silfoddra_read_row on {} variables", text.variables);
+            self.agree(call, text.kind, &[("text", &text.bytes)], [("library", got), ("marker", expected)])?;
         }
         Ok(())
     }

@@ -43,6 +43,9 @@ pub enum Sheet {
     Call = 2,
 }
 
+/// An argument or a limit outside its range: 5, in the call itself.
+pub const ARGUMENT: (Sheet, Refusal) = (Sheet::Call, Refusal { fault: Fault::Range, place: 0 });
+
 /// The five numbers. The layout is that of the C header.
 #[derive(Clone, Copy, Debug, Default, PartialEq, Eq)]
 #[repr(C)]

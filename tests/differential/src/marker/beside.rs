@@ -1,9 +1,9 @@
 //! The calls beside the marking (01, "Beside the marking").
 
-use super::answer::{Answer, Fault, Refusal, Sheet};
+use super::answer::{ARGUMENT, Answer, Fault, Refusal, Sheet};
 use super::certificate::{Claim, Group, Hypotheses, Hypothesis};
 use super::joint::{self, JointSwitch};
-use super::model::Model;
+use super::limits::{Limits, open_model};
 use super::reader::Reader;
 
 /// Which obligation a number stands for. The layout is that of the C interface.
@@ -37,11 +37,11 @@ pub struct HypothesisRow {
 }
 
 /// Fills the table with the joint switches in order. A refusal writes nothing, and later records keep their content.
-pub fn joint_list(model: &[u8], table: &mut [JointSwitch]) -> Answer {
+pub fn joint_list(model: &[u8], table: &mut [JointSwitch], limits: Limits) -> Answer {
     let length = model.len();
-    let model = match Model::read(model) {
+    let model = match open_model(model, limits) {
         Ok(model) => model,
-        Err(refusal) => return Answer::refused(refusal, Sheet::Model, 0, 0),
+        Err((sheet, refusal)) => return Answer::refused(refusal, sheet, 0, 0),
     };
     match table.get_mut(..model.joint_count) {
         Some(records) => {
@@ -53,9 +53,9 @@ pub fn joint_list(model: &[u8], table: &mut [JointSwitch]) -> Answer {
 }
 
 /// The bytes of one hypothesis in the sheet that holds it, and the sister call's answer.
-pub fn show_row<'a>(model: &'a [u8], second: &'a [u8], obligation: u32, hypothesis: u32) -> (Answer, &'a [u8]) {
+pub fn show_row<'a>(model: &'a [u8], second: &'a [u8], obligation: u32, hypothesis: u32, limits: Limits) -> (Answer, &'a [u8]) {
     let sheets = [model, second];
-    let shown = with_claim(model, second, |claim| {
+    let shown = with_claim(model, second, limits, |claim| {
         let found = find_hypothesis(claim, obligation, hypothesis)?;
         Ok((found.sheet, found.place, found.length))
     });
@@ -67,8 +67,8 @@ pub fn show_row<'a>(model: &'a [u8], second: &'a [u8], obligation: u32, hypothes
 }
 
 /// Where the row of one hypothesis stands, and what it is.
-pub fn hypothesis(model: &[u8], second: &[u8], obligation: u32, hypothesis: u32) -> HypothesisRow {
-    let told = with_claim(model, second, |claim| {
+pub fn hypothesis(model: &[u8], second: &[u8], obligation: u32, hypothesis: u32, limits: Limits) -> HypothesisRow {
+    let told = with_claim(model, second, limits, |claim| {
         let Hypothesis { role, owner, sheet, place, length, .. } = find_hypothesis(claim, obligation, hypothesis)?;
         let (sheet, place, size) = (sheet as u32, place as u32, length as u32);
         Ok(HypothesisRow { number: 0, sheet, place, size, role: role as u32, owner: owner as u32 })
@@ -80,8 +80,8 @@ pub fn hypothesis(model: &[u8], second: &[u8], obligation: u32, hypothesis: u32)
 }
 
 /// Tells which obligation a number stands for.
-pub fn which(model: &[u8], second: &[u8], obligation: u32) -> Which {
-    let found = with_claim(model, second, |claim| find(claim, obligation));
+pub fn which(model: &[u8], second: &[u8], obligation: u32, limits: Limits) -> Which {
+    let found = with_claim(model, second, limits, |claim| find(claim, obligation));
     match found {
         Ok((group, line)) => {
             // As on every acceptance with two sheets: sheet 1 and its length.
@@ -94,12 +94,14 @@ pub fn which(model: &[u8], second: &[u8], obligation: u32) -> Which {
     }
 }
 
-/// An argument outside its range: 5, in the call itself.
-const ARGUMENT: (Sheet, Refusal) = (Sheet::Call, Refusal { fault: Fault::Range, place: 0 });
-
-/// Reads the model and the regions, but no proof, then asks.
-fn with_claim<T>(model: &[u8], second: &[u8], ask: impl FnOnce(&Claim) -> Result<T, (Sheet, Refusal)>) -> Result<T, (Sheet, Refusal)> {
-    let model = Model::read(model).map_err(|refusal| (Sheet::Model, refusal))?;
+/// Tests the limits, reads the model and the regions, but no proof, then asks.
+fn with_claim<T>(
+    model: &[u8],
+    second: &[u8],
+    limits: Limits,
+    ask: impl FnOnce(&Claim) -> Result<T, (Sheet, Refusal)>,
+) -> Result<T, (Sheet, Refusal)> {
+    let model = open_model(model, limits)?;
     let mut reader = Reader::open(second, 2).map_err(|refusal| (Sheet::Second, refusal))?;
     let claim = Claim::read(&mut reader, &model).map_err(|refusal| (Sheet::Second, refusal))?;
     ask(&claim)

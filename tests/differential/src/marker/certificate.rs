@@ -3,6 +3,7 @@
 use super::answer::{Answer, Fault, Refusal, Sheet};
 use super::farkas::{Form, Row, Sum};
 use super::joint::{self, JointSwitch};
+use super::limits::{Limits, open_model};
 use super::model::{Mode, Model};
 use super::reader::{Condition, Reader};
 use std::ops::Range;
@@ -222,11 +223,11 @@ impl<'a> Claim<'a> {
     }
 }
 
-/// Marks a certificate: the model, the regions, then proof by proof until one fails.
-pub fn mark_certificate(model: &[u8], second: &[u8]) -> Answer {
-    let model = match Model::read(model) {
+/// Marks a certificate: the limits, the model, the regions, then proof by proof until one fails.
+pub fn mark_certificate(model: &[u8], second: &[u8], limits: Limits) -> Answer {
+    let model = match open_model(model, limits) {
         Ok(model) => model,
-        Err(refusal) => return Answer::refused(refusal, Sheet::Model, 0, 0),
+        Err((sheet, refusal)) => return Answer::refused(refusal, sheet, 0, 0),
     };
     let opened = Reader::open(second, 2).and_then(|mut reader| Ok((Claim::read(&mut reader, &model)?, reader)));
     let (claim, mut reader) = match opened {

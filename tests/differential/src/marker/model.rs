@@ -2,12 +2,11 @@
 
 use super::answer::{Fault, Refusal};
 use super::joint;
+use super::limits::Limits;
 use super::reader::{Condition, Reader};
 
 pub const MOST_COMPONENTS: usize = 4;
 pub const EVENTS: usize = 16;
-const MOST_LOCATIONS: usize = 64;
-const MOST_JOINT_SWITCHES: usize = 4_096;
 const MOST_ROWS: u8 = 8;
 /// Where n stands, which is the place of 7 and 8.
 const PLACE_OF_N: usize = 4;
@@ -54,8 +53,8 @@ pub struct Model {
 }
 
 impl Model {
-    /// Reads a model to its end, with bytes left, 7 and 8.
-    pub fn read(sheet: &[u8]) -> Result<Self, Refusal> {
+    /// Reads a model to its end, with bytes left, then 7 and 8 by these limits, whose own ranges are not tested here.
+    pub fn read(sheet: &[u8], limits: Limits) -> Result<Self, Refusal> {
         let mut reader = Reader::open(sheet, 1)?;
         let variables = usize::from(reader.u8(1..=8)?);
         let component_count = reader.u8(1..=MOST_COMPONENTS as u8)?;
@@ -67,13 +66,13 @@ impl Model {
         reader.finish()?;
 
         let location_count: usize = components.iter().map(|component| component.modes.len()).product();
-        if location_count > MOST_LOCATIONS {
+        if location_count > limits.locations as usize {
             return Err(Refusal::new(Fault::Locations, PLACE_OF_N));
         }
         let locations = (0..location_count).map(|number| location(&components, number)).collect();
         let mut model = Model { variables, owners, components, unsafe_conditions, locations, joint_count: 0 };
         model.joint_count = joint::count(&model);
-        if model.joint_count > MOST_JOINT_SWITCHES {
+        if model.joint_count > limits.joints as usize {
             return Err(Refusal::new(Fault::JointSwitches, PLACE_OF_N));
         }
         Ok(model)

@@ -2,6 +2,7 @@
 
 use super::answer::{Answer, Fault, Refusal, Sheet};
 use super::joint::{JointSwitch, STAYS};
+use super::limits::{Limits, open_model};
 use super::model::{EVENTS, Location, MOST_COMPONENTS, Model};
 use super::reader::{Condition, Reader};
 use std::ops::RangeInclusive;
@@ -87,11 +88,11 @@ fn jump_allowed(model: &Model, from: &State, event: u8, switches: [u8; MOST_COMP
     kept && joint.moving(model).all(|(_, switch)| switch.jump.rows().all(|row| row.holds(both(), q)))
 }
 
-/// Marks a run sheet: the model, the start, step by step until one fails, then the end.
-pub fn mark_run(model: &[u8], second: &[u8]) -> Answer {
-    let model = match Model::read(model) {
+/// Marks a run sheet: the limits, the model, the start, step by step until one fails, then the end.
+pub fn mark_run(model: &[u8], second: &[u8], limits: Limits) -> Answer {
+    let model = match open_model(model, limits) {
         Ok(model) => model,
-        Err(refusal) => return Answer::refused(refusal, Sheet::Model, 0, 0),
+        Err((sheet, refusal)) => return Answer::refused(refusal, sheet, 0, 0),
     };
     let mut done = 0;
     match follow(&model, second, &mut done) {

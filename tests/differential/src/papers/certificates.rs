@@ -3,10 +3,10 @@
 use super::models::{Plan, row};
 use super::random::Random;
 use super::sheet::{CERTIFICATE, Proof, Row, Sheet};
-use crate::marker::Model;
 use crate::marker::certificate::{Claim, Group, Hypotheses, Kind};
 use crate::marker::farkas::{Form, Sum};
 use crate::marker::reader::Reader;
+use crate::marker::{EXAM, Model};
 
 const MULTIPLIER_LIMIT: i64 = 1 << 24;
 const MOST_BYTES: usize = 32_768;
@@ -109,7 +109,7 @@ fn random_region(random: &mut Random, plan: &Plan, location: usize) -> Vec<Row> 
 
 /// None where the model is refused.
 fn prove_all(random: &mut Random, model: &[u8], regions: &[Vec<Row>]) -> Option<Outcome> {
-    let model = Model::read(model).ok()?;
+    let model = Model::read(model, EXAM).ok()?;
     let sheet = certificate_sheet(regions, &[]);
     let claim = Claim::read(&mut Reader::open(&sheet.bytes, 2).ok()?, &model).ok()?;
     if claim.groups().map(|group| group.lines.len()).sum::<usize>() > 6_500 {

@@ -262,8 +262,8 @@ fn largest_products(values: [i64; 3]) -> Paper {
     Paper::new(&format!("largest products {values:?}"), model, second.finished())
 }
 
-/// Components of these mode counts, every mode a start mode; a run of no steps, accepted where there are at most 64 locations.
-fn locations(modes: &[usize]) -> Paper {
+/// Components of these mode counts, every mode a start mode; a run of no steps, accepted where the limits allow so many locations.
+pub fn locations(modes: &[usize]) -> Paper {
     let mode = Mode { start: true, ..Mode::default() };
     let components = modes.iter().map(|&count| Component { alphabet: 0, modes: vec![mode.clone(); count], switches: vec![] });
     let model = plan(vec![0], components.collect(), vec![(vec![ANY; modes.len()], vec![])]).sheet();
@@ -316,6 +316,28 @@ fn scopes() -> Vec<Paper> {
         }
     }
     papers
+}
+
+/// Papers at and beside the limits of the exam desk and of the practice desk, in locations and in joint switches; one is over both limits
+/// of the practice desk, and two models do not read.
+pub fn for_limits() -> Vec<Paper> {
+    let mut papers = vec![
+        Paper::new("T with C", tank(-11, vec![]), tank_certificate(10)),
+        Paper::new("C with T", tank_certificate(10), tank(-11, vec![])),
+        Paper::new("nothing", empty(), empty()),
+        joint_switches(&[1], 0),
+        joint_switches(&[16, 16], 0),
+        joint_switches(&[16, 16], 1),
+        joint_switches(&[16, 16, 16], 0),
+        joint_switches(&[16, 16, 16], 1),
+        shared_events(),
+    ];
+    papers.extend([&[4, 4][..], &[6, 3], &[8, 8], &[7, 5, 2]].map(locations));
+    papers
+}
+
+fn empty() -> Sheet {
+    Sheet { bytes: vec![], fields: vec![] }
 }
 
 /// All of them.

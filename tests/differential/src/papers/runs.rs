@@ -3,9 +3,9 @@
 use super::models::{ANY, Plan, row};
 use super::random::Random;
 use super::sheet::{RUN, Sheet};
-use crate::marker::Model;
 use crate::marker::joint::{self, JointSwitch, STAYS};
 use crate::marker::run::{State, Step, admissible, after, may_begin};
+use crate::marker::{EXAM, Model};
 
 const LARGEST_VALUE: i64 = 1 << 27;
 
@@ -50,7 +50,7 @@ pub fn put_step(sheet: &mut Sheet, step: &Step, switches: &[usize], values: &[i6
 
 /// A model and a run through it. An unsafe condition that fits the end is added to the model, so that the run is accepted.
 pub fn random_run(random: &mut Random, mut plan: Plan, most_steps: usize) -> Option<Walk> {
-    let model = Model::read(&plan.sheet().bytes).ok()?;
+    let model = Model::read(&plan.sheet().bytes, EXAM).ok()?;
     let n = model.variables;
     let largest = plan.low.iter().chain(&plan.high).map(|bound| i64::from(bound.abs())).max().unwrap_or(0).max(1);
     let q = (*random.pick(&[1, 1, 2, 3, 12, 1_000, (1 << 24) - 1])).min(LARGEST_VALUE / largest);

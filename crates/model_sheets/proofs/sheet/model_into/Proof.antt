@@ -7,7 +7,6 @@ use denote.Ref.{now}
 use Rattle.formats.specs.Reading.{got, refused}
 use Rattle.formats.specs.Reading as reading
 use Rattle.formats.specs.Model.{Model, readModelBody}
-use Rattle.formats.specs.ModelSheet.{examLimits}
 use Rattle.models.specs.Index.{modelFrom}
 use Rattle.fields.specs.Answers.{gotAs}
 use Rattle.fields.proofs.AnswerLaws.{field-value, field-refused}
@@ -67,13 +66,13 @@ within-limits-requires c κs =
     let there : readModelBody 1 s at ≡ readModelBody 1 s 4 = ap (λ (x : ℕ). readModelBody 1 s x) (r .four) in
     let end = c .before .before .before .before .before .before .end .given .0 .0 in
     let two : readModelBody 1 s 4 ≡ got (modelFrom s y) end = sym there ∙ told-at (modelFrom s y) (readModelBody 1 s at) (c .before .before .before .before .before .before .before .before .body-into .ensures .0) (c .before .before .before .before .before .before .end .given .1) in
-    body-good s y 4 end two
+    (body-good s y 4 end two, c .before .before .before .before .before .before .before .before .before .before .before .before .before .before .before .pre)
 
 returns : tie.Need-returns
 unfolding gotAs
 returns c =
     let a = c .before .before .before .before .before .args in
-    (sym (sheet-first examLimits (now (a .s)) (c .before .number .given .0 .0) (c .before .number .given .0 .1 .0) (sym (c .before .before .before .header .ensures) ∙ field-refused (c .before .number .given .1))), (kept-none 0 1004 (now (a .index)), refused-uncounted (now (a .s)) (now (a .index)) (c .before .number .given .0 .0) (c .before .number .given .0 .1 .0)))
+    (sym (sheet-first (a .limits) (now (a .s)) (c .before .number .given .0 .0) (c .before .number .given .0 .1 .0) (sym (c .before .before .before .header .ensures) ∙ field-refused (c .before .number .given .1))), (kept-none 0 1004 (now (a .index)), refused-uncounted (now (a .s)) (now (a .index)) (c .before .number .given .0 .0) (c .before .number .given .0 .1 .0)))
 
 returns-2 : tie.Need-returns-2
 unfolding gotAs
@@ -87,7 +86,7 @@ returns-2 c =
     let one : reading.header 1 s 0 ≡ got 1 4 = e ∙ ap (λ (x : ℕ). got x at) (r .one) ∙ ap (λ (x : ℕ). got 1 x) (r .four) in
     let y = c .before .before .before .body-into .last .1 .1 .0 in
     let there : readModelBody 1 s at ≡ readModelBody 1 s 4 = ap (λ (x : ℕ). readModelBody 1 s x) (r .four) in
-    (sym (sheet-second examLimits s one (c .before .number2 .given .0 .0) (c .before .number2 .given .0 .1 .0) (sym there ∙ told-refused (modelFrom s y) (readModelBody 1 s at) (c .before .before .before .body-into .ensures .0) (c .before .number2 .given .1))), (kept-wider (omega arith) (omega arith) (c .before .before .before .body-into .ensures .1), refused-uncounted s y (c .before .number2 .given .0 .0) (c .before .number2 .given .0 .1 .0)))
+    (sym (sheet-second (a .limits) s one (c .before .number2 .given .0 .0) (c .before .number2 .given .0 .1 .0) (sym there ∙ told-refused (modelFrom s y) (readModelBody 1 s at) (c .before .before .before .body-into .ensures .0) (c .before .number2 .given .1))), (kept-wider (omega arith) (omega arith) (c .before .before .before .body-into .ensures .1), refused-uncounted s y (c .before .number2 .given .0 .0) (c .before .number2 .given .0 .1 .0)))
 
 returns-3 : tie.Need-returns-3
 unfolding gotAs
@@ -103,7 +102,7 @@ returns-3 c =
     let there : readModelBody 1 s at ≡ readModelBody 1 s 4 = ap (λ (x : ℕ). readModelBody 1 s x) (r .four) in
     let end = c .before .before .before .before .before .end .given .0 .0 in
     let two : readModelBody 1 s 4 ≡ got (modelFrom s y) end = sym there ∙ told-at (modelFrom s y) (readModelBody 1 s at) (c .before .before .before .before .before .before .before .body-into .ensures .0) (c .before .before .before .before .before .end .given .1) in
-    (sym (sheet-third examLimits s one (modelFrom s y) end two (c .before .number3 .given .0 .0) (c .before .number3 .given .0 .1 .0) (told-refused tt (reading.finished s end) (c .before .before .before .finished .ensures) (c .before .number3 .given .1))), (kept-wider (omega arith) (omega arith) (c .before .before .before .before .before .before .before .body-into .ensures .1), refused-uncounted s y (c .before .number3 .given .0 .0) (c .before .number3 .given .0 .1 .0)))
+    (sym (sheet-third (a .limits) s one (modelFrom s y) end two (c .before .number3 .given .0 .0) (c .before .number3 .given .0 .1 .0) (told-refused tt (reading.finished s end) (c .before .before .before .finished .ensures) (c .before .number3 .given .1))), (kept-wider (omega arith) (omega arith) (c .before .before .before .before .before .before .before .body-into .ensures .1), refused-uncounted s y (c .before .number3 .given .0 .0) (c .before .number3 .given .0 .1 .0)))
 
 returns-4 : tie.Need-returns-4
 unfolding modelFrom
@@ -123,7 +122,7 @@ returns-4 c =
     let z = c .within-limits .last .1 .0 in
     let same : modelFrom s z ≡ modelFrom s y = model-same (body-good s y 4 end two) (limited .1 .0 .same) in (
       ap (λ (m : Model). gotAs m (c .within-limits .result)) same
-          ∙ sheet-limits examLimits s one (modelFrom s y) end two (c .before .before .before .next .given .0 .0) (told-at tt (reading.finished s end) (c .before .before .before .before .before .finished .ensures) (c .before .before .before .next .given .1)) (c .within-limits .result) (limited .0),
+          ∙ sheet-limits (a .limits) s one (modelFrom s y) end two (c .before .before .before .next .given .0 .0) (told-at tt (reading.finished s end) (c .before .before .before .before .before .finished .ensures) (c .before .before .before .next .given .1)) (c .within-limits .result) (limited .0),
       (
         kept-then (kept-wider (omega arith) (omega arith) (c .before .before .before .before .before .before .before .before .before .body-into .ensures .1)) (limited .1 .0 .kept),
         limited .1 .1,

@@ -1,4 +1,4 @@
--- A refusal of either sheet is told at once; after both the paper is good. Assumes nothing.
+-- A refusal of the limits or of either sheet is told at once; after both the paper is good. Assumes nothing.
 use mathlib.Core.Path.{_≡_, sym, ap, _∙_}
 use mathlib.Core.List.{List}
 use Prim.Native.Nat.{ℕ, _≤_}
@@ -33,11 +33,11 @@ module _ (c : tie.Else1) where
   abbrev m : Model
   m = modelFrom model index
 
-  opens : Open 2 model index second
+  opens : Open (c .before .before .before .before .before .before .args .limits) 2 model index second
   opens = c .before .before .open-paper .ensures .1 .1 (c .if1 .left)
 
   few : entry index 15 ≤ 4096
-  few = omega (arith, opens .accepted .counted .located, opens .accepted .few)
+  few = omega (arith, opens .first .accepted .counted .located, opens .first .accepted .few)
 
 -- a refusal of the regions is that of the second sheet
 refusal : (c : tie.After-known-told) → readRegions (m (c .before .before .before .before .before .before .before)) (second (c .before .before .before .before .before .before .before)) 4 ≡ refused (c .before .number .given .0 .0) (c .before .number .given .0 .1 .0)
@@ -45,7 +45,7 @@ unfolding entry
 refusal c =
     let at = c .before .before .before .before .before .before .before in
     let read = c .before .before .before .read-regions in
-    told-refused (regionsFrom (second at) (entry (index at) 0) (read .last .1 .1 .1 .1 .0) (entry (index at) 15)) (readRegions (m at) (second at) 4) (read .ensures .0 ∙ regions-for (model at) (index at) (second at) (entry (index at) 15) 4 (opens at .accepted .counted .located)) (c .before .number .given .1)
+    told-refused (regionsFrom (second at) (entry (index at) 0) (read .last .1 .1 .1 .1 .0) (entry (index at) 15)) (readRegions (m at) (second at) 4) (read .ensures .0 ∙ regions-for (model at) (index at) (second at) (entry (index at) 15) 4 (opens at .first .accepted .counted .located)) (c .before .number .given .1)
 
 open-paper-requires : tie.Need-open-paper-requires
 open-paper-requires c κs = search needs
@@ -56,14 +56,14 @@ returns c =
     let e = c .before .before .open-paper .ensures .0 in
     λ k h.
     ap (λ (x : Answer). toldRefused (x .number) (x .sheet) (x .place)) e
-    ∙ told-refused-first _ _ k h (λ z. c .if1 .taken (ap (λ (x : Answer). x .number) e ∙ z))
+    ∙ told-refused-first _ _ _ k h (λ z. c .if1 .taken (ap (λ (x : Answer). x .number) e ∙ z))
 
 element-copy-out-n : tie.Need-element-copy-out-n
 element-copy-out-n c = search needs
 
 cast-n : tie.Need-cast-n
 unfolding entry
-cast-n c = omega (arith, opens (c .before) .accepted .good .most)
+cast-n c = omega (arith, opens (c .before) .first .accepted .good .most)
 
 element-copy-out-locations : tie.Need-element-copy-out-locations
 element-copy-out-locations c = search needs
@@ -76,13 +76,13 @@ read-regions-requires : tie.Need-read-regions-requires
 unfolding entry
 read-regions-requires c κs =
     let w = opens (c .before .before .before) in
-    (w .brief, (w .accepted .good .most, omega (arith, few (c .before .before .before))))
+    (w .brief, (w .first .accepted .good .most, omega (arith, few (c .before .before .before))))
 
 enum-known-number : tie.Need-enum-known-number
 enum-known-number c = search needs
 
-cast-t20 : tie.Need-cast-t20
-cast-t20 c =
+cast-t21 : tie.Need-cast-t21
+cast-t21 c =
     let w = opens (c .before .before .before .before .before .before .before) in
     omega (arith, regions-refused-at _ _ 4 _ _ (w .bodied) (refusal c), w .brief)
 
@@ -91,14 +91,14 @@ enum-told c = search needs
 
 returns-2 : tie.Need-returns-2
 unfolding OpensTo
-returns-2 c = λ k h. told-stops _ _ k h _ _ _ (refusal c) ∙ told-open _ _ k h (opens (c .before .before .before .before .before .before .before))
+returns-2 c = λ k h. told-stops _ _ k h _ _ _ (refusal c) ∙ told-open _ _ _ k h (opens (c .before .before .before .before .before .before .before))
 
 returns-3 : tie.Need-returns-3
 unfolding OpensTo entry
 returns-3 c =
     let at = c .before .before .before .before .before .before in
     let w = opens at in
-    let located = w .accepted .counted .located in
+    let located = w .first .accepted .counted .located in
     let locations = entry (index at) 15 in
     let read = c .before .before .read-regions in
     let regions = read .last .1 .1 .1 .1 .0 in
@@ -107,12 +107,12 @@ returns-3 c =
     let e : regionsFor locations (entry (index at) 0) (second at) 4 ≡ got all (told .0 .0) = told-at all (regionsFor locations (entry (index at) 0) (second at) 4) (read .ensures .0) (told .1) in
     let reads : readRegions (m at) (second at) 4 ≡ got all (told .0 .0) = sym (regions-for (model at) (index at) (second at) locations 4 located) ∙ e in
     record {
-      good = good-paper locations 4 (told .0 .0) (w .accepted) (w .brief) located e;
-      joined = w .accepted .joined;
+      good = good-paper locations 4 (told .0 .0) (w .first .accepted) (w .brief) located e;
+      joined = w .first .accepted .joined;
       told = λ k h.
           paper-whole (model at) (index at) (second at) regions locations k h located
           ∙ told-rest (m at) (second at) k h (readRegions (m at) (second at) 4) all (told .0 .0) reads
-          ∙ told-open (model at) (second at) k h w;
+          ∙ told-open _ (model at) (second at) k h w;
     }
 
 pub open-regions-spec : {M : Type 1} → statement M
@@ -127,7 +127,7 @@ open-regions-spec =
     cast-locations
     read-regions-requires
     enum-known-number
-    cast-t20
+    cast-t21
     enum-told
     returns-2
     returns-3)

@@ -1,7 +1,6 @@
 -- The first three numbers of what is told of the hypothesis. Assumes nothing.
 use borrow.Author.Needs.{needs}
 use denote.Ref.{now}
-use Rattle.formats.specs.ModelSheet.{examLimits}
 use Rattle.rules.specs.Marking.{answer}
 use Rattle.queries.proofs.ShowLaws.{answer-shown}
 use Rattle.queries.proofs.show.show_answer.Statement.{statement}
@@ -14,7 +13,7 @@ returns : tie.Need-returns
 unfolding answer
 returns c =
     let a = c .before .before .before .args in
-    answer-shown examLimits (now (a .model)) (now (a .second)) (a .o) (a .h) (c .show-hypothesis .result) (c .show-hypothesis .ensures)
+    answer-shown (a .limits) (now (a .model)) (now (a .second)) (a .o) (a .h) (c .show-hypothesis .result) (c .show-hypothesis .ensures)
 
 pub show-answer-spec : {M : Type 1} → statement M
 show-answer-spec = tie.close (tie.spec show-hypothesis-requires returns)

@@ -1,7 +1,6 @@
 -- By cases on where the row stands. Assumes nothing.
 use borrow.Author.Needs.{needs}
 use denote.Ref.{now}
-use Rattle.formats.specs.ModelSheet.{examLimits}
 use Rattle.rules.specs.Marking.{answer}
 use Rattle.rules.specs.Roles.{owned}
 use Rattle.queries.specs.declared.RowFound.the-variants as row
@@ -31,7 +30,7 @@ returns c =
     let a = c .before .before .before .before .before .before .args in
     let told = c .before .row .given in
     let found = c .before .before .before .find-row in
-    shown-whole examLimits (now (a .model)) (now (a .second)) (a .o) (a .h) (found .result) (row.InModel (told .0 .0) (told .0 .1 .0)) (found .ensures .0) (told .1)
+    shown-whole (a .limits) (now (a .model)) (now (a .second)) (a .o) (a .h) (found .result) (row.InModel (told .0 .0) (told .0 .1 .0)) (found .ensures .0) (told .1)
 
 returns-2 : tie.Need-returns-2
 unfolding answer owned shownAs rowAnswer rowLength
@@ -39,14 +38,14 @@ returns-2 c =
     let a = c .before .before .before .before .before .before .args in
     let told = c .before .row2 .given in
     let found = c .before .before .before .find-row in
-    shown-whole examLimits (now (a .model)) (now (a .second)) (a .o) (a .h) (found .result) (row.InSecond (told .0 .0) (told .0 .1 .0)) (found .ensures .0) (told .1)
+    shown-whole (a .limits) (now (a .model)) (now (a .second)) (a .o) (a .h) (found .result) (row.InSecond (told .0 .0) (told .0 .1 .0)) (found .ensures .0) (told .1)
 
 returns-3 : tie.Need-returns-3
 unfolding answer owned shownAs rowAnswer rowLength
 returns-3 c =
     let a = c .before .before .before .before .before .args in
     let found = c .before .before .find-row in
-    shown-whole examLimits (now (a .model)) (now (a .second)) (a .o) (a .h) (found .result) row.Nowhere (found .ensures .0) (c .enum-told .given .1)
+    shown-whole (a .limits) (now (a .model)) (now (a .second)) (a .o) (a .h) (found .result) row.Nowhere (found .ensures .0) (c .enum-told .given .1)
 
 returns-4 : tie.Need-returns-4
 unfolding answer owned shownAs rowAnswer rowLength
@@ -54,7 +53,7 @@ returns-4 c =
     let a = c .before .before .before .before .before .before .args in
     let told = c .before .row3 .given in
     let found = c .before .before .before .find-row in
-    shown-whole examLimits (now (a .model)) (now (a .second)) (a .o) (a .h) (found .result) (row.Refused (told .0 .0) (told .0 .1 .0) (told .0 .1 .1 .0)) (found .ensures .0) (told .1)
+    shown-whole (a .limits) (now (a .model)) (now (a .second)) (a .o) (a .h) (found .result) (row.Refused (told .0 .0) (told .0 .1 .0) (told .0 .1 .1 .0)) (found .ensures .0) (told .1)
 
 pub show-hypothesis-spec : {M : Type 1} → statement M
 show-hypothesis-spec =

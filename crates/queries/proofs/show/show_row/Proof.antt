@@ -3,7 +3,6 @@ use mathlib.Core.Path.{_≡_, refl}
 use mathlib.Core.List.{[]}
 use borrow.Author.Needs.{needs}
 use denote.Ref.{now}
-use Rattle.formats.specs.ModelSheet.{examLimits}
 use Rattle.rules.specs.Beside.{findHypothesis}
 use Rattle.queries.specs.Finding.{rowFound}
 use Rattle.queries.proofs.ShowLaws.{row-located, inside-model, inside-second, shown-in-model, shown-in-second, shown-nowhere, shown-refused, part-size}
@@ -14,7 +13,7 @@ find-row-requires : tie.Need-find-row-requires
 find-row-requires c κs = search needs
 
 -- the row that was found is that of the hypothesis
-found : (c : tie.After-find-row) → c .find-row .result .row ≡ rowFound (findHypothesis examLimits (now (c .before .before .before .args .model)) (now (c .before .before .before .args .second)) (c .before .before .before .args .o) (c .before .before .before .args .h))
+found : (c : tie.After-find-row) → c .find-row .result .row ≡ rowFound (findHypothesis (c .before .before .before .args .limits) (now (c .before .before .before .args .model)) (now (c .before .before .before .args .second)) (c .before .before .before .args .o) (c .before .before .before .args .h))
 found c = row-located _ _ _ _ _ (c .find-row .ensures .0)
 
 enum-known-row : tie.Need-enum-known-row

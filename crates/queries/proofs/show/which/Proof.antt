@@ -1,9 +1,8 @@
 -- A refusal as it is, else the obligation that was found. Assumes nothing.
 use borrow.Author.Needs.{needs}
 use denote.Ref.{now}
-use Rattle.formats.specs.ModelSheet.{examLimits}
 use Rattle.queries.specs.Finding.{OpenFor, whichRefused}
-use Rattle.queries.proofs.ShowLaws.{opens, which-found, which-stopped}
+use Rattle.queries.proofs.ShowLaws.{is-open, which-found, which-stopped}
 use Rattle.queries.proofs.show.which.Statement.{statement}
 use Rattle.queries.proofs.show.which.Tie as tie
 
@@ -17,8 +16,8 @@ enum-told : tie.Need-enum-told
 enum-told c = search needs
 
 -- both sheets, once they are open
-opened : (c : tie.After-enum-told) → OpenFor examLimits (now (c .before .before .before .before .before .before .before .args .model)) (c .before .before .open-regions .last .1 .1 .0) (now (c .before .before .before .before .before .before .before .args .second)) (c .before .before .open-regions .last .1 .1 .1 .0)
-opened c = opens _ _ _ _ _ 0 0 (c .enum-told .given .1) (c .before .before .open-regions .ensures)
+opened : (c : tie.After-enum-told) → OpenFor (c .before .before .before .before .before .before .before .args .limits) (now (c .before .before .before .before .before .before .before .args .model)) (c .before .before .open-regions .last .1 .1 .0) (now (c .before .before .before .before .before .before .before .args .second)) (c .before .before .open-regions .last .1 .1 .1 .0)
+opened c = is-open _ _ _ _ _ 0 0 (c .enum-told .given .1) (c .before .before .open-regions .ensures)
 
 find-requires : tie.Need-find-requires
 find-requires c κs = let w = opened (c .before .before) in (w .good, w .joined)

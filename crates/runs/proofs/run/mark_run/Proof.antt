@@ -15,7 +15,7 @@ returns c =
     let o = c .before .before in
     let a = o .before .before .before .before .args in
     let e = o .open-paper .ensures .0 in
-    e ∙ run-refused (now (a .model)) (now (a .second)) (λ z. c .if1 .taken (ap (λ (x : Answer). x .number) e ∙ z))
+    e ∙ run-refused (a .limits) (now (a .model)) (now (a .second)) (λ z. c .if1 .taken (ap (λ (x : Answer). x .number) e ∙ z))
 
 slice-aggregate-mark-body : tie.Need-slice-aggregate-mark-body
 slice-aggregate-mark-body c = search needs
@@ -23,13 +23,13 @@ slice-aggregate-mark-body c = search needs
 mark-body-requires : tie.Need-mark-body-requires
 mark-body-requires c κs =
     let w = c .before .before .before .before .open-paper .ensures .1 .1 (c .before .before .if1 .left) in
-    ((w .accepted, search needs), (w .bodied, w .brief))
+    ((w .first .accepted, search needs), (w .bodied, w .brief))
 
 returns-2 : tie.Need-returns-2
 returns-2 c =
     let o = c .before .before .before .before .before .before in
     let a = o .before .before .before .before .args in
-    c .before .mark-body .ensures ∙ run-open (now (a .model)) (now (a .second)) (o .open-paper .ensures .1 .1 (c .before .before .before .before .if1 .left))
+    c .before .mark-body .ensures ∙ run-open (a .limits) (now (a .model)) (now (a .second)) (o .open-paper .ensures .1 .1 (c .before .before .before .before .if1 .left))
 
 pub mark-run-spec : {M : Type 1} → statement M
 mark-run-spec =
