@@ -96,7 +96,14 @@ fn mark<'a>(kind: usize, asked: u32, model: &'a [u8], sheet: &'a [u8], limits: L
         let listing = list_begin(model, asked as usize, limits.locations, limits.joints);
         write_answer(b": ", listing.answer);
     } else {
-        write_part(show_row(model, sheet, asked / 256, asked % 256, limits));
+        write_part(show_row(
+            model,
+            sheet,
+            asked / 256,
+            asked % 256,
+            limits.locations,
+            limits.joints,
+        ));
     }
     io::write_all(STDOUT_FILENO, b"\n");
 }

@@ -21,6 +21,7 @@ use second_sheets::ranges::REGIONS_LENGTH;
 use second_sheets::ranges::Regions;
 ghost use mathlib.Core.Path.{_≡_};
 ghost use lib.ListN.{length};
+ghost use Rattle.formats.specs.ModelSheet.{stated};
 ghost use Rattle.papers.specs.Paper.{GoodPaper};
 ghost use Rattle.rules.specs.Beside.{findHypothesis, showAnswer, showPart};
 ghost use Rattle.queries.specs.Finding.{whichObligation, groupWhich, rowFound, hypothesisLocated, hypothesisAnswer, RowInside, whichOf, OpensTo, PartIs, soughtOneFor, rowAnswer};
@@ -202,10 +203,18 @@ pub fn show_answer(model: &[u8], second: &[u8], o: u32, h: u32, limits: Limits) 
 }
 
 // Show row: the bytes of one hypothesis in whichever sheet holds it, or no bytes.
-pub fn show_row<'a>(model: &'a [u8], second: &'a [u8], o: u32, h: u32, limits: Limits) -> &'a [u8]
-    ensures { λ r. ⌜ now r ≡ showPart limits (now (model .entry)) (now (second .entry)) o h ⌝ }
-    ensures { λ r. ⌜ PartIs (now (model .entry)) (now (second .entry)) (rowFound (findHypothesis limits (now (model .entry)) (now (second .entry)) o h)) (now r) ⌝ }
+pub fn show_row<'a>(
+    model: &'a [u8],
+    second: &'a [u8],
+    o: u32,
+    h: u32,
+    locations: u32,
+    joints: u32,
+) -> &'a [u8]
+    ensures { λ r. ⌜ now r ≡ showPart (stated locations joints) (now (model .entry)) (now (second .entry)) o h ⌝ }
+    ensures { λ r. ⌜ PartIs (now (model .entry)) (now (second .entry)) (rowFound (findHypothesis (stated locations joints) (now (model .entry)) (now (second .entry)) o h)) (now r) ⌝ }
 {
+    let limits = Limits { locations, joints };
     let located = find_row(model, second, o, h, limits);
     let row = located.row;
     match row {

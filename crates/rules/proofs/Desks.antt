@@ -1,7 +1,7 @@
 -- Two desks (02, order 2): "A paper within both desks' limits gets the same answer at both", in every call, refusals included. With limits
 -- that do not fit every call answers 5, sheet 2, so nothing is accepted. And what is accepted at one desk stands at every desk. Assumes
 -- nothing.
-use mathlib.Core.Path.{_≡_, refl, sym, ap, _∙_}
+use mathlib.Core.Path.{_≡_, refl, sym, ap, _∙_, subst}
 use mathlib.Core.Bool.{false}
 use mathlib.Core.List.{List, [], List·Memᴰ}
 use Prim.Native.Nat.{ℕ}
@@ -10,7 +10,7 @@ use lib.Dec.{T}
 use Rattle.formats.specs.Reading.{Got, got, refused}
 use Rattle.formats.specs.Model.{Model}
 use Rattle.formats.specs.declared.Limits.{Limits}
-use Rattle.formats.specs.ModelSheet.{limitsFit, Whole, readWhole, readModel}
+use Rattle.formats.specs.ModelSheet.{limitsFit, Whole, readWhole, readModel, Few}
 use Rattle.formats.proofs.Gives.{got-value}
 use Rattle.formats.proofs.ModelSheet.{read-whole, few-reads, none-reads}
 use Rattle.rules.specs.declared.Answer.{Answer}
@@ -36,6 +36,22 @@ same-opening a b s i j = go (readWhole s 0) refl
         ∙ sym (read-opens b s (whole .model) end (j .fit) (few-reads b s whole end e (j .few whole end e)))
     go (refused number at) e =
         unread-shut a s number at (i .fit) (none-reads a s number at e) ∙ sym (unread-shut b s number at (j .fit) (none-reads b s number at e))
+
+-- within a desk's limits are the sheets that it reads as models, and those that are no models
+pub read-within : (limits : Limits) (s : List ℕ) (m : Model) (end : ℕ) → T (limitsFit limits) → readModel limits s ≡ got m end → WithinLimits limits s
+read-within limits s m end t e =
+    let w = read-whole limits s m end e in
+    record {
+      fit = t;
+      few = λ whole last r.
+          subst (λ (x : Model). Few limits (x .components)) (sym (w .same) ∙ ap (λ (x : Whole). x .model) (got-value (sym (w .reads) ∙ r))) (w .few);
+    }
+
+pub none-within : (limits : Limits) (s : List ℕ) (number at : ℕ) → T (limitsFit limits) → readWhole s 0 ≡ refused number at → WithinLimits limits s
+none-within limits s number at t e = record { fit = t; few = λ whole last r. absurd (refused-not-got (sym e ∙ r)) }
+  where
+    refused-not-got : {whole : Whole} {last : ℕ} → _≡_ {A = Got Whole} (refused number at) (got whole last) → ⊥
+    refused-not-got q = let z : _≡_ {A = ℕ} 0 1 = cc in omega (arith, z)
 
 -- so every call gives the same
 module _ (a b : Limits) (model : List ℕ) (i : WithinLimits a model) (j : WithinLimits b model) where

@@ -2,6 +2,7 @@
 use mathlib.Core.Path.{_≡_, refl}
 use mathlib.Core.List.{[]}
 use borrow.Author.Needs.{needs}
+use Rattle.formats.specs.ModelSheet.{stated}
 use denote.Ref.{now}
 use Rattle.rules.specs.Beside.{findHypothesis}
 use Rattle.queries.specs.Finding.{rowFound}
@@ -13,7 +14,7 @@ find-row-requires : tie.Need-find-row-requires
 find-row-requires c κs = search needs
 
 -- the row that was found is that of the hypothesis
-found : (c : tie.After-find-row) → c .find-row .result .row ≡ rowFound (findHypothesis (c .before .before .before .args .limits) (now (c .before .before .before .args .model)) (now (c .before .before .before .args .second)) (c .before .before .before .args .o) (c .before .before .before .args .h))
+found : (c : tie.After-find-row) → c .find-row .result .row ≡ rowFound (findHypothesis (stated (c .before .before .before .args .locations) (c .before .before .before .args .joints)) (now (c .before .before .before .args .model)) (now (c .before .before .before .args .second)) (c .before .before .before .args .o) (c .before .before .before .args .h))
 found c = row-located _ _ _ _ _ (c .find-row .ensures .0)
 
 enum-known-row : tie.Need-enum-known-row
