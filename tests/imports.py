@@ -11,9 +11,10 @@ ROOT = Path(__file__).resolve().parent.parent / 'crates'
 LINE = re.compile(r'^(?P<head>[ \t]*(?:ghost )?(?P<passed>(?:unfoldable )?pub )?use )(?P<path>[^\s{;]+?)(?:\.?\{(?P<names>[^}]*)\})?(?P<alias> as \S+?)?(?P<end>;?)$', re.M)
 
 
-def words(text):
-    """The words of a text, and of its operators the signs."""
-    return set().union(*(re.split(signs, text) for signs in (r'[\s(){}\[\],;.|⌜⌝⟦⟧&!:<>=*+/-]+', r'[\s(){}\[\],;.⌜⌝⟦⟧]+', r'[\s(){}⌜⌝]+')))
+def words(text, code):
+    """The words of a text. In antt a word may have a hyphen or a sign in it; in code (.rt) signs divide words, outside of contracts."""
+    signs = [r'[\s(){}\[\],;.⌜⌝⟦⟧]+', r'[\s(){}⌜⌝]+'] + ([r'[\s(){}\[\],;.|⌜⌝⟦⟧&!:<>=*+/-]+'] if code else [])
+    return set().union(*(re.split(s, text) for s in signs))
 
 
 def used(name, present, text):
@@ -31,7 +32,7 @@ def unused(path):
     rest = LINE.sub('', re.sub(r'(?m)(^|\s)' + comment + r'.*$', '', text))
     # a name may also head the path of another import, or be what that import passes through
     heads = {m.group('path').split('.')[0].split('::')[0] for m in LINE.finditer(text)}
-    present = words(rest)
+    present = words(rest, path.suffix == '.rt')
     found = []
 
     def mend(match):

@@ -15,7 +15,6 @@ use Rattle.models.specs.Index.{entry, componentsFrom, modelFrom}
 use Rattle.formats.specs.declared.Limits.{Limits}
 use Rattle.formats.specs.Certificate.{readRegions}
 use Rattle.second_sheets.specs.CertificateAnswers.{regionsFrom}
-use Rattle.formats.proofs.Gives.{passes}
 use Rattle.formats.proofs.Placed.{Fine, placed-finished}
 use Rattle.rules.specs.declared.Answer.{Answer}
 use Rattle.certificates.specs.declared.Marking as declared

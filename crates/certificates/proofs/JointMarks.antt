@@ -7,7 +7,6 @@ use native.Mathlib.Numerals.{add-one}
 use native.Mathlib.Omega.{arith}
 use lib.ListN.{length, getD, drop, drop-of-length-le}
 use lib.Seq.{drop-cons}
-use Rattle.fields.specs.declared.Next.the-variants as next
 use Rattle.formats.specs.Rows.{Condition}
 use Rattle.formats.specs.Model.{Component, Model}
 use Rattle.formats.specs.Locations.{locationCount, modesAt, locationOf}

@@ -1,17 +1,17 @@
 -- Rows that differ only in zeros at the end are alike: each coefficient and the bound are the same.
--- The sums, the test and the truth of a row ask for coefficients one by one, so alike rows can take each other's place. The code
--- holds every row with 17 coefficients, the definitions with as many as the sheet gives. Assumes nothing.
+-- The test and the truth of a row ask for coefficients one by one, so alike rows can take each other's place. The code holds sums with a
+-- number for each unknown, the definitions hold a row with as many as the sheet gives. Assumes nothing.
 use mathlib.Core.Path.{_≡_, refl, sym, ap, ap₂, _∙_}
 use mathlib.Core.Bool.{Bool, true, false, cond}
 use mathlib.Core.List.{List, [], _∷_, _++_}
 use Prim.Native.Nat.{ℕ, zero, suc}
 use lib.Dec.{T}
 use lib.IntN.{ℤ, pos, _+ℤ_, _*ℤ_}
-use lib.ListN.{getD, replicate}
-use Rattle.farkas.specs.Rows.{Row, Alike, item, dot, zeroRow}
-use Rattle.farkas.specs.Farkas.{Entry, plus, addRow, addEntry, addEntries, coefficientsAgree, boundPasses, sumsTest}
+use lib.ListN.{replicate}
+use Rattle.farkas.specs.Rows.{Row, Alike, item, dot}
+use Rattle.farkas.specs.Farkas.{coefficientsAgree, boundPasses, sumsTest}
 use Rattle.farkas.proofs.Order.{zero-plus-nothing}
-use Rattle.farkas.proofs.Test.{item-plus, agree-means}
+use Rattle.farkas.proofs.Test.{agree-means}
 
 pub alike-refl : (r : Row) → Alike r r
 alike-refl r = record { coefficient = λ i. refl; bound = refl }
@@ -32,23 +32,6 @@ pub alike-padded :
     (n : ℕ) (xs : List ℤ) (b : ℤ)
     → Alike (record { coefficients = xs ++ replicate n (pos 0); bound = b }) (record { coefficients = xs; bound = b })
 alike-padded n xs b = record { coefficient = item-padded n xs; bound = refl }
-
--- the sums
-pub alike-add : {r s : Row} (m : ℕ) {x y : Row} → Alike r s → Alike x y → Alike (addRow r m x) (addRow s m y)
-unfolding addRow
-alike-add {r} {s} m {x} {y} h k = record { coefficient = coefficient; bound = ap₂ (λ a b. a +ℤ pos m *ℤ b) (h .bound) (k .bound) }
-  where
-    coefficient : (i : ℕ) → item (plus m (r .coefficients) (x .coefficients)) i ≡ item (plus m (s .coefficients) (y .coefficients)) i
-    coefficient i =
-        item-plus m (r .coefficients) (x .coefficients) i
-        ∙ ap₂ (λ a b. a +ℤ pos m *ℤ b) (h .coefficient i) (k .coefficient i)
-        ∙ sym (item-plus m (s .coefficients) (y .coefficients) i)
-
-module _ (hs ks : List Row) (alike : (i : ℕ) → Alike (getD hs i zeroRow) (getD ks i zeroRow)) where
-  pub alike-entries : (es : List Entry) {r s : Row} → Alike r s → Alike (addEntries hs r es) (addEntries ks s es)
-  unfolding addEntries addEntry
-  alike-entries [] h = h
-  alike-entries (e ∷ es) h = alike-entries es (alike-add (e .multiplier) h (alike (e .hypothesis)))
 
 -- the test
 carry-agree :

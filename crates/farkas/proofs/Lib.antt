@@ -9,6 +9,7 @@ pub mod Order
 pub mod All
 pub mod Test
 pub mod Alike
+pub mod Entries
 pub mod SumLaws
 pub mod SumTest
 pub mod Soundness

@@ -8,8 +8,9 @@
 --   judge sums b k shift words at n      has the number sumsTest k sums (onward shift (rowIn words at n)); passed, the sums are all 0
 --   judge_zero sums b                    has the number sumsTest 0 sums zeroRow; passed, the sums are all 0
 --   multiply_add x m y                   ≡ x +ℤ m *ℤ y                                                            where that fits 64 bits
--- Below: numbers in bytes; rows may be held with zeros at the end; the sums hold in 64 bits; the test gives 0 exactly when Farkas' condition
--- holds; and what meets the condition is sound. Each law is proved where its name stands after the sign =. Assumes nothing.
+-- Below: numbers in bytes; rows may be held with zeros at the end; what entries sum to, in any order and entry by entry; the sums hold in 64
+-- bits; the test gives 0 exactly when Farkas' condition holds; and what meets the condition is sound. Each law is proved where its name
+-- stands after the sign =. Assumes nothing.
 use mathlib.Core.Path.{_≡_}
 use mathlib.Core.Logic.{_↔_, _≢_, _⊎_}
 use mathlib.Core.List.{List, [], _∷_, _++_}
@@ -17,59 +18,78 @@ use Prim.Native.Nat.{ℕ, _+_, _*_, _^_, _≤_, _<_}
 use lib.Dec.{T}
 use lib.IntN.{ℤ, pos, negsuc, negℤ, natAbs, _+ℤ_, _*ℤ_}
 use lib.ListN.{length, getD, set, drop, replicate}
-use Rattle.farkas.specs.Rows.{Row, Holds, Alike, item, rowOf, onward, onChange, zeroRow}
-use Rattle.farkas.specs.Farkas.{Entry, Proof, Agree, BoundMet, Meets, sameZ, plus, addRow, addEntries, summed, sumsTest, farkasTest}
-use Rattle.farkas.specs.Sizes.{Bytes, Small, Within, Bounded, SumsHold}
+use Rattle.farkas.specs.Rows.{Row, Holds, Alike, item, rowOf, onward, onChange}
+use Rattle.farkas.specs.Farkas.{Entry, Proof, sumAt, boundSum, Agree, BoundMet, Meets, SumsOf, sameZ, plus, addRow, addEntry, summed, sumsTest, farkasTest}
+use Rattle.farkas.specs.Sizes.{Bytes, Small, Within, Bounded}
 use Rattle.farkas.specs.Sums.{plusFrom, RoomAt, Spare}
 use Rattle.farkas.specs.Lists.{All}
-use Rattle.farkas.specs.Words.{signed, rowIn}
+use Rattle.farkas.specs.Words.{rowIn}
 use Rattle.farkas.proofs.WordLaws as words
 use Rattle.farkas.proofs.Alike as alike
+use Rattle.farkas.proofs.Entries as entries
 use Rattle.farkas.proofs.Sizes as sizes
 use Rattle.farkas.proofs.ByteSizes as bytes
 use Rattle.farkas.proofs.SumLaws as sums
 use Rattle.farkas.proofs.Test as test
 use Rattle.farkas.proofs.Soundness as soundness
 
--- Numbers of four bytes: the first byte of what is left, and the size of a signed number
+-- Numbers of four bytes: the first byte of what is left
 pub first-byte : (s : List ℕ) (p : ℕ) → p < length s → drop p s ≡ getD s p 0 ∷ drop (p + 1) s
 first-byte = words.first-byte
 
-pub signed-small : (n : ℕ) → n < 2 ^ 32 → natAbs (signed n) ≤ 2 ^ 31
-signed-small = words.signed-small
-
 -- Rows alike serve alike. The code holds sums with a number for each unknown, the definitions hold a row with as many as it has
-pub alike-refl : (r : Row) → Alike r r
-alike-refl = alike.alike-refl
-
-pub item-padded : (n : ℕ) (xs : List ℤ) (i : ℕ) → item (xs ++ replicate n (pos 0)) i ≡ item xs i
-item-padded = alike.item-padded
-
 pub alike-padded :
     (n : ℕ) (xs : List ℤ) (b : ℤ)
     → Alike (record { coefficients = xs ++ replicate n (pos 0); bound = b }) (record { coefficients = xs; bound = b })
 alike-padded = alike.alike-padded
 
-pub alike-entries :
-    (hs ks : List Row) → ((i : ℕ) → Alike (getD hs i zeroRow) (getD ks i zeroRow))
-    → (es : List Entry) {r s : Row} → Alike r s → Alike (addEntries hs r es) (addEntries ks s es)
-alike-entries = alike.alike-entries
+pub alike-sums : {hypotheses : List Row} {es : List Entry} {r s : Row} → Alike r s → SumsOf hypotheses es r → SumsOf hypotheses es s
+alike-sums = entries.alike-sums
 
 pub alike-test : (k : ℕ) {r s x y : Row} → Alike r s → Alike x y → sumsTest k r x ≡ sumsTest k s y
 alike-test = alike.alike-test
 
--- The sums hold in 64 bits: of a whole list of entries, and of one entry more, for a loop that adds them
-pub sums-hold : (hypotheses : List Row) (es : List Entry) → Bounded hypotheses es → SumsHold hypotheses es
-sums-hold = sizes.sums-hold
+-- The sums of entries, as a row holds them: of none; of one more, whose row is added m times at every unknown and to the bound; worked out
+-- entry by entry; with any part of the entries first, so in any order; and tested as the proof is
+pub none-summed : (hypotheses : List Row) (n : ℕ) → SumsOf hypotheses [] (rowOf (replicate n (pos 0)) (pos 0))
+none-summed = entries.none-summed
+
+pub sums-next :
+    (hypotheses : List Row) (es : List Entry) (e : Entry) {sums : Row}
+    → SumsOf hypotheses es sums → SumsOf hypotheses (es ++ (e ∷ [])) (addEntry hypotheses sums e)
+sums-next = entries.sums-next
+
+pub sums-worked : (hypotheses : List Row) (es : List Entry) → SumsOf hypotheses es (summed hypotheses es)
+sums-worked = entries.sums-worked
+
+pub any-first :
+    (hypotheses : List Row) (es fs gs : List Entry) {sums : Row}
+    → SumsOf hypotheses (es ++ (fs ++ gs)) sums → SumsOf hypotheses (fs ++ (es ++ gs)) sums
+any-first = entries.any-first
+
+pub held-test :
+    (hypotheses : List Row) (goal : Row) (p : Proof) {sums : Row}
+    → SumsOf hypotheses (p .entries) sums → farkasTest hypotheses goal p ≡ sumsTest (p .k) sums goal
+held-test = entries.held-test
+
+-- The sums hold in 64 bits: of any entries within 01's ranges, with room for one more below 128; and of one row more, for a loop that adds
+-- rows
+pub sums-within : (hypotheses : List Row) (es : List Entry) → Bounded hypotheses es → {sums : Row} → SumsOf hypotheses es sums → Within (length es * 2 ^ 55) sums
+sums-within = sizes.sums-within
+
+pub sums-fit : (hypotheses : List Row) (es : List Entry) → Bounded hypotheses es → {sums : Row} → SumsOf hypotheses es sums → Within (2 ^ 62) sums
+sums-fit = sizes.sums-fit
+
+pub sums-room :
+    (hypotheses : List Row) (es : List Entry) → Bounded hypotheses es → {sums : Row} → SumsOf hypotheses es sums
+    → (m : ℕ) → m < 2 ^ 24 → length es < 128 → Spare m sums
+sums-room = sizes.sums-room
 
 pub grown : (n m : ℕ) (s r : Row) → Within (n * 2 ^ 55) s → m < 2 ^ 24 → Within (2 ^ 31) r → Within ((n + 1) * 2 ^ 55) (addRow s m r)
 grown = sizes.grown
 
 pub wider : {a b : ℕ} {r : Row} → a ≤ b → Within a r → Within b r
 wider = sizes.wider
-
-pub zeros-within : (n i : ℕ) → natAbs (item (replicate n (pos 0)) i) ≤ 0
-zeros-within = sizes.zeros-within
 
 pub set-within : (size : ℕ) (xs : List ℤ) (k : ℕ) (a : ℤ) → ((i : ℕ) → natAbs (item xs i) ≤ size) → natAbs a ≤ size → (i : ℕ) → natAbs (item (set xs k a) i) ≤ size
 set-within = sizes.set-within
@@ -129,22 +149,22 @@ pub same-means : (a b : ℤ) → T (sameZ a b) ↔ (a ≡ b)
 same-means = test.same-means
 
 pub zero-means : (hypotheses : List Row) (goal : Row) (p : Proof) → (farkasTest hypotheses goal p ≡ 0) ↔ Meets hypotheses goal p
-zero-means = test.proof-zero-means
+zero-means = entries.zero-means
 
 pub ten-means :
     (hypotheses : List Row) (goal : Row) (p : Proof)
-    → (farkasTest hypotheses goal p ≡ 10) ↔ ((i : ℕ) × (item (summed hypotheses (p .entries) .coefficients) i ≢ pos (p .k) *ℤ item (goal .coefficients) i))
-ten-means = test.proof-ten-means
+    → (farkasTest hypotheses goal p ≡ 10) ↔ ((i : ℕ) × (sumAt hypotheses (p .entries) i ≢ pos (p .k) *ℤ item (goal .coefficients) i))
+ten-means = entries.ten-means
 
 pub eleven-means :
     (hypotheses : List Row) (goal : Row) (p : Proof)
-    → (farkasTest hypotheses goal p ≡ 11) ↔ (Agree (p .k) (summed hypotheses (p .entries) .coefficients) (goal .coefficients) × (¬ BoundMet (p .k) (summed hypotheses (p .entries) .bound) (goal .bound)))
-eleven-means = test.proof-eleven-means
+    → (farkasTest hypotheses goal p ≡ 11) ↔ (Agree (p .k) (sumAt hypotheses (p .entries)) (goal .coefficients) × (¬ BoundMet (p .k) (boundSum hypotheses (p .entries)) (goal .bound)))
+eleven-means = entries.eleven-means
 
 pub only-three :
     (hypotheses : List Row) (goal : Row) (p : Proof)
     → (farkasTest hypotheses goal p ≡ 0) ⊎ ((farkasTest hypotheses goal p ≡ 10) ⊎ (farkasTest hypotheses goal p ≡ 11))
-only-three = test.proof-only-three
+only-three = entries.only-three
 
 -- Soundness: where a proof meets the condition and its hypotheses hold, at any point x over any q from 1, its goal holds too; and with
 -- k = 0 they cannot all hold

@@ -1,20 +1,19 @@
 -- "Entries are at most 128, so signed 64-bit sums hold" (01, Certificate). Each entry adds at most 2 ^ 24 * 2 ^ 31 to the size of a
 -- sum, so after n entries no number is larger than n * 2 ^ 55, and below 128 entries there is room for one more.
--- `sums-hold` says it of a whole list of entries; `room` and `grown` of one, for a loop that adds them. Assumes nothing.
-use mathlib.Core.Path.{_≡_, refl, subst}
-use mathlib.Core.List.{List, [], _∷_, _++_}
+-- `sums-within`, `sums-fit` and `sums-room` say it of the sums of any entries; `spare` and `grown` of one more row. Assumes nothing.
+use mathlib.Core.List.{List, [], _∷_}
 use Prim.Native.Nat.{ℕ, zero, suc, _+_, _*_, _^_, _≤_, _<_}
 use native.Mathlib.Nat.{mul-le-mul, le-of-lt}
 use native.Mathlib.Omega.{arith}
-use lib.Dec.{lit≤, lit<}
-use lib.IntN.{ℤ, natAbs, pos}
-use lib.ListN.{length, getD, take, set, replicate}
-use lib.Seq.{take-suc, take-length}
+use lib.Dec.{lit≤}
+use lib.IntN.{ℤ, natAbs, pos, _*ℤ_}
+use lib.ListN.{length, getD, set, replicate}
 use Rattle.farkas.specs.Rows.{Row, item, rowOf, zeroRow}
-use Rattle.farkas.specs.Farkas.{Entry, addRow, addEntry, addEntries, summed}
+use Rattle.farkas.specs.Farkas.{Entry, addRow, partAt, boundPart, total, sumAt, boundSum, SumsOf}
+use Rattle.farkas.specs.Lists.{All, more}
 use Rattle.farkas.specs.Sums.{Spare}
-use Rattle.farkas.specs.Sizes.{Within, Room, noEntry, entryAt, Bounded, SumsHold}
-use Rattle.farkas.proofs.Bits.{size-+*}
+use Rattle.farkas.specs.Sizes.{Within, Bounded}
+use Rattle.farkas.proofs.Bits.{size-+, size-*, size-+*}
 use Rattle.farkas.proofs.All.{all-at}
 use Rattle.farkas.proofs.Test.{item-plus}
 
@@ -47,15 +46,7 @@ product : (m y : ℕ) → m < 2 ^ 24 → y ≤ 2 ^ 31 → m * y ≤ 2 ^ 55
 product m y h k = mul-le-mul (le-of-lt h) k
 
 module _ (n m : ℕ) (s r : Row) (sums : Within (n * 2 ^ 55) s) (small : m < 2 ^ 24) (row : Within (2 ^ 31) r) where
-  -- below 128 entries there is room for one more
-  pub room : n < 128 → Room s m r
-  room h =
-      record {
-        coefficient = λ i. omega (arith, sums .coefficient i, product m (natAbs (item (r .coefficients) i)) small (row .coefficient i));
-        bound = omega (arith, product m (natAbs (r .bound)) small (row .bound));
-      }
-
-  -- and with it the sums grow by 2 ^ 55
+  -- with one entry more the sums grow by 2 ^ 55
   pub grown : Within ((n + 1) * 2 ^ 55) (addRow s m r)
   unfolding addRow
   grown =
@@ -73,39 +64,40 @@ spare n m s sums small h =
 pub zero-sums : (n : ℕ) → Within 0 (rowOf (replicate n (pos 0)) (pos 0))
 zero-sums n = record { coefficient = zeros-within n; bound = lit≤ tt }
 
--- entries in two parts are summed one part after the other
-pub entries-append : (hs : List Row) (s : Row) (es fs : List Entry) → addEntries hs s (es ++ fs) ≡ addEntries hs (addEntries hs s es) fs
-unfolding addEntries
-entries-append hs s [] fs = refl
-entries-append hs s (e ∷ es) fs = entries-append hs (addEntry hs s e) es fs
+-- Of entries that each give at most 2 ^ 55, as a number of 32 bits gives m times, the total
+part-size : (m : ℕ) (a : ℤ) → m < 2 ^ 24 → natAbs a ≤ 2 ^ 31 → natAbs (pos m *ℤ a) ≤ 2 ^ 55
+part-size m a h k = rw (size-* (pos m) a) (product m (natAbs a) h k)
 
-pub summed-next : (hs : List Row) (es : List Entry) (i : ℕ) → i < length es → summed hs (take (suc i) es) ≡ addEntry hs (summed hs (take i es)) (entryAt es i)
-unfolding summed addEntries entryAt
-summed-next hs es i h = rw (take-suc es i noEntry) (entries-append hs zeroRow (take i es) (getD es i noEntry ∷ []))
+total-size :
+    (part : Entry → ℤ) → ((e : Entry) → e .multiplier < 2 ^ 24 → natAbs (part e) ≤ 2 ^ 55)
+    → (es : List Entry) → All (λ e. e .multiplier < 2 ^ 24) es → natAbs (total part es) ≤ length es * 2 ^ 55
+unfolding total
+total-size part each [] all = lit≤ tt
+total-size part each (e ∷ es) (more small rest) = omega (arith, size-+ (part e) (total part es), each e small, total-size part each es rest)
 
-module _ (hs : List Row) (es : List Entry) (b : Bounded hs es) where
-  row-within : (j : ℕ) → Within (2 ^ 31) (getD hs j zeroRow)
-  row-within = all-at zeroRow (wider (lit≤ tt) zero-within) (b .rows)
+-- so the sums of at most 128 entries fit, and below 128 there is room for any entry more
+module _ (hs : List Row) (es : List Entry) (b : Bounded hs es) {sums : Row} (held : SumsOf hs es sums) where
+  rows-small : (j : ℕ) → Within (2 ^ 31) (getD hs j zeroRow)
+  rows-small = all-at zeroRow (wider (lit≤ tt) zero-within) (b .rows)
 
-  small : (i : ℕ) → entryAt es i .multiplier < 2 ^ 24
-  unfolding entryAt noEntry
-  small = all-at noEntry (lit< tt) (b .multipliers)
+  at-size : (i : ℕ) (e : Entry) → e .multiplier < 2 ^ 24 → natAbs (partAt hs e i) ≤ 2 ^ 55
+  unfolding partAt
+  at-size i e small = part-size (e .multiplier) (item (getD hs (e .hypothesis) zeroRow .coefficients) i) small (rows-small (e .hypothesis) .coefficient i)
 
-  parts : (i : ℕ) → i ≤ length es → Within (i * 2 ^ 55) (summed hs (take i es))
-  unfolding summed addEntries addEntry
-  parts zero h = zero-within
-  parts (suc i) h =
-      let e = entryAt es i in
-      rw (summed-next hs es i h)
-      (wider (omega arith)
-      (grown i (e .multiplier) (summed hs (take i es)) (getD hs (e .hypothesis) zeroRow) (parts i (omega arith)) (small i) (row-within (e .hypothesis))))
+  bound-size : (e : Entry) → e .multiplier < 2 ^ 24 → natAbs (boundPart hs e) ≤ 2 ^ 55
+  unfolding boundPart
+  bound-size e small = part-size (e .multiplier) (getD hs (e .hypothesis) zeroRow .bound) small (rows-small (e .hypothesis) .bound)
 
-  pub sums-hold : SumsHold hs es
-  sums-hold =
+  pub sums-within : Within (length es * 2 ^ 55) sums
+  unfolding sumAt boundSum
+  sums-within =
       record {
-        whole = subst (λ (l : List Entry). Within (length es * 2 ^ 55) (summed hs l)) (take-length es) (parts (length es) (omega arith));
-        part = parts;
-        next = λ i h.
-            let e = entryAt es i in
-            room i (e .multiplier) (summed hs (take i es)) (getD hs (e .hypothesis) zeroRow) (parts i (omega arith)) (small i) (row-within (e .hypothesis)) (omega (arith, b .few));
+        coefficient = λ i. rw (held .coefficient i) (total-size (λ e. partAt hs e i) (at-size i) es (b .multipliers));
+        bound = rw (held .bound) (total-size (boundPart hs) bound-size es (b .multipliers));
       }
+
+  pub sums-fit : Within (2 ^ 62) sums
+  sums-fit = wider (omega (arith, b .few)) sums-within
+
+  pub sums-room : (m : ℕ) → m < 2 ^ 24 → length es < 128 → Spare m sums
+  sums-room m small h = spare (length es) m sums sums-within small h

@@ -17,6 +17,7 @@ use Rattle.farkas.specs.Lists.{All}
 use Rattle.farkas.proofs.All.{all-at}
 use Rattle.farkas.proofs.Test.{item-plus}
 use Rattle.farkas.proofs.Alike.{dot-items}
+use Rattle.farkas.proofs.Entries.{sums-worked, held-meets}
 
 -- a sum's product with a point
 first : (m : ℕ) (a p d : ℤ) → (pos m *ℤ a) *ℤ p +ℤ (pos 0 +ℤ pos m *ℤ d) ≡ pos 0 +ℤ pos m *ℤ (a *ℤ p +ℤ d)
@@ -35,7 +36,7 @@ dot-plus m (s ∷ ss) (a ∷ xs) (p ∷ ps) =
     ap (λ c. (s +ℤ pos m *ℤ a) *ℤ p +ℤ c) (dot-plus m ss xs ps) ∙ next m s a p (dot ss ps) (dot xs ps)
 
 -- k times a row has k times its product: it is the sum of that row alone
-pub dot-multiple : (k : ℕ) (ss gs ps : List ℤ) → Agree k ss gs → dot ss ps ≡ pos k *ℤ dot gs ps
+pub dot-multiple : (k : ℕ) (ss gs ps : List ℤ) → Agree k (item ss) gs → dot ss ps ≡ pos k *ℤ dot gs ps
 unfolding dot item
 dot-multiple k ss gs ps h =
     dot-items ss (plus k [] gs) ps (λ i. h i ∙ sym (item-plus k [] gs i ∙ +ℤ-idl (pos k *ℤ item gs i)))
@@ -75,7 +76,7 @@ module _ (q : ℕ) (x : List ℤ) where
     summed-holds es = add-entries-holds es zeroRow zero-row-holds
 
   -- sums that hold and meet the condition
-  module _ (k : ℕ) (sums goal : Row) (meet : SumsMeet k sums goal) (s : Holds q x sums) where
+  module _ (k : ℕ) (sums goal : Row) (meet : SumsMeet k (item (sums .coefficients)) (sums .bound) goal) (s : Holds q x sums) where
     multiple : dot (sums .coefficients) x ≡ pos k *ℤ dot (goal .coefficients) x
     multiple = dot-multiple k (sums .coefficients) (goal .coefficients) x (meet .coefficients)
 
@@ -100,8 +101,9 @@ module _ (hypotheses : List Row) (goal : Row) (p : Proof) (meets : Meets hypothe
   unfolding Meets
   sound-at h =
       let sums = summed hypotheses (p .entries) in
+      let met = held-meets (p .k) goal (sums-worked hypotheses (p .entries)) .1 meets in
       let s = summed-holds q x hypotheses h (p .entries) in
-      (goal-holds q x (p .k) sums goal meets s, none-there q x (p .k) sums goal meets s positive)
+      (goal-holds q x (p .k) sums goal met s, none-there q x (p .k) sums goal met s positive)
 
   pub sound : All (Holds q x) hypotheses → (1 ≤ p .k → Holds q x goal) × (p .k ≡ 0 → ⊥)
   sound h = sound-at (all-at zeroRow (zero-row-holds q x) h)

@@ -1,11 +1,11 @@
--- What the number of Farkas' test says: 0 exactly where the condition is met, 10 exactly where some unknown's sum differs, 11
+-- What the number of Farkas' test of sums and a goal says: 0 exactly where the condition is met, 10 exactly where some unknown's sum differs, 11
 -- exactly where all sums agree and the bound fails. Each Boolean of the test is given its meaning, by induction over the lists.
 -- Assumes nothing.
 use mathlib.Core.Path.{_≡_, refl, sym}
 use mathlib.Core.Logic.{_↔_, _≢_, _⊎_, inl, inr, Iff·trans, Iff·and, Iff·not}
 use mathlib.Core.Bool.{Bool, true, false, not, cond, _&&_}
 use mathlib.Core.List.{List, [], _∷_}
-use Prim.Native.Nat.{ℕ, zero, suc, _≤_}
+use Prim.Native.Nat.{ℕ, zero, suc}
 use native.Mathlib.Omega.{arith}
 use lib.Dec.{T, T-not, not-T}
 use lib.IntN.{ℤ, pos, _+ℤ_, _*ℤ_, +ℤ-idl, *ℤ-zero}
@@ -14,7 +14,7 @@ use lib.Signed.{leZ}
 use mir.Facts.{and-yes, yes-and}
 use Rattle.farkas.specs.Rows.{Row, item}
 use Rattle.farkas.specs.Lists.{every}
-use Rattle.farkas.specs.Farkas.{Proof, Agree, BoundMet, plus, sameZ, coefficientsAgree, boundPasses, sumsTest, farkasTest, summed, SumsMeet, Meets}
+use Rattle.farkas.specs.Farkas.{Agree, BoundMet, plus, sameZ, coefficientsAgree, boundPasses, sumsTest, SumsMeet}
 use Rattle.farkas.proofs.Order.{≤-antisym, ≤-of-≡, plus-nothing}
 
 -- an unknown's sum after one more row
@@ -76,7 +76,7 @@ agree-told k (s ∷ ss) (g ∷ gs) =
     (same-means s (pos k *ℤ g))
     (agree-told k ss gs)
 
-pub agree-means : (k : ℕ) (ss gs : List ℤ) → T (coefficientsAgree k ss gs) ↔ Agree k ss gs
+pub agree-means : (k : ℕ) (ss gs : List ℤ) → T (coefficientsAgree k ss gs) ↔ Agree k (item ss) gs
 agree-means k ss gs = told-passes (coefficientsAgree k ss gs) (λ i. item ss i ≡ pos k *ℤ item gs i) (agree-told k ss gs)
 
 pub differ-means : (k : ℕ) (ss gs : List ℤ) → T (not (coefficientsAgree k ss gs)) ↔ ((i : ℕ) × (item ss i ≢ pos k *ℤ item gs i))
@@ -119,13 +119,13 @@ module _ (k : ℕ) (sums goal : Row) where
   abbrev passes : Bool
   passes = boundPasses k (sums .bound) (goal .bound)
 
-  agrees-means : T agrees ↔ Agree k (sums .coefficients) (goal .coefficients)
+  agrees-means : T agrees ↔ Agree k (item (sums .coefficients)) (goal .coefficients)
   agrees-means = agree-means k (sums .coefficients) (goal .coefficients)
 
   passes-means : T passes ↔ BoundMet k (sums .bound) (goal .bound)
   passes-means = bound-means k (sums .bound) (goal .bound)
 
-  pub zero-means : (sumsTest k sums goal ≡ 0) ↔ SumsMeet k sums goal
+  pub zero-means : (sumsTest k sums goal ≡ 0) ↔ SumsMeet k (item (sums .coefficients)) (sums .bound) goal
   unfolding sumsTest
   zero-means =
       Iff·trans (Iff·trans (picks-zero agrees passes) (Iff·and agrees-means passes-means))
@@ -135,31 +135,10 @@ module _ (k : ℕ) (sums goal : Row) where
   unfolding sumsTest
   ten-means = Iff·trans (picks-ten agrees passes) (differ-means k (sums .coefficients) (goal .coefficients))
 
-  pub eleven-means : (sumsTest k sums goal ≡ 11) ↔ (Agree k (sums .coefficients) (goal .coefficients) × (¬ BoundMet k (sums .bound) (goal .bound)))
+  pub eleven-means : (sumsTest k sums goal ≡ 11) ↔ (Agree k (item (sums .coefficients)) (goal .coefficients) × (¬ BoundMet k (sums .bound) (goal .bound)))
   unfolding sumsTest
   eleven-means = Iff·trans (picks-eleven agrees passes) (Iff·and agrees-means (Iff·trans (T-not passes, not-T passes) (Iff·not passes-means)))
 
   pub only-three : (sumsTest k sums goal ≡ 0) ⊎ ((sumsTest k sums goal ≡ 10) ⊎ (sumsTest k sums goal ≡ 11))
   unfolding sumsTest
   only-three = picks-three agrees passes
-
--- and of a proof from hypotheses
-module _ (hypotheses : List Row) (goal : Row) (p : Proof) where
-  abbrev sums : Row
-  sums = summed hypotheses (p .entries)
-
-  pub proof-zero-means : (farkasTest hypotheses goal p ≡ 0) ↔ Meets hypotheses goal p
-  unfolding farkasTest Meets
-  proof-zero-means = zero-means (p .k) sums goal
-
-  pub proof-ten-means : (farkasTest hypotheses goal p ≡ 10) ↔ ((i : ℕ) × (item (sums .coefficients) i ≢ pos (p .k) *ℤ item (goal .coefficients) i))
-  unfolding farkasTest
-  proof-ten-means = ten-means (p .k) sums goal
-
-  pub proof-eleven-means : (farkasTest hypotheses goal p ≡ 11) ↔ (Agree (p .k) (sums .coefficients) (goal .coefficients) × (¬ BoundMet (p .k) (sums .bound) (goal .bound)))
-  unfolding farkasTest
-  proof-eleven-means = eleven-means (p .k) sums goal
-
-  pub proof-only-three : (farkasTest hypotheses goal p ≡ 0) ⊎ ((farkasTest hypotheses goal p ≡ 10) ⊎ (farkasTest hypotheses goal p ≡ 11))
-  unfolding farkasTest
-  proof-only-three = only-three (p .k) sums goal

@@ -22,7 +22,45 @@ pub record Proof : Type 0 where
   pub k : ℕ
   pub entries : List Entry
 
--- a row's coefficients, m times, added to the sums at all unknowns
+-- What an entry gives: its multiplier times the coefficient of its hypothesis at an unknown, and times the bound
+unfoldable pub partAt : List Row → Entry → ℕ → ℤ
+partAt hypotheses e unknown = pos (e .multiplier) *ℤ item (getD hypotheses (e .hypothesis) zeroRow .coefficients) unknown
+
+unfoldable pub boundPart : List Row → Entry → ℤ
+boundPart hypotheses e = pos (e .multiplier) *ℤ getD hypotheses (e .hypothesis) zeroRow .bound
+
+-- what each entry gives, added up
+unfoldable pub total : (Entry → ℤ) → List Entry → ℤ
+total part [] = pos 0
+total part (e ∷ es) = part e +ℤ total part es
+
+-- "The multiplied hypotheses .. sum": what entries sum to at one unknown; "the summed bound". No order of work is meant: each sum stands
+-- by itself
+unfoldable pub sumAt : List Row → List Entry → ℕ → ℤ
+sumAt hypotheses es unknown = total (λ e. partAt hypotheses e unknown) es
+
+unfoldable pub boundSum : List Row → List Entry → ℤ
+boundSum hypotheses es = total (boundPart hypotheses) es
+
+-- Two parts of Farkas' condition, by themselves: the coefficients agree at every unknown; the bound is met
+abbrev pub Agree : ℕ → (ℕ → ℤ) → List ℤ → Type 0
+Agree k sums gs = (i : ℕ) → sums i ≡ pos k *ℤ item gs i
+
+abbrev pub BoundMet : ℕ → ℤ → ℤ → Type 0
+BoundMet k s g = (1 ≤ k → s ≤ℤ (pos k *ℤ g)) × (k ≡ 0 → s <ℤ pos 0)
+
+-- Farkas' condition on the sums at all unknowns and a summed bound, as a proposition. "The multiplied hypotheses must sum to k times the
+-- goal's coefficients, at every unknown. The summed bound must be at most k times the goal's bound, or, at k = 0, below 0."
+pub record SumsMeet (k : ℕ) (sums : ℕ → ℤ) (summedBound : ℤ) (goal : Row) : Type 0 where
+  pub coefficients : (i : ℕ) → sums i ≡ pos k *ℤ item (goal .coefficients) i
+  pub bound : 1 ≤ k → summedBound ≤ℤ (pos k *ℤ goal .bound)
+  pub below : k ≡ 0 → summedBound <ℤ pos 0
+
+-- the same of a proof from hypotheses
+unfoldable pub Meets : List Row → Row → Proof → Type 0
+Meets hypotheses goal p = SumsMeet (p .k) (sumAt hypotheses (p .entries)) (boundSum hypotheses (p .entries)) goal
+
+-- How the sums are worked out: held in a row, entry by entry. A row's coefficients, m times, added to the sums at all unknowns
 unfoldable pub plus : ℕ → List ℤ → List ℤ → List ℤ
 plus m sums [] = sums
 plus m [] (a ∷ xs) = (pos m *ℤ a) ∷ plus m [] xs
@@ -31,7 +69,6 @@ plus m (s ∷ sums) (a ∷ xs) = (s +ℤ pos m *ℤ a) ∷ plus m sums xs
 unfoldable pub addRow : Row → ℕ → Row → Row
 addRow sums m r = record { coefficients = plus m (sums .coefficients) (r .coefficients); bound = sums .bound +ℤ pos m *ℤ r .bound }
 
--- "The multiplied hypotheses" summed, entry by entry, onto the sums so far
 unfoldable pub addEntry : List Row → Row → Entry → Row
 addEntry hypotheses sums e = addRow sums (e .multiplier) (getD hypotheses (e .hypothesis) zeroRow)
 
@@ -42,23 +79,10 @@ addEntries hypotheses sums (e ∷ es) = addEntries hypotheses (addEntry hypothes
 unfoldable pub summed : List Row → List Entry → Row
 summed hypotheses es = addEntries hypotheses zeroRow es
 
--- Two parts of Farkas' condition, by themselves: the coefficients agree at every unknown; the bound is met
-abbrev pub Agree : ℕ → List ℤ → List ℤ → Type 0
-Agree k ss gs = (i : ℕ) → item ss i ≡ pos k *ℤ item gs i
-
-abbrev pub BoundMet : ℕ → ℤ → ℤ → Type 0
-BoundMet k s g = (1 ≤ k → s ≤ℤ (pos k *ℤ g)) × (k ≡ 0 → s <ℤ pos 0)
-
--- Farkas' condition on sums, as a proposition. "The multiplied hypotheses must sum to k times the goal's coefficients, at every
--- unknown. The summed bound must be at most k times the goal's bound, or, at k = 0, below 0."
-pub record SumsMeet (k : ℕ) (sums goal : Row) : Type 0 where
-  pub coefficients : (i : ℕ) → item (sums .coefficients) i ≡ pos k *ℤ item (goal .coefficients) i
-  pub bound : 1 ≤ k → sums .bound ≤ℤ (pos k *ℤ goal .bound)
-  pub below : k ≡ 0 → sums .bound <ℤ pos 0
-
--- the same of a proof from hypotheses
-unfoldable pub Meets : List Row → Row → Proof → Type 0
-Meets hypotheses goal p = SumsMeet (p .k) (summed hypotheses (p .entries)) goal
+-- a row holds the sums of these entries: at every unknown, and the summed bound
+pub record SumsOf (hypotheses : List Row) (es : List Entry) (sums : Row) : Type 0 where
+  pub coefficient : (i : ℕ) → item (sums .coefficients) i ≡ sumAt hypotheses es i
+  pub bound : sums .bound ≡ boundSum hypotheses es
 
 -- The test. Two whole numbers are the same
 unfoldable pub sameZ : ℤ → ℤ → Bool

@@ -2,7 +2,8 @@
 // A caller lends a slice with a number for each unknown, all 0, and keeps the summed bound beside it. It adds each entry's row straight from
 // its bytes (`add_row`, `add_rates`, `add_one`) and asks `judge` whether the sums meet Farkas' condition against a goal that stands in bytes
 // too. Where the test passes the sums are 0 again, ready for the next proof.
-// Nothing here knows of sheets or models. Sizes are the caller's to bound: see specs/Sizes.antt.
+// Nothing here knows of sheets or models. Sizes are the caller's to bound: see `Spare` in specs/Sums.antt, and specs/Sizes.antt for what 01
+// lets a proof have.
 pub mod words;
 
 use crate::words::signed_word;

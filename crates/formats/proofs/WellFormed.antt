@@ -5,7 +5,7 @@ use mathlib.Core.List.{List, [], _∷_}
 use Prim.Native.Nat.{ℕ, zero, suc, _*_, _-_, _^_, _≤_, _<_}
 use lib.Dec.{eqb, eqb→eq}
 use lib.ListN.{length}
-use Rattle.formats.specs.Reading.{got, finished, u8, u32, give, many, within, below, must}
+use Rattle.formats.specs.Reading.{got, finished, u8, u32}
 use Rattle.formats.specs.Rows.{Condition, readRow, readCondition}
 use Rattle.formats.specs.Model.{Mode, Switch, Component, Model, readMode, readSwitch, readComponent, readUnsafe, readModelBody}
 use Rattle.formats.specs.Locations.{locationCount}

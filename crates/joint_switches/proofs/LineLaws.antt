@@ -8,11 +8,10 @@ use native.Mathlib.Decide.{ℕ-discrete}
 use native.Mathlib.Nat.{mul-le-mul-right}
 use native.Mathlib.Omega.{arith}
 use borrow.Author.Tests.{ne-eqb}
-use lib.Dec.{eqb}
 use lib.ListN.{length, getD, set, length-set}
 use lib.Seq.{getD-set-same, getD-set-other}
 use Rattle.formats.specs.Model.{Component}
-use Rattle.formats.specs.Joint.{stays, switchOf, bit, leaving}
+use Rattle.formats.specs.Joint.{stays, switchOf, bit}
 use Rattle.formats.specs.Parts.{modeAfter}
 use Rattle.models.specs.Index.{GoodIndex}
 use Rattle.models.specs.Counts.{componentAt}

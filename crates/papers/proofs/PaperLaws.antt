@@ -1,5 +1,4 @@
 -- A paper once its sheets are read: limits, headers, regions, and where a location stands. Assumes nothing.
-use Rattle.second_sheets.specs.declared.StepRead.the-variants as read
 use Rattle.fields.specs.declared.Next.the-variants as next
 use mathlib.Core.Path.{_≡_, refl, sym, ap, _∙_, subst}
 use mathlib.Core.Bool.{Bool, true, false, _&&_}
@@ -27,7 +26,6 @@ use Rattle.models.proofs.GoodIndexLaws.{index-good}
 use Rattle.second_sheets.proofs.CertificateLaws.{regions-of, good-regions}
 use Rattle.papers.specs.Paper.{GoodPaper, Accepted}
 use Rattle.fields.proofs.HeaderLaws.{header-unsized}
-use Rattle.rules.specs.Runs.{after}
 
 -- a model sheet that was read is short
 pub model-short : (limits : Limits) (s : List ℕ) (m : Model) (next : ℕ) → readModel limits s ≡ got m next → length s ≤ 32768

@@ -18,8 +18,6 @@ pub use Rattle.joint_switches.proofs.TableLaws.{have-modes, known-present}
 use Rattle.rules.specs.Runs.{present, modesFit}
 use Rattle.papers.specs.Standing.{KnownModes, GoodModes, Stands}
 use Rattle.farkas.specs.Lists.{every}
-use Rattle.fields.specs.declared.Next.the-variants as next
-use Rattle.formats.proofs.Gives.{passes}
 use Rattle.formats.specs.RunSheet.{flow}
 
 -- the present modes, by the numbers of an index

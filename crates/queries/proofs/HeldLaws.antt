@@ -6,7 +6,6 @@ use Prim.Native.Nat.{ℕ, zero, suc, _+_, _*_, _≤_, _<_}
 use native.Mathlib.Omega.{arith}
 use borrow.Author.Tests.{lt-ltb, le-ltb}
 use lib.Arith.{le-zero}
-use lib.Dec.{ltb}
 use lib.ListN.{length, getD, length-map}
 use Rattle.farkas.specs.Rows.{zeroRow}
 use Rattle.formats.specs.Rows.{Condition}

@@ -15,7 +15,7 @@ use Rattle.formats.proofs.Gives.{got-value}
 use Rattle.formats.proofs.ModelSheet.{read-whole, few-reads, none-reads}
 use Rattle.rules.specs.declared.Answer.{Answer}
 use Rattle.rules.specs.declared.Joint.{Joint}
-use Rattle.rules.specs.Opening.{opens, shut, openModel, WithinLimits}
+use Rattle.rules.specs.Opening.{openModel, WithinLimits}
 use Rattle.rules.specs.Runs.{State, Run, visited, isUnsafe}
 use Rattle.rules.specs.Marking.{answer, withModel, markCertificate, markRun}
 use Rattle.rules.specs.Beside.{unfound, listAnswer, tableAfter, findHypothesis, foundAnswer, showAnswer, partOf, showPart}

@@ -259,7 +259,7 @@ model-ranges limits s m next e =
     ranges .holds s 0 m next (sym (in-a-chain limits s) ∙ e) (few .locations) (few .joined)
 
 -- proofs
-entries-range : (hypotheses least count : ℕ) → Gives (λ es. (length es ≡ count) × Ascending hypotheses least es) (readEntries hypotheses least count)
+pub entries-range : (hypotheses least count : ℕ) → Gives (λ es. (length es ≡ count) × Ascending hypotheses least es) (readEntries hypotheses least count)
 unfolding readEntries readEntry
 entries-range hypotheses least zero = gives-give [] (refl, Ascending.none)
 entries-range hypotheses least (suc n) =

@@ -15,7 +15,7 @@ use lib.Signed.{_<ℤ_, <ℤ-irrefl}
 use mir.Facts.{and-yes, yes-and}
 use Rattle.farkas.specs.Lists.{every, All, none, more}
 use Rattle.farkas.specs.Rows.{Row, item, dot, rowHolds, zeroRow}
-use Rattle.farkas.specs.Farkas.{Proof, SumsMeet, sameZ, farkasTest, sumsTest, summed, addEntries, coefficientsAgree, boundPasses, Agree}
+use Rattle.farkas.specs.Farkas.{Proof, sumAt, boundSum, Agree, SumsMeet, sameZ, farkasTest, sumsTest, summed, addEntries, coefficientsAgree, boundPasses}
 use Rattle.farkas.proofs.All.{all-append, every-all, all-every}
 use Rattle.farkas.proofs.Integers.{split, by-parts}
 use Rattle.farkas.proofs.Promise.{same-means, eleven-means}
@@ -209,10 +209,10 @@ module _ (m : Model) (q : ℕ) (s : State) (e : ℕ) (switches : List ℕ) (next
   others-stay = other-at (suc e) each-moves
 
 -- "Taking k = 0 with sum 0": where k is 0, the coefficients agree and the summed bound is 0, the number is 11, whatever the hypotheses
-pub zero-sum : (sums goal : Row) → sums .bound ≡ pos 0 → SumsMeet 0 sums goal → ⊥
-zero-sum sums goal e h = <ℤ-irrefl (subst (λ b. b <ℤ pos 0) e (h .below refl))
+pub zero-sum : (sums : ℕ → ℤ) (summedBound : ℤ) (goal : Row) → summedBound ≡ pos 0 → SumsMeet 0 sums summedBound goal → ⊥
+zero-sum sums summedBound goal e h = <ℤ-irrefl (subst (λ b. b <ℤ pos 0) e (h .below refl))
 
-pub zero-sum-eleven : (hypotheses : List Row) (goal : Row) (p : Proof) → p .k ≡ 0 → Agree (p .k) (summed hypotheses (p .entries) .coefficients) (goal .coefficients) → summed hypotheses (p .entries) .bound ≡ pos 0 → farkasTest hypotheses goal p ≡ 11
+pub zero-sum-eleven : (hypotheses : List Row) (goal : Row) (p : Proof) → p .k ≡ 0 → Agree (p .k) (sumAt hypotheses (p .entries)) (goal .coefficients) → boundSum hypotheses (p .entries) ≡ pos 0 → farkasTest hypotheses goal p ≡ 11
 zero-sum-eleven hypotheses goal p k agree bound =
     eleven-means hypotheses goal p .1 (agree, λ h. <ℤ-irrefl (subst (λ b. b <ℤ pos 0) bound (h .1 k)))
 

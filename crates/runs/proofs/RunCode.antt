@@ -10,7 +10,7 @@ use lib.Arith.{le-zero}
 use lib.IntN.{ℤ}
 use lib.ListN.{length}
 use borrow.Author.Tests.{eq-eqb, ne-eqb}
-use Rattle.farkas.specs.Lists.{none, more}
+use Rattle.farkas.specs.Lists.{none}
 use Rattle.formats.specs.Reading.{Got, got, refused, finished}
 use Rattle.formats.specs.Model.{Model}
 use Rattle.formats.specs.declared.Limits.{Limits}

@@ -1,23 +1,26 @@
--- What the contracts of testing proofs name: hypotheses by their segments, entries read and summed at once, and what the number of a
--- test answers. Assumes nothing.
+-- What the contracts of testing proofs name: hypotheses by their segments, the sums of the entries so far, and what the number of a test
+-- answers. Assumes nothing.
 use mathlib.Core.Bool.{true, false, cond}
-use mathlib.Core.List.{List}
+use mathlib.Core.List.{List, [], _∷_}
 use mathlib.Core.Path.{_≡_}
 use Prim.Native.Nat.{ℕ, zero, suc, _-_, _≤_, _<_}
 use lib.Dec.{ltb}
 use lib.IntN.{ℤ, pos}
 use lib.ListN.{replicate}
-use Rattle.farkas.specs.Rows.{Row, zeroRow}
-use Rattle.farkas.specs.Farkas.{addEntry}
+use Rattle.farkas.specs.Rows.{Row, rowOf, zeroRow}
+use Rattle.farkas.specs.Farkas.{Entry, SumsOf}
 use Rattle.fields.specs.declared.Next.{Next}
 use Rattle.fields.specs.declared.Next.the-variants as next
 use Rattle.fields.specs.Places.{rowAt}
-use Rattle.formats.specs.Reading.{Reader, _>>=_, give}
-use Rattle.formats.specs.Certificate.{readEntry}
+use Rattle.formats.specs.Reading.{got, refused}
+use Rattle.formats.specs.Certificate.{readEntries}
 use Rattle.hypotheses.specs.declared.Group.{Group}
-use Rattle.hypotheses.specs.Tables.{TableLine, endOf, formOf, placeOf, line}
+use Rattle.hypotheses.specs.Tables.{TableLine, endOf, formOf, placeOf, line, hypothesesFrom, hypothesisRows}
 use Rattle.rules.specs.Obligations.{onNext}
 use Rattle.sums.specs.declared.Line.{Line}
+use Rattle.sums.specs.declared.Reached.{Reached}
+use Rattle.sums.specs.declared.Summed.{Summed}
+use Rattle.sums.specs.declared.Summed.the-variants as summed
 
 -- the first segment from one on that ends after a hypothesis; so many others are left
 unfoldable pub segmentFor : List ℕ → ℕ → ℕ → ℕ → ℕ
@@ -50,11 +53,34 @@ goalAt second n g at =
       | false ↦ onNext (g .shift) (rowAt second n at .row)
     ]
 
--- so many entries from so many hypotheses, read and summed one by one, from the sums so far
-unfoldable pub sumEntries : List Row → ℕ → ℕ → Row → ℕ → Reader Row
-sumEntries rows hypotheses least sums zero = give sums
-sumEntries rows hypotheses least sums (suc n) =
-    readEntry hypotheses least >>= λ e. sumEntries rows hypotheses (suc (e .hypothesis)) (addEntry rows sums e) n
+-- the hypotheses of a group's table, as rows
+abbrev pub rowsIn : List ℕ → List ℕ → ℕ → List ℕ → Group → List Row
+rowsIn model second n table g = hypothesisRows (hypothesesFrom model second n table (g .segments))
+
+-- the least hypothesis that the next entry may name: one more than the last entry's or, after none, the one given
+unfoldable pub leastAfter : ℕ → List Entry → ℕ
+leastAfter least [] = least
+leastAfter least (e ∷ es) = leastAfter (suc (e .hypothesis)) es
+
+-- "after each entry the sums at all unknowns and the summed bound are those of the entries so far" (02, order 3). Of a proof whose entries
+-- begin at a place, the first i were read, and the next stands where they end and names a hypothesis after theirs; the sums held are theirs,
+-- at every unknown, and so is the summed bound
+pub record SoFar (model second : List ℕ) (n : ℕ) (table : List ℕ) (g : Group) (at i : ℕ) (reached : Reached) (sums : List ℤ) : Type 0 where
+  pub entries : List Entry
+  pub read : readEntries (g .hypotheses) 0 i second at ≡ got entries (reached .place)
+  pub least : reached .least ≡ leastAfter 0 entries
+  pub held : SumsOf (rowsIn model second n table g) entries (rowOf sums (reached .bound))
+
+-- the next hypothesis is sought from a segment that does not come after it
+pub record SoughtFrom (table : List ℕ) (g : Group) (reached : Reached) : Type 0 where
+  pub first : 1 ≤ reached .segment
+  pub most : 1 ≤ g .segments → reached .segment ≤ g .segments
+  pub before : endOf table (reached .segment - 1) ≤ reached .least
+
+-- what holds once i entries were read and summed, or reading them was refused
+unfoldable pub SummedAfter : List ℕ → List ℕ → ℕ → List ℕ → Group → ℕ → ℕ → List ℤ → Summed → Type 0
+SummedAfter model second n table g at i sums (summed.At reached) = SoFar model second n table g at i reached sums × SoughtFrom table g reached
+SummedAfter model second n table g at i sums (summed.Refused number cut) = readEntries (g .hypotheses) 0 i second at ≡ refused number cut
 
 -- a proof that begins at a place and ends at another, by the number of its test
 unfoldable pub tested : ℕ → ℕ → ℕ → Next

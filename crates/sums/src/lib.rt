@@ -1,4 +1,4 @@
-// A proof read and tested: its entries are summed as they are read, hypothesis by hypothesis, and the sums judged.
+// A proof read and tested: its entries are summed as they are read, entry by entry, and the sums judged.
 pub mod lines;
 pub mod proofs;
 
@@ -9,8 +9,17 @@ pub struct Line {
     pub row: usize,
 }
 
-// The place after entries that were read, or a refusal; and the summed bound. After a refusal it is of no use.
-pub struct Summed {
-    pub next: fields::Next,
+// How far the entries of a proof are read: the place of the next, the least hypothesis that it may name, the segment to seek that from, and
+// the summed bound.
+pub struct Reached {
+    pub place: usize,
+    pub least: u32,
+    pub segment: usize,
     pub bound: i64,
+}
+
+// What reading and summing entries finds: a refusal, by its number and place, or how far they are read.
+pub enum Summed {
+    Refused(u32, usize),
+    At(Reached),
 }

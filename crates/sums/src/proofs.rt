@@ -1,4 +1,5 @@
 // Proofs: the sums of a proof's entries, and the test of a proof.
+use crate::Reached;
 use crate::Summed;
 use crate::lines::add_line;
 use crate::lines::line_at;
@@ -14,18 +15,52 @@ use second_sheets::certificate::entry;
 use second_sheets::certificate::proof_head;
 ghost use mathlib.Core.Bool.{true, false};
 ghost use mathlib.Core.Path.{_≡_};
-ghost use Prim.Native.Nat.{ℕ, _+_, _*_, _≤_, _<_};
+ghost use Prim.Native.Nat.{ℕ, _+_, _*_, _-_, _^_, _≤_, _<_};
 ghost use lib.IntN.{pos};
 ghost use lib.ListN.{length, replicate};
 ghost use Rattle.farkas.specs.Rows.{rowOf};
 ghost use Rattle.farkas.specs.Farkas.{sumsTest, numberOf};
-ghost use Rattle.fields.specs.Answers.{gotAs};
-ghost use Rattle.hypotheses.specs.Tables.{hypothesesFrom, hypothesisRows, markWith};
+ghost use Rattle.farkas.specs.Sums.{Spare};
+ghost use Rattle.hypotheses.specs.Tables.{markWith};
 ghost use Rattle.hypotheses.specs.Listing.{GoodGroup};
 ghost use Rattle.papers.specs.Paper.{heldNext};
-ghost use Rattle.sums.specs.Summing.{sumEntries, goalAt, tested, NoSums};
+ghost use Rattle.sums.specs.Summing.{rowsIn, SoFar, SoughtFrom, SummedAfter, goalAt, tested, NoSums};
 
-// So many entries of a proof, read from a place on and summed; the sums must be 0 before.
+// The next entry of a proof, read and added to the sums. Where the sums at all unknowns and the summed bound were those of the first i
+// entries, they are now those of the first i + 1 (document 02, order 3), from whatever place the entries begin at. After a refusal the sums
+// are of no use.
+fn add_entry(
+    model: &[u8],
+    second: &[u8],
+    n: usize,
+    table: &[u16],
+    group: Group,
+    reached: Reached,
+    sums: &mut [i64],
+) -> Summed
+    requires { ⌜ (length (now model) ≤ 32768) × ((length (now second) ≤ 32768) × (n ≤ 8)) ⌝ }
+    requires { ⌜ (96 ≤ length (now table)) × (GoodGroup (now model) (now second) n (now table) group × (length (now sums) ≡ group .width)) ⌝ }
+    requires { ⌜ SoughtFrom (now table) group reached × Spare (2 ^ 24 - 1) (rowOf (now sums) (reached .bound)) ⌝ }
+    ensures { λ r. ⌜ ((at i : ℕ) → SoFar (now (model .entry)) (now (second .entry)) n (now (table .entry)) group at i reached (now (sums .entry)) → SummedAfter (now (model .entry)) (now (second .entry)) n (now (table .entry)) group at (i + 1) (now (sums .exit)) r) ⌝ }
+{
+    match entry(second, reached.place, group.hypotheses, reached.least) {
+        EntryRead::Refused(number, cut) => Summed::Refused(number, cut),
+        EntryRead::Entry(hypothesis, multiplier, place) => {
+            let segment = segment_of(table, reached.segment, group.segments, hypothesis);
+            let line = line_at(table, segment, group.segments, hypothesis);
+            let bound = add_line(model, second, n, line, multiplier, sums, reached.bound);
+            let least = hypothesis + 1;
+            Summed::At(Reached {
+                place,
+                least,
+                segment,
+                bound,
+            })
+        }
+    }
+}
+
+// So many entries of a proof, read from a place on and summed one by one; the sums must be 0 before.
 fn sum_entries(
     model: &[u8],
     second: &[u8],
@@ -38,35 +73,25 @@ fn sum_entries(
 ) -> Summed
     requires { ⌜ (length (now model) ≤ 32768) × ((length (now second) ≤ 32768) × ((n ≤ 8) × (count ≤ 128))) ⌝ }
     requires { ⌜ (96 ≤ length (now table)) × (GoodGroup (now model) (now second) n (now table) group × NoSums group (now sums)) ⌝ }
-    ensures { λ r. ⌜ gotAs (rowOf (now (sums .exit)) (r .bound)) (r .next) ≡ sumEntries (hypothesisRows (hypothesesFrom (now (model .entry)) (now (second .entry)) n (now (table .entry)) (group .segments))) (group .hypotheses) 0 (rowOf (now (sums .entry)) (pos 0)) count (now (second .entry)) at ⌝ }
+    ensures { λ r. ⌜ SummedAfter (now (model .entry)) (now (second .entry)) n (now (table .entry)) group at count (now (sums .exit)) r ⌝ }
 {
-    let mut bound: i64 = 0;
-    let mut place = at;
-    let mut least: u32 = 0;
-    let mut g: usize = 1;
+    let mut reached = Reached {
+        place: at,
+        least: 0,
+        segment: 1,
+        bound: 0,
+    };
     let mut i: u32 = 0;
     while i < count {
-        match entry(second, place, group.hypotheses, least) {
-            EntryRead::Refused(number, cut) => {
-                return Summed {
-                    next: Next::Refused(number, cut),
-                    bound: 0,
-                };
-            }
-            EntryRead::Entry(hypothesis, multiplier, next) => {
-                g = segment_of(table, g, group.segments, hypothesis);
-                let line = line_at(table, g, group.segments, hypothesis);
-                bound = add_line(model, second, n, line, multiplier, sums, bound);
-                least = hypothesis + 1;
-                place = next;
+        match add_entry(model, second, n, table, group, reached, sums) {
+            Summed::Refused(number, cut) => return Summed::Refused(number, cut),
+            Summed::At(next) => {
+                reached = next;
             }
         }
         i += 1;
     }
-    Summed {
-        next: Next::At(place),
-        bound,
-    }
+    Summed::At(reached)
 }
 
 // The test of the sums of a proof with this k, whose goal stands at a place, or is no row.
@@ -116,18 +141,21 @@ pub fn mark_proof(
     requires { ⌜ (length (now model) ≤ 32768) × ((length (now second) ≤ 32768) × (n ≤ 8)) ⌝ }
     requires { ⌜ (96 ≤ length (now table)) × (GoodGroup (now model) (now second) n (now table) group × NoSums group (now sums)) ⌝ }
     requires { ⌜ ((group .zero ≡ false) → goal + 4 * (n + 1) ≤ length (now second)) ⌝ }
-    ensures { λ r. ⌜ r ≡ heldNext (markWith (hypothesisRows (hypothesesFrom (now (model .entry)) (now (second .entry)) n (now (table .entry)) (group .segments))) (group .zero) (goalAt (now (second .entry)) n group goal) (now (second .entry)) at) ⌝ }
+    ensures { λ r. ⌜ r ≡ heldNext (markWith (rowsIn (now (model .entry)) (now (second .entry)) n (now (table .entry)) group) (group .zero) (goalAt (now (second .entry)) n group goal) (now (second .entry)) at) ⌝ }
     ensures { λ r. ⌜ ((end : ℕ) → r ≡ Next.At end → NoSums group (now (sums .exit))) ⌝ }
 {
     match proof_head(second, at, group.zero) {
         HeadRead::Refused(number, place) => Next::Refused(number, place),
         HeadRead::Head(k, count, next) => {
-            let summed = sum_entries(model, second, n, table, group, next, count, sums);
-            let bound = summed.bound;
-            let after = summed.next;
-            match after {
-                Next::Refused(number, place) => Next::Refused(number, place),
-                Next::At(end) => judged(verdict(second, n, group, goal, k, sums, bound), at, end),
+            match sum_entries(model, second, n, table, group, next, count, sums) {
+                Summed::Refused(number, place) => Next::Refused(number, place),
+                Summed::At(reached) => {
+                    judged(
+                        verdict(second, n, group, goal, k, sums, reached.bound),
+                        at,
+                        reached.place,
+                    )
+                }
             }
         }
     }

@@ -10,7 +10,7 @@ use Rattle.typed.specs.declared.scan.Phase.the-variants.{Awaiting, Count
 use Rattle.typed.specs.declared.scan.State.{State}
 use Rattle.typed.specs.declared.scan.State.the-variants.{Live}
 use Rattle.typed.specs.Text.{Expression, term, sum, difference, Term, factor, product, Factor, number, variable, bracket, negative, blanks, digits, spell, spellTerm, spellFactor, Comparison, spellRow}
-use Rattle.typed.specs.Scan.{step, run, ended, accepted, start}
+use Rattle.typed.specs.Scan.{step, run, accepted, start}
 
 pub run-append : (s : State) (xs ys : List Sign) → run s (xs ++ ys) ≡ run (run s xs) ys
 unfolding run

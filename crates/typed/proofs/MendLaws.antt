@@ -17,7 +17,7 @@ use Rattle.typed.specs.declared.scan.State.the-variants.{Dead, Live}
 use Rattle.typed.specs.declared.scan.Scanned.{Scanned}
 use Rattle.typed.specs.declared.scan.Scanned.the-variants.{Keeps, Fails}
 use Rattle.typed.specs.Signs.{signOf, signs}
-use Rattle.typed.specs.Text.{number, Valid, Mendable, Breaks}
+use Rattle.typed.specs.Text.{Valid, Mendable, Breaks}
 use Rattle.typed.specs.Scan.{step, run, accepted, passes, passesBy, start, scanned}
 use Rattle.typed.proofs.SignLaws.{signs-length}
 use Rattle.typed.proofs.ReadLaws.{compare}

@@ -19,7 +19,6 @@ use Rattle.typed.specs.Text.{Expression, term, sum, difference, Term, fa
 use Rattle.typed.specs.Forms.{reaches, refused, next, zeroForm, joined, multiplied, numberAt}
 use Rattle.typed.specs.Working.{leadBy, lead, skip, onDigit, digitCount, decimal, wholeAt, closedAt, expressionAt, sumsAt, termAt, productsAt, factorAt}
 use Rattle.typed.specs.Values.{decimalOf, workExpression, workTerm, workFactor}
-use Rattle.typed.proofs.PlaceLaws.{same}
 use Rattle.typed.proofs.StandLaws.{first, headBy, head, head-blanks, notDigit, spelled-count, spelled-decimal, Stands, sign-here, past, past-one, past-blanks, skip-here, head-here}
 use Rattle.typed.proofs.EndLaws.{next-same, expression-end, term-end, sumCount, productCount, expressionSteps, termSteps, factorSteps}
 use Rattle.typed.proofs.TurnLaws.{next-at, next-fault, sum-turn, sum-plus, sum-minus, sum-fault, product-turn, product-times, product-fault, factor-number, factor-letter, factor-bracket, factor-minus}

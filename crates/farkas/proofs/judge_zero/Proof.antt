@@ -1,6 +1,5 @@
 -- Each answer is the arm of `sumsTest` that the two tests pick; with no goal, the sums agree where all are 0. Assumes nothing.
 use mathlib.Core.Path.{_≡_, sym, ap, _∙_}
-use mathlib.Core.Bool.{true}
 use mathlib.Core.List.{[]}
 use Prim.Native.Nat.{ℕ}
 use native.Mathlib.Omega.{arith}

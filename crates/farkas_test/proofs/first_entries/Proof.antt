@@ -2,7 +2,6 @@
 use native.Mathlib.Omega.{arith}
 use borrow.Author.Needs.{needs}
 use denote.Ref.{now}
-use lib.ListN.{length}
 use mir.Facts.{toZ-ofZ}
 use Rattle.farkas.proofs.Promise.{wider}
 use Rattle.farkas_test.proofs.RowSizes.{none-within}

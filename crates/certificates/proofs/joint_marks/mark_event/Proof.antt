@@ -3,7 +3,6 @@ use mathlib.Core.Path.{_≡_, sym, ap, _∙_, subst}
 use Prim.Native.Nat.{ℕ}
 use native.Mathlib.Omega.{arith}
 use denote.Ref.{now}
-use lib.ListN.{length}
 use Rattle.models.specs.Index.{entry, componentsFrom, modelFrom}
 use Rattle.models.proofs.IndexLaws.{kept-none}
 use Rattle.papers.specs.Paper.{regionsOf}

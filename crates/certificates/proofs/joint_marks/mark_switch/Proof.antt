@@ -3,7 +3,6 @@ use mathlib.Core.Path.{sym, ap, _∙_}
 use mathlib.Core.List.{List}
 use native.Mathlib.Omega.{arith}
 use denote.Ref.{now}
-use lib.ListN.{length}
 use Rattle.models.specs.Index.{entry}
 use Rattle.models.proofs.IndexLaws.{kept-none}
 use Rattle.models.specs.Counts.{perComponent}

@@ -6,7 +6,6 @@ use native.Mathlib.Omega.{arith}
 use denote.Ref.{now}
 use lib.ListN.{length, getD, drop}
 use Rattle.fields.specs.declared.Next.the-variants as next
-use Rattle.rules.specs.Marking.{stopped}
 use Rattle.papers.specs.Paper.{heldNext}
 use Rattle.hypotheses.specs.Listing.{Task, noTask, tasksOf, markTask, markTasks}
 use Rattle.certificates.specs.Passed.{standsAt, Fresh}

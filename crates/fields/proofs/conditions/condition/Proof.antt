@@ -4,7 +4,7 @@ use Prim.Native.Nat.{ℕ}
 use native.Mathlib.Omega.{arith}
 use borrow.Author.Needs.{needs}
 use denote.Ref.{now}
-use Rattle.formats.specs.Reading.{got, refused, u8, within, many}
+use Rattle.formats.specs.Reading.{got, u8, within, many}
 use Rattle.formats.specs.Rows.{readRow, readCondition}
 use Rattle.fields.specs.Places.{rowsFrom}
 use Rattle.fields.specs.Answers.{gotRows}

@@ -3,7 +3,6 @@ use mathlib.Core.Path.{sym}
 use native.Mathlib.Omega.{arith}
 use borrow.Author.Needs.{needs}
 use denote.Ref.{now}
-use Rattle.formats.specs.Reading.{got}
 use Rattle.fields.specs.Answers.{gotAs}
 use Rattle.fields.proofs.Skipping.{rows-fit, rows-got, rows-cut}
 use Rattle.fields.proofs.conditions.pass_rows.Statement.{statement}

@@ -2,7 +2,7 @@
 use mathlib.Core.Path.{sym, ap, _∙_}
 use mathlib.Core.Bool.{_&&_}
 use lib.Dec.{leb}
-use Rattle.formats.specs.Reading.{refused, passing}
+use Rattle.formats.specs.Reading.{passing}
 use Rattle.fields.specs.Answers.{gotField}
 use Rattle.fields.proofs.AnswerLaws.{field-value, field-refused}
 use Rattle.formats.proofs.FieldLaws.{range-low, range-high, range-in}

@@ -2,7 +2,7 @@
 use mathlib.Core.Path.{sym, ap, _∙_}
 use borrow.Author.Needs.{needs}
 use lib.Dec.{ltb}
-use Rattle.formats.specs.Reading.{refused, passing, below}
+use Rattle.formats.specs.Reading.{passing}
 use Rattle.fields.specs.Answers.{gotField}
 use Rattle.fields.proofs.AnswerLaws.{field-value, field-refused}
 use Rattle.formats.proofs.FieldLaws.{below-in, below-out}

@@ -4,7 +4,6 @@ use Prim.Native.Nat.{_+_}
 use native.Mathlib.Omega.{arith}
 use borrow.Author.Needs.{needs}
 use denote.Ref.{now}
-use lib.ListN.{length}
 use Prim.Native.Nat.{_-_}
 use Rattle.hypotheses.specs.Listing.{groupTasksFor}
 use borrow.Author.Needs.{needs}

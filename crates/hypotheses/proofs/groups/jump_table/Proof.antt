@@ -2,7 +2,6 @@
 use native.Mathlib.Omega.{arith}
 use borrow.Author.Needs.{needs}
 use denote.Ref.{now}
-use lib.ListN.{length}
 use Rattle.models.specs.Counts.{perComponent}
 use Rattle.papers.proofs.StandingLaws.{invariant-good}
 use Rattle.hypotheses.specs.Listing.{landingLines}

@@ -2,7 +2,6 @@
 use native.Mathlib.Omega.{arith}
 use borrow.Author.Needs.{needs}
 use denote.Ref.{now}
-use lib.ListN.{length}
 use Rattle.papers.proofs.StandingLaws.{initial-good, invariant-good}
 use Rattle.hypotheses.specs.Listing.{startLines}
 use Rattle.hypotheses.proofs.TableLaws.{pushed, pushed-then, as-promised}

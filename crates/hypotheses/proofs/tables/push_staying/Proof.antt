@@ -2,7 +2,6 @@
 use Prim.Native.Nat.{_-_, _<_}
 use native.Mathlib.Omega.{arith}
 use borrow.Author.Needs.{needs}
-use lib.ListN.{length}
 use Rattle.models.specs.Index.{entry}
 use Rattle.hypotheses.specs.Listing.{stayingLine, stayingLines}
 use Rattle.hypotheses.proofs.TableLaws.{pushed, pushed-as, as-promised, Pushing, pushing-none, pushing-on, pushing-end}

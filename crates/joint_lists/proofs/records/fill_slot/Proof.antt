@@ -5,7 +5,6 @@ use Prim.Native.Nat.{ℕ, _*_, _/_, _%_, _<_}
 use native.Mathlib.Omega.{arith}
 use borrow.Author.Needs.{needs}
 use denote.Ref.{now}
-use lib.ListN.{length}
 use Rattle.formats.specs.JointTotals.{eventTotal}
 use Rattle.models.specs.Index.{entry, componentsFrom}
 use Rattle.joint_switches.proofs.JointLoops.{per-component-modes}

@@ -7,7 +7,6 @@ use denote.Ref.{now}
 use lib.ListN.{length}
 use Rattle.buffers.specs.Over.{over}
 use Rattle.buffers.proofs.OverLaws.{over-length}
-use Rattle.rules.specs.Program.{decimal}
 use Rattle.marking.proofs.TextLaws.{decimal-small, decimal-put, ten-digits}
 use borrow.Fn.Kinds.{In}
 use borrow.Fn.PlainCycle.{Measures, is, falls, and}

@@ -1,6 +1,5 @@
 -- The line's text. Assumes nothing.
 use mathlib.Core.Path.{ap}
-use lib.ListN.{length}
 use Rattle.rules.specs.Program.{textOf, printed}
 use Rattle.marking.proofs.TextLaws.{written-so}
 use borrow.Author.Needs.{needs}

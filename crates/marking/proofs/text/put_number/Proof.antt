@@ -2,7 +2,6 @@
 use mathlib.Core.List.{[], _∷_}
 use native.Mathlib.Omega.{arith}
 use denote.Ref.{now}
-use lib.ListN.{length}
 use Rattle.rules.specs.Program.{decimal}
 use Rattle.marking.proofs.TextLaws.{ten-digits, parts-put}
 use borrow.Author.Needs.{needs}

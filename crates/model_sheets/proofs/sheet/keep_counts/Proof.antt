@@ -3,7 +3,7 @@ use mathlib.Core.Path.{_≡_, refl, _∙_}
 use Prim.Native.Nat.{_+_, _-_, _≤_}
 use native.Mathlib.Omega.{arith}
 use denote.Ref.{now}
-use lib.ListN.{length, getD, set, length-set}
+use lib.ListN.{length, getD, length-set}
 use Rattle.model_sheets.proofs.LimitLaws.{Keeping, keeping-starts, keeping-goes-on, counts-stand, only-counts}
 use Rattle.model_sheets.proofs.sheet.keep_counts.Statement.{statement}
 use Rattle.model_sheets.proofs.sheet.keep_counts.Tie as tie

@@ -4,7 +4,7 @@ use Prim.Native.Nat.{ℕ}
 use native.Mathlib.Omega.{arith}
 use borrow.Author.Needs.{needs}
 use denote.Ref.{now}
-use Rattle.formats.specs.Reading.{got, refused}
+use Rattle.formats.specs.Reading.{got}
 use Rattle.formats.specs.Reading as reading
 use Rattle.formats.specs.Model.{Model, readModelBody}
 use Rattle.models.specs.Index.{modelFrom}

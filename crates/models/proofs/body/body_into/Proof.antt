@@ -3,8 +3,7 @@ use mathlib.Core.Path.{_≡_, refl, sym, ap, _∙_}
 use native.Mathlib.Omega.{arith}
 use borrow.Author.Needs.{needs}
 use denote.Ref.{now}
-use lib.ListN.{length}
-use Rattle.formats.specs.Reading.{got, refused, u8, many, below}
+use Rattle.formats.specs.Reading.{got, u8, many, below}
 use Rattle.models.specs.Index.{entry, ownerPlace, readTotals, totalsFrom, partsFrom}
 use Rattle.fields.specs.Answers.{gotAs}
 use Rattle.fields.proofs.ChainLaws.{told-at, told-refused}

@@ -3,8 +3,8 @@ use mathlib.Core.Path.{_≡_, sym, ap, _∙_}
 use native.Mathlib.Omega.{arith}
 use borrow.Author.Needs.{needs}
 use denote.Ref.{now}
-use lib.ListN.{length, set, length-set}
-use Rattle.formats.specs.Reading.{got, refused, u8, within}
+use lib.ListN.{set, length-set}
+use Rattle.formats.specs.Reading.{got, u8, within}
 use Rattle.fields.specs.Answers.{gotAs}
 use Rattle.fields.proofs.AnswerLaws.{field-value, field-refused}
 use Rattle.formats.proofs.FieldLaws.{range-read}

@@ -2,7 +2,7 @@
 use mathlib.Core.Path.{_≡_, sym, _∙_}
 use borrow.Author.Needs.{needs}
 use denote.Ref.{now}
-use Rattle.formats.specs.Reading.{got, refused, u16}
+use Rattle.formats.specs.Reading.{got, u16}
 use Rattle.fields.specs.Answers.{gotField}
 use Rattle.fields.proofs.AnswerLaws.{field-value, field-refused}
 use Rattle.models.proofs.ComponentLaws.{alphabet-refused, alphabet-even, alphabet-odd}

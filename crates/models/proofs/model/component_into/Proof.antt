@@ -4,8 +4,7 @@ use Prim.Native.Nat.{_+_}
 use native.Mathlib.Omega.{arith}
 use borrow.Author.Needs.{needs}
 use denote.Ref.{now}
-use lib.ListN.{length}
-use Rattle.formats.specs.Reading.{got, refused, many}
+use Rattle.formats.specs.Reading.{got, many}
 use Rattle.models.specs.Index.{entry, modeFrom, modePlace, switchFrom, switchPlace, Counts, readCounts, countsFrom}
 use Rattle.fields.specs.Answers.{gotAs}
 use Rattle.fields.proofs.ChainLaws.{told-at, told-refused}

@@ -4,7 +4,6 @@ use Prim.Native.Nat.{_+_, _*_, _-_}
 use native.Mathlib.Omega.{arith}
 use borrow.Author.Needs.{needs}
 use denote.Ref.{now}
-use lib.ListN.{length}
 use Rattle.models.specs.Index.{componentFrom, componentPlace}
 use Rattle.fields.specs.Answers.{gotAs}
 use Rattle.fields.proofs.ChainLaws.{told-at}

@@ -4,8 +4,7 @@ use Prim.Native.Nat.{_+_}
 use native.Mathlib.Omega.{arith}
 use borrow.Author.Needs.{needs}
 use denote.Ref.{now}
-use lib.ListN.{length}
-use Rattle.formats.specs.Reading.{got, refused}
+use Rattle.formats.specs.Reading.{got}
 use Rattle.formats.specs.Rows.{readCondition}
 use Rattle.fields.specs.Places.{rowsFrom}
 use Rattle.fields.specs.Answers.{gotAs}

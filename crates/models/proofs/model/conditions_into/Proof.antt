@@ -4,8 +4,6 @@ use Prim.Native.Nat.{_+_}
 use native.Mathlib.Omega.{arith}
 use borrow.Author.Needs.{needs}
 use denote.Ref.{now}
-use lib.ListN.{length}
-use Rattle.formats.specs.Reading.{refused}
 use Rattle.formats.specs.Rows.{readCondition}
 use Rattle.models.specs.Index.{spanRows, threeFrom}
 use Rattle.fields.specs.Answers.{gotAs}

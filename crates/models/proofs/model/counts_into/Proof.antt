@@ -4,8 +4,8 @@ use Prim.Native.Nat.{ℕ, _<_, _%_}
 use native.Mathlib.Omega.{arith}
 use borrow.Author.Needs.{needs}
 use denote.Ref.{now}
-use lib.ListN.{length, set, length-set}
-use Rattle.formats.specs.Reading.{got, refused, u8, within}
+use lib.ListN.{length-set}
+use Rattle.formats.specs.Reading.{got, u8, within}
 use Rattle.models.specs.Index.{readAlphabet}
 use Rattle.fields.specs.Answers.{gotAs}
 use Rattle.models.proofs.IndexLaws.{kept-none}

@@ -2,7 +2,7 @@
 use mathlib.Core.Path.{_≡_, sym, _∙_}
 use borrow.Author.Needs.{needs}
 use denote.Ref.{now}
-use Rattle.formats.specs.Reading.{got, refused, u8, within}
+use Rattle.formats.specs.Reading.{got, u8, within}
 use Rattle.fields.specs.Answers.{gotField}
 use Rattle.models.proofs.ModelLaws.{label-refused, label-zero, label-event, label-outside}
 use Rattle.fields.proofs.AnswerLaws.{field-value, field-refused}

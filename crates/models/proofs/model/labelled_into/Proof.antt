@@ -4,8 +4,8 @@ use Prim.Native.Nat.{ℕ, _+_, _*_}
 use native.Mathlib.Omega.{arith}
 use borrow.Author.Needs.{needs}
 use denote.Ref.{now}
-use lib.ListN.{length, set, length-set}
-use Rattle.formats.specs.Reading.{got, refused}
+use lib.ListN.{length-set}
+use Rattle.formats.specs.Reading.{got}
 use Rattle.models.specs.Index.{entry, spanRows, readLabel, labelledFrom}
 use Rattle.fields.specs.Answers.{gotAs}
 use Rattle.models.proofs.ModelLaws.{label-small, labelled-refused, labelled-read}

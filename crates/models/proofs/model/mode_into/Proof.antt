@@ -4,8 +4,8 @@ use Prim.Native.Nat.{ℕ, _+_}
 use native.Mathlib.Omega.{arith}
 use borrow.Author.Needs.{needs}
 use denote.Ref.{now}
-use lib.ListN.{length, set, length-set}
-use Rattle.formats.specs.Reading.{got, refused, u8, within}
+use lib.ListN.{set, length-set}
+use Rattle.formats.specs.Reading.{got, u8, within}
 use Rattle.models.specs.Index.{entry, spanRows, threeFrom, readThree, modeFrom}
 use Rattle.fields.specs.Answers.{gotAs}
 use Rattle.models.proofs.ModelLaws.{mode-refused, mode-read, initial-small, three-on, five-on}

@@ -4,7 +4,6 @@ use Prim.Native.Nat.{_+_, _*_, _-_}
 use native.Mathlib.Omega.{arith}
 use borrow.Author.Needs.{needs}
 use denote.Ref.{now}
-use lib.ListN.{length}
 use Rattle.models.specs.Index.{modeFrom, modePlace}
 use Rattle.fields.specs.Answers.{gotAs}
 use Rattle.models.proofs.IndexLaws.{agree-low, mode-same}

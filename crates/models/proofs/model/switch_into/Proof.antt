@@ -5,7 +5,7 @@ use native.Mathlib.Omega.{arith}
 use borrow.Author.Needs.{needs}
 use denote.Ref.{now}
 use lib.ListN.{length, set, length-set}
-use Rattle.formats.specs.Reading.{got, refused, u8, below}
+use Rattle.formats.specs.Reading.{got, u8, below}
 use Rattle.models.specs.Index.{entry, spanRows, labelledFrom, switchFrom}
 use Rattle.fields.specs.Answers.{gotAs}
 use Rattle.models.proofs.ModelLaws.{switch-first, switch-second, switch-read, three-more}

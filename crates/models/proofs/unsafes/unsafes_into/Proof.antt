@@ -5,7 +5,6 @@ use Prim.Native.Nat.{ℕ, _+_, _*_, _-_}
 use native.Mathlib.Omega.{arith}
 use borrow.Author.Needs.{needs}
 use denote.Ref.{now}
-use lib.ListN.{length}
 use Rattle.formats.specs.Model.{Unsafe, readUnsafe}
 use Rattle.models.specs.Index.{componentPlace, unsafePlace, unsafeFrom, componentsFrom}
 use Rattle.fields.specs.Answers.{gotAs}

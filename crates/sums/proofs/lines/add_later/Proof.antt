@@ -5,7 +5,6 @@ use Prim.Native.Nat.{ℕ, _+_, _*_, _≤_}
 use native.Mathlib.Omega.{arith}
 use denote.Ref.{now}
 use lib.IntN.{ℤ, pos, negℤ}
-use lib.ListN.{length}
 use Rattle.farkas.specs.Rows.{rowOf, onward}
 use Rattle.farkas.specs.Words.{rowIn}
 use Rattle.farkas.specs.Farkas.{addRow}

@@ -4,7 +4,6 @@ use Prim.Native.Nat.{ℕ, _+_, _≤_}
 use native.Mathlib.Omega.{arith}
 use denote.Ref.{now}
 use lib.IntN.{ℤ}
-use lib.ListN.{length}
 use Rattle.farkas.specs.Rows.{Row, rowOf, onward, onChange}
 use Rattle.farkas.specs.Words.{rowIn}
 use Rattle.farkas.specs.Farkas.{addRow}

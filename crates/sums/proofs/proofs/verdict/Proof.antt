@@ -4,7 +4,6 @@ use Prim.Native.Nat.{ℕ}
 use native.Mathlib.Omega.{arith}
 use denote.Ref.{now}
 use lib.IntN.{ℤ}
-use lib.ListN.{length}
 use Rattle.farkas.specs.Rows.{Row, rowOf, zeroRow}
 use Rattle.farkas.specs.Farkas.{sumsTest}
 use Rattle.sums.proofs.RowLaws.{goal-none, goal-row, sent}

@@ -1,7 +1,6 @@
 -- Numbers of 32 bits leave room for the product and the sum in 64. Assumes nothing.
 use borrow.Author.Needs.{needs}
 use mathlib.Core.Path.{ap, _∙_}
-use mir.Val.{toZ, ofZ}
 use mir.Facts.{toZ-ofZ}
 use Rattle.typed.specs.Forms.{entryOf}
 use Rattle.typed.proofs.EntryLaws.{widened, widens, room}

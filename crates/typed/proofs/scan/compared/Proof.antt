@@ -1,6 +1,5 @@
 -- The arms of the match are the cases of the definition. Assumes nothing.
 use borrow.Author.Needs.{needs}
-use Rattle.typed.specs.Scan.{compared}
 use Rattle.typed.proofs.ArmLaws.{compared-open}
 use Rattle.typed.proofs.scan.compared.Statement.{statement}
 use Rattle.typed.proofs.scan.compared.Tie as tie
