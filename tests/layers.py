@@ -10,7 +10,7 @@ import sys
 from pathlib import Path
 
 ROOT = Path(__file__).resolve().parent.parent
-PROMISE = {'Promise', 'All', 'Integers', 'Order', 'Bits', 'Fill'}
+PROMISE = {'Promise', 'All', 'Integers', 'Order', 'Comparing', 'Bits', 'Fill'}
 USED = re.compile(r'\bRattle·(\w+)')
 PROOFS = re.compile(r'\bRattle·farkas\.proofs\.(\w+)')
 

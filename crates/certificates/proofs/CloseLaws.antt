@@ -31,7 +31,7 @@ use Rattle.rules.proofs.Calls.{certificateBy}
 use Rattle.papers.proofs.OpenLaws.{open-refused, open-goes-on, opened-answer}
 
 -- its obligations are not many
-pub obligations-few : {model index second regions : List ℕ} → GoodPaper model index second regions → (locations : ℕ) → locations ≡ locationCount (componentsFrom model index) → length (joints (componentsFrom model index)) ≤ 4096 → length (obligations (modelFrom model index) (regionsFrom second (entry index 0) regions locations)) ≤ 1000000
+pub obligations-few : {model index second regions : List ℕ} → GoodPaper model index second regions → (locations : ℕ) → locations ≡ locationCount (componentsFrom model index) → length (joints (componentsFrom model index)) ≤ 4096 → length (obligations (modelFrom model index) (regionsFrom second (entry index 11) (entry index 0) regions locations)) ≤ 1000000
 obligations-few {model} {index} {second} {regions} g locations l h =
     omega (arith, obligations-length model index second regions locations l, locations-few g locations l, jumps-few g h)
 
@@ -126,7 +126,7 @@ module _ (limits : Limits) (model second : List ℕ) where
       ∙ open-refused limits 2 model second (λ n s p. answer n s p 0 0) readRegions (λ m. markRegions m second) (certificateBy second)
       (λ m number at. regions-stop m second (refused number at) number at refl) (λ number sheet at. refl) (λ m. refl) f
 
-  pub certificate-open : {index : List ℕ} → Open limits 2 model index second → markRegions (modelFrom model index) second (readRegions (modelFrom model index) second 4) ≡ markCertificate limits model second
+  pub certificate-open : {index : List ℕ} {body : ℕ} → Open limits 2 model index second body → markRegions (modelFrom model index) second (readRegions (modelFrom model index) second body) ≡ markCertificate limits model second
   unfolding markCertificate withModel
   certificate-open w =
       open-goes-on limits 2 model second (λ n s p. answer n s p 0 0) readRegions (λ m. markRegions m second) (certificateBy second)

@@ -146,13 +146,13 @@ marked-end {s} {whole} {m} left u e c = marked-none s m left (u .number) e ∙ a
 -- all obligations: those of the locations, then those of the joint switches
 pub all-parts :
     (model index second regions : List ℕ) (locations : ℕ) → locations ≡ locationCount (componentsFrom model index)
-    → tasks (obligations (modelFrom model index) (regionsFrom second (entry index 0) regions locations)) ≡ joinAll (locationTasks (modelFrom model index) (regionsOf model index second regions)) (countUp 0 locations) ++ jointTasks (modelFrom model index) (regionsOf model index second regions) (joints (componentsFrom model index))
+    → tasks (obligations (modelFrom model index) (regionsFrom second (entry index 11) (entry index 0) regions locations)) ≡ joinAll (locationTasks (modelFrom model index) (regionsOf model index second regions)) (countUp 0 locations) ++ jointTasks (modelFrom model index) (regionsOf model index second regions) (joints (componentsFrom model index))
 unfolding obligations obligationsOver regionsOf tasks locationTasks jointTasks modelFrom
 all-parts model index second regions locations e =
     let m = modelFrom model index in
     let regionAt = regionsOf model index second regions in
     let components = componentsFrom model index in
-    ap (λ (n : ℕ). tasks (obligations m (regionsFrom second (entry index 0) regions n))) e
+    ap (λ (n : ℕ). tasks (obligations m (regionsFrom second (entry index 11) (entry index 0) regions n))) e
     ∙ map-append taskOf (joinAll (locationObligations m regionAt) (countUp 0 (locationCount components))) (jumpsObligations m regionAt 0 (joints components))
     ∙ ap (λ (ts : List Task). ts ++ jointTasks m regionAt (joints components)) (joined-told taskOf (locationObligations m regionAt) (countUp 0 (locationCount components)))
     ∙ ap (λ (n : ℕ). joinAll (locationTasks m regionAt) (countUp 0 n) ++ jointTasks m regionAt (joints components)) (sym e)

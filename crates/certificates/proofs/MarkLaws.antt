@@ -24,10 +24,11 @@ use Rattle.hypotheses.specs.Tables.{hypothesesFrom, hypothesisRows, testWith, m
 use Rattle.papers.specs.Paper.{heldNext}
 use Rattle.hypotheses.specs.Listing.{Task, noTask, taskOf, tasks, tasksFrom, tasksOf, goalsOf, GoodGroup, markTask, markTasks}
 use Rattle.sums.specs.Summing.{goalAt}
-use Rattle.certificates.specs.Passed.{standsAt, oneOf}
+use Rattle.certificates.specs.Passed.{standsAt, goalPlace, oneOf}
 use Rattle.hypotheses.specs.declared.Group.{Group}
 use Rattle.formats.proofs.JointCounts.{mapped-at}
 use Rattle.fields.proofs.ConditionLaws.{length-rows}
+use Rattle.formats.specs.Versions.{rowBytes}
 
 -- obligations are marked as what they have to prove
 same-test : (o : Obligation) (p : ℕ) (g : Got Proof) → testProof o p g ≡ testWith (hypothesisRows (o .hypotheses)) (o .goal) p g
@@ -215,52 +216,52 @@ all-zero zero i = refl
 all-zero (suc n) zero = refl
 all-zero (suc n) (suc i) = all-zero n i
 
-row-at : {B : Type 0} (f : SheetRow → B) (s : List ℕ) (n p count j : ℕ) (d : B) → j < count → getD (map f (rowsFrom s n p count)) j d ≡ f (rowAt s n (p + 4 * (n + 1) * j))
+row-at : {B : Type 0} (f : SheetRow → B) (s : List ℕ) (version n p count j : ℕ) (d : B) → j < count → getD (map f (rowsFrom s version n p count)) j d ≡ f (rowAt s version n (p + rowBytes version n * j))
 unfolding rowsFrom
-row-at f s n p zero j d h = absurd (omega (arith, h))
-row-at f s n p (suc count) zero d h = ap (λ (q : ℕ). f (rowAt s n q)) (first p n)
+row-at f s version n p zero j d h = absurd (omega (arith, h))
+row-at f s version n p (suc count) zero d h = ap (λ (q : ℕ). f (rowAt s version n q)) (first p version n)
   where
-    first : (p n : ℕ) → p ≡ p + 4 * (n + 1) * zero
-    first p n = omega arith
-row-at f s n p (suc count) (suc j) d h = row-at f s n (p + 4 * (n + 1)) count j d (omega (arith, h)) ∙ ap (λ (q : ℕ). f (rowAt s n q)) (later p n j)
+    first : (p version n : ℕ) → p ≡ p + rowBytes version n * zero
+    first p version n = omega arith
+row-at f s version n p (suc count) (suc j) d h = row-at f s version n (p + rowBytes version n) count j d (omega (arith, h)) ∙ ap (λ (q : ℕ). f (rowAt s version n q)) (later p version n j)
   where
-    later : (p n j : ℕ) → p + 4 * (n + 1) + 4 * (n + 1) * j ≡ p + 4 * (n + 1) * suc j
-    later p n j = omega arith
+    later : (p version n j : ℕ) → p + rowBytes version n + rowBytes version n * j ≡ p + rowBytes version n * suc j
+    later p version n j = omega arith
 
 no-goal : (second : List ℕ) (n : ℕ) (g : Group) (goal : ℕ) → g .zero ≡ true → getD (goalsOf second n g) goal zeroRow ≡ zeroRow
 unfolding goalsOf
 no-goal second n g goal e =
-    ap (λ (b : Bool). getD (elim b [ true ↦ replicate (g .goals) zeroRow | false ↦ map (λ r. onNext (g .shift) (r .row)) (rowsFrom second n (g .from) (g .goals)) ]) goal zeroRow) e
+    ap (λ (b : Bool). getD (elim b [ true ↦ replicate (g .goals) zeroRow | false ↦ map (λ r. onNext (g .shift) (r .row)) (rowsFrom second (g .version) n (g .from) (g .goals)) ]) goal zeroRow) e
     ∙ all-zero (g .goals) goal
 
-row-goal : (second : List ℕ) (n : ℕ) (g : Group) (goal : ℕ) → g .zero ≡ false → goal < g .goals → getD (goalsOf second n g) goal zeroRow ≡ onNext (g .shift) (rowAt second n (g .from + 4 * (n + 1) * goal) .row)
+row-goal : (second : List ℕ) (n : ℕ) (g : Group) (goal : ℕ) → g .zero ≡ false → goal < g .goals → getD (goalsOf second n g) goal zeroRow ≡ onNext (g .shift) (rowAt second (g .version) n (g .from + rowBytes (g .version) n * goal) .row)
 unfolding goalsOf
 row-goal second n g goal e h =
-    ap (λ (b : Bool). getD (elim b [ true ↦ replicate (g .goals) zeroRow | false ↦ map (λ r. onNext (g .shift) (r .row)) (rowsFrom second n (g .from) (g .goals)) ]) goal zeroRow) e
-    ∙ row-at (λ r. onNext (g .shift) (r .row)) second n (g .from) (g .goals) goal zeroRow h
+    ap (λ (b : Bool). getD (elim b [ true ↦ replicate (g .goals) zeroRow | false ↦ map (λ r. onNext (g .shift) (r .row)) (rowsFrom second (g .version) n (g .from) (g .goals)) ]) goal zeroRow) e
+    ∙ row-at (λ r. onNext (g .shift) (r .row)) second (g .version) n (g .from) (g .goals) goal zeroRow h
 
 -- each is the goal at its place
-pub goal-at : (second : List ℕ) (n : ℕ) (g : Group) (goal : ℕ) → goal < g .goals → getD (goalsOf second n g) goal zeroRow ≡ goalAt second n g (g .from + 4 * (n + 1) * goal)
+pub goal-at : (second : List ℕ) (n : ℕ) (g : Group) (goal : ℕ) → goal < g .goals → getD (goalsOf second n g) goal zeroRow ≡ goalAt second n g (g .from + rowBytes (g .version) n * goal)
 unfolding goalAt
 goal-at second n g goal h = go (g .zero) refl
   where
-    go : (b : Bool) → g .zero ≡ b → getD (goalsOf second n g) goal zeroRow ≡ elim (g .zero) [ true ↦ zeroRow | false ↦ onNext (g .shift) (rowAt second n (g .from + 4 * (n + 1) * goal) .row) ]
-    go true e = no-goal second n g goal e ∙ sym (ap (λ (b : Bool). elim b [ true ↦ zeroRow | false ↦ onNext (g .shift) (rowAt second n (g .from + 4 * (n + 1) * goal) .row) ]) e)
-    go false e = row-goal second n g goal e h ∙ sym (ap (λ (b : Bool). elim b [ true ↦ zeroRow | false ↦ onNext (g .shift) (rowAt second n (g .from + 4 * (n + 1) * goal) .row) ]) e)
+    go : (b : Bool) → g .zero ≡ b → getD (goalsOf second n g) goal zeroRow ≡ elim (g .zero) [ true ↦ zeroRow | false ↦ onNext (g .shift) (rowAt second (g .version) n (g .from + rowBytes (g .version) n * goal) .row) ]
+    go true e = no-goal second n g goal e ∙ sym (ap (λ (b : Bool). elim b [ true ↦ zeroRow | false ↦ onNext (g .shift) (rowAt second (g .version) n (g .from + rowBytes (g .version) n * goal) .row) ]) e)
+    go false e = row-goal second n g goal e h ∙ sym (ap (λ (b : Bool). elim b [ true ↦ zeroRow | false ↦ onNext (g .shift) (rowAt second (g .version) n (g .from + rowBytes (g .version) n * goal) .row) ]) e)
 
 -- the tasks of a group, by their numbers
 zero-length : (second : List ℕ) (n : ℕ) (g : Group) → g .zero ≡ true → length (goalsOf second n g) ≡ g .goals
 unfolding goalsOf
 zero-length second n g e =
-    ap (λ (b : Bool). length {A = Row} (elim b [ true ↦ replicate (g .goals) zeroRow | false ↦ map (λ r. onNext (g .shift) (r .row)) (rowsFrom second n (g .from) (g .goals)) ])) e
+    ap (λ (b : Bool). length {A = Row} (elim b [ true ↦ replicate (g .goals) zeroRow | false ↦ map (λ r. onNext (g .shift) (r .row)) (rowsFrom second (g .version) n (g .from) (g .goals)) ])) e
     ∙ length-replicate (g .goals) zeroRow
 
 row-length : (second : List ℕ) (n : ℕ) (g : Group) → g .zero ≡ false → length (goalsOf second n g) ≡ g .goals
 unfolding goalsOf
 row-length second n g e =
-    ap (λ (b : Bool). length {A = Row} (elim b [ true ↦ replicate (g .goals) zeroRow | false ↦ map (λ r. onNext (g .shift) (r .row)) (rowsFrom second n (g .from) (g .goals)) ])) e
-    ∙ length-map (rowsFrom second n (g .from) (g .goals)) _
-    ∙ length-rows second n (g .from) (g .goals)
+    ap (λ (b : Bool). length {A = Row} (elim b [ true ↦ replicate (g .goals) zeroRow | false ↦ map (λ r. onNext (g .shift) (r .row)) (rowsFrom second (g .version) n (g .from) (g .goals)) ])) e
+    ∙ length-map (rowsFrom second (g .version) n (g .from) (g .goals)) _
+    ∙ length-rows second (g .version) n (g .from) (g .goals)
 
 pub goals-length : (second : List ℕ) (n : ℕ) (g : Group) → length (goalsOf second n g) ≡ g .goals
 goals-length second n g = go (g .zero) refl
@@ -273,34 +274,34 @@ pub tasks-length : (model second : List ℕ) (n : ℕ) (table : List ℕ) (g : G
 unfolding tasksOf tasksFrom
 tasks-length model second n table g = length-map (goalsOf second n g) _ ∙ goals-length second n g
 
-pub task-at : (model second : List ℕ) (n : ℕ) (table : List ℕ) (g : Group) (goal : ℕ) → goal < g .goals → getD (tasksOf model second n table g) goal noTask ≡ record { rows = hypothesisRows (hypothesesFrom model second n table (g .segments)); zeroK = g .zero; goal = getD (goalsOf second n g) goal zeroRow }
+pub task-at : (model second : List ℕ) (n : ℕ) (table : List ℕ) (g : Group) (goal : ℕ) → goal < g .goals → getD (tasksOf model second n table g) goal noTask ≡ record { rows = hypothesisRows (hypothesesFrom model second (g .version) n table (g .segments)); zeroK = g .zero; goal = getD (goalsOf second n g) goal zeroRow }
 unfolding tasksOf tasksFrom
 task-at model second n table g goal h = mapped-at _ (goalsOf second n g) goal zeroRow noTask (omega (arith, h, goals-length second n g))
 
 -- a proof marked by its place is the task of its number
-pub proof-task : (model second : List ℕ) (n : ℕ) (table : List ℕ) (g : Group) (goal : ℕ) (s : List ℕ) (p : ℕ) → goal < g .goals → markWith (hypothesisRows (hypothesesFrom model second n table (g .segments))) (g .zero) (goalAt second n g (g .from + 4 * (n + 1) * goal)) s p ≡ markTask (getD (tasksOf model second n table g) goal noTask) s p
+pub proof-task : (model second : List ℕ) (n : ℕ) (table : List ℕ) (g : Group) (goal : ℕ) (s : List ℕ) (p : ℕ) → goal < g .goals → markWith (hypothesisRows (hypothesesFrom model second (g .version) n table (g .segments))) (g .zero) (goalAt second n g (g .from + rowBytes (g .version) n * goal)) s p ≡ markTask (getD (tasksOf model second n table g) goal noTask) s p
 unfolding markTask
 proof-task model second n table g goal s p h =
-    ap (λ (r : Row). markWith (hypothesisRows (hypothesesFrom model second n table (g .segments))) (g .zero) r s p) (sym (goal-at second n g goal h))
+    ap (λ (r : Row). markWith (hypothesisRows (hypothesesFrom model second (g .version) n table (g .segments))) (g .zero) r s p) (sym (goal-at second n g goal h))
     ∙ ap (λ (t : Task). markTask t s p) (sym (task-at model second n table g goal h))
 
 -- a group with one goal alone has that goal's task
 pub one-task : (model second : List ℕ) (n : ℕ) (table : List ℕ) (g : Group) (goal : ℕ) → goal < g .goals → tasksOf model second n table (oneOf g n goal) ≡ getD (tasksOf model second n table g) goal noTask ∷ []
-unfolding tasksOf tasksFrom goalsOf oneOf rowsFrom
+unfolding tasksOf tasksFrom goalsOf oneOf goalPlace rowsFrom
 one-task model second n table g goal h =
-    ap (λ (rows : List Row). tasksFrom (hypothesisRows (hypothesesFrom model second n table (g .segments))) (g .zero) rows) (one-goal (g .zero) refl)
+    ap (λ (rows : List Row). tasksFrom (hypothesisRows (hypothesesFrom model second (g .version) n table (g .segments))) (g .zero) rows) (one-goal (g .zero) refl)
     ∙ ap (λ (t : Task). t ∷ []) (sym (task-at model second n table g goal h))
   where
     one-goal : (b : Bool) → g .zero ≡ b → goalsOf second n (oneOf g n goal) ≡ getD (goalsOf second n g) goal zeroRow ∷ []
     one-goal true e =
-        ap (λ (b : Bool). elim b as (λ _. List Row) [ true ↦ zeroRow ∷ [] | false ↦ onNext (g .shift) (rowAt second n (g .from + 4 * (n + 1) * goal) .row) ∷ [] ]) e
+        ap (λ (b : Bool). elim b as (λ _. List Row) [ true ↦ zeroRow ∷ [] | false ↦ onNext (g .shift) (rowAt second (g .version) n (g .from + rowBytes (g .version) n * goal) .row) ∷ [] ]) e
         ∙ ap (λ (r : Row). r ∷ []) (sym (no-goal second n g goal e))
     one-goal false e =
-        ap (λ (b : Bool). elim b as (λ _. List Row) [ true ↦ zeroRow ∷ [] | false ↦ onNext (g .shift) (rowAt second n (g .from + 4 * (n + 1) * goal) .row) ∷ [] ]) e
+        ap (λ (b : Bool). elim b as (λ _. List Row) [ true ↦ zeroRow ∷ [] | false ↦ onNext (g .shift) (rowAt second (g .version) n (g .from + rowBytes (g .version) n * goal) .row) ∷ [] ]) e
         ∙ ap (λ (r : Row). r ∷ []) (sym (row-goal second n g goal e h))
 
 pub one-good : {model second : List ℕ} {n : ℕ} {table : List ℕ} {g : Group} (goal : ℕ) → goal < g .goals → GoodGroup model second n table g → GoodGroup model second n table (oneOf g n goal)
-unfolding oneOf
+unfolding oneOf goalPlace
 one-good {second = second} {n = n} {g = g} goal h good =
     record {
       stacked = good .stacked;
@@ -314,29 +315,29 @@ one-good {second = second} {n = n} {g = g} goal h good =
       counted = omega arith;
     }
   where
-    first : (from n goal j : ℕ) → j < 1 → from + 4 * (n + 1) * goal + 4 * (n + 1) * (j + 1) ≡ from + 4 * (n + 1) * (goal + 1)
-    first from n goal zero l = omega arith
-    first from n goal (suc j) l = absurd (omega arith)
+    first : (from version n goal j : ℕ) → j < 1 → from + rowBytes version n * goal + rowBytes version n * (j + 1) ≡ from + rowBytes version n * (goal + 1)
+    first from version n goal zero l = omega arith
+    first from version n goal (suc j) l = absurd (omega arith)
 
-    first-goal : (k : ℕ) → g .from ≡ 0 → k ≡ 0 → g .from + 4 * (n + 1) * k ≡ 0
-    first-goal k e z = ap₂ (λ (i j : ℕ). i + 4 * (n + 1) * j) e z ∙ nothing n
+    first-goal : (k : ℕ) → g .from ≡ 0 → k ≡ 0 → g .from + rowBytes (g .version) n * k ≡ 0
+    first-goal k e z = ap₂ (λ (i j : ℕ). i + rowBytes (g .version) n * j) e z ∙ nothing (g .version) n
       where
-        nothing : (n : ℕ) → 0 + 4 * (n + 1) * 0 ≡ 0
-        nothing n = omega arith
+        nothing : (version n : ℕ) → 0 + rowBytes version n * 0 ≡ 0
+        nothing version n = omega arith
 
-    one-place : g .zero ≡ false → (j : ℕ) → j < 1 → g .from + 4 * (n + 1) * goal + 4 * (n + 1) * (j + 1) ≤ length second
-    one-place z j l = subst (λ (k : ℕ). k ≤ length second) (sym (first (g .from) n goal j l)) (good .goals z goal h)
+    one-place : g .zero ≡ false → (j : ℕ) → j < 1 → g .from + rowBytes (g .version) n * goal + rowBytes (g .version) n * (j + 1) ≤ length second
+    one-place z j l = subst (λ (k : ℕ). k ≤ length second) (sym (first (g .from) (g .version) n goal j l)) (good .goals z goal h)
 
 -- the rows of goals lie within the sheet, or are none
-pub goal-low : {model second : List ℕ} {n : ℕ} {table : List ℕ} {g : Group} (goal : ℕ) → n ≤ 8 → length second ≤ 32768 → goal < g .goals → GoodGroup model second n table g → g .from + 4 * (n + 1) * goal ≤ 32768
+pub goal-low : {model second : List ℕ} {n : ℕ} {table : List ℕ} {g : Group} (goal : ℕ) → n ≤ 8 → length second ≤ 32768 → goal < g .goals → GoodGroup model second n table g → g .from + rowBytes (g .version) n * goal ≤ 32768
 goal-low {second = second} {n = n} {g = g} goal m s h good = go (g .zero) refl
   where
-    less : (from n goal most : ℕ) → from + 4 * (n + 1) * (goal + 1) ≤ most → from + 4 * (n + 1) * goal ≤ most
-    less from n goal most l = omega (arith, l)
+    less : (from version n goal most : ℕ) → from + rowBytes version n * (goal + 1) ≤ most → from + rowBytes version n * goal ≤ most
+    less from version n goal most l = omega (arith, l)
 
-    few : (from n goal : ℕ) → from ≡ 0 → goal ≡ 0 → from + 4 * (n + 1) * goal ≤ 32768
-    few from n goal e z = rw (e, z) (omega arith)
+    few : (from version n goal : ℕ) → from ≡ 0 → goal ≡ 0 → from + rowBytes version n * goal ≤ 32768
+    few from version n goal e z = rw (e, z) (omega arith)
 
-    go : (b : Bool) → g .zero ≡ b → g .from + 4 * (n + 1) * goal ≤ 32768
-    go true z = few (g .from) n goal (good .none z .0) (omega (arith, h, good .none z .1))
-    go false z = less (g .from) n goal 32768 (omega (arith, good .goals z goal h, s))
+    go : (b : Bool) → g .zero ≡ b → g .from + rowBytes (g .version) n * goal ≤ 32768
+    go true z = few (g .from) (g .version) n goal (good .none z .0) (omega (arith, h, good .none z .1))
+    go false z = less (g .from) (g .version) n goal 32768 (omega (arith, good .goals z goal h, s))

@@ -40,7 +40,7 @@ module _ (m : Model) (regionAt : ℕ → Condition) (location : ℕ) where
 
 module _ (model index : List ℕ) (regionAt : ℕ → Condition) (location : ℕ) where
   abbrev condition : ℕ → Unsafe
-  condition u = unsafeFrom model (entry index 0) (entry index 1) index (unsafePlace u)
+  condition u = unsafeFrom model (entry index 11) (entry index 0) (entry index 1) index (unsafePlace u)
 
   condition-tasks : (u : ℕ) → u < entry index 2 → groupTasks (modelFrom model index) regionAt location (suc (suc u)) ≡ tasks (unsafeObligations (modelFrom model index) regionAt location 0 (condition u ∷ []))
   unfolding groupTasks modelFrom

@@ -17,6 +17,7 @@ use Rattle.formats.specs.Certificate.{readRegions}
 use Rattle.models.specs.Index.{entry, componentsFrom, modelFrom}
 use Rattle.rules.specs.declared.Answer.{Answer}
 use Rattle.papers.specs.Paper.{obligationsFor}
+use Rattle.formats.specs.Versions.{rowBytes}
 
 -- where marking stands: number 0 and the place reached, or the number and place of what failed; and how much passed
 unfoldable pub standsAt : Marked (Unit {0}) → declared.Marking
@@ -37,14 +38,19 @@ pub record Underway (second : List ℕ) (m : declared.Marking) : Type 0 where
 pub record Fresh (sums : List ℤ) : Type 0 where
   pub zeros : sums ≡ replicate 17 (pos 0)
 
+-- where the row of a group's goal stands
+unfoldable pub goalPlace : Group → ℕ → ℕ → ℕ
+goalPlace g n goal = g .from + rowBytes (g .version) n * goal
+
 -- a group with one of its goals alone
 unfoldable pub oneOf : Group → ℕ → ℕ → Group
 oneOf g n goal =
     record {
+      version = g .version;
       segments = g .segments;
       hypotheses = g .hypotheses;
       goals = 1;
-      from = g .from + 4 * (n + 1) * goal;
+      from = goalPlace g n goal;
       shift = g .shift;
       width = g .width;
       zero = g .zero;

@@ -7,6 +7,7 @@ use formats::Limits;
 use models::layout::INDEX_LENGTH;
 use models::layout::Index;
 use models::layout::VARIABLES_AT;
+use models::layout::VERSION_AT;
 use papers::answers::on_second;
 use papers::opening::locations_of;
 use papers::opening::open_paper;
@@ -77,17 +78,18 @@ fn mark_rest(
     end_certificate(second, marked.place, marked.done)
 }
 
-// A certificate after its header: its regions, then its proofs and its end.
-fn mark_body(model: &[u8], index: &Index, second: &[u8]) -> Answer
+// A certificate from its body on: its regions, then its proofs and its end.
+fn mark_body(model: &[u8], index: &Index, second: &[u8], body: usize) -> Answer
     requires { ⌜ Accepted (now model) (now index) ⌝ }
-    requires { ⌜ (4 ≤ length (now second)) × (length (now second) ≤ 32768) ⌝ }
-    ensures { λ r. ⌜ r ≡ markedBody (now (model .entry)) (now (index .entry)) (now (second .entry)) 4 ⌝ }
+    requires { ⌜ (body ≤ length (now second)) × (length (now second) ≤ 32768) ⌝ }
+    ensures { λ r. ⌜ r ≡ markedBody (now (model .entry)) (now (index .entry)) (now (second .entry)) body ⌝ }
 {
     let locations = locations_of(model, index);
     let mut regions = [0u16; REGIONS_LENGTH];
     match read_regions(
         second,
-        4,
+        body,
+        index[VERSION_AT] as u32,
         index[VARIABLES_AT] as usize,
         locations,
         &mut regions,
@@ -106,5 +108,5 @@ pub fn mark_certificate(model: &[u8], second: &[u8], limits: Limits) -> Answer
     if opened.number != 0 {
         return opened;
     }
-    mark_body(model, &index, second)
+    mark_body(model, &index, second, opened.place as usize)
 }

@@ -2,6 +2,7 @@
 use crate::Marking;
 use crate::joint_marks::mark_joints;
 use fields::Next;
+use fields::versions::rows_bytes;
 use hypotheses::Group;
 use hypotheses::groups::group_at;
 use hypotheses::tables::TABLE_LENGTH;
@@ -17,6 +18,7 @@ ghost use mathlib.Core.Path.{_≡_};
 ghost use mathlib.Core.Bool.{false};
 ghost use Prim.Native.Nat.{_+_, _*_, _≤_, _<_};
 ghost use lib.ListN.{length};
+ghost use Rattle.formats.specs.Versions.{rowBytes};
 ghost use Rattle.farkas.specs.Lists.{every};
 ghost use Rattle.formats.specs.Locations.{locationCount};
 ghost use Rattle.formats.specs.Joint.{countUp, joinAll};
@@ -25,18 +27,27 @@ ghost use Rattle.rules.specs.Marking.{markProofs};
 ghost use Rattle.papers.specs.Paper.{GoodPaper, obligationsFor};
 ghost use Rattle.hypotheses.specs.Tables.{Stacked};
 ghost use Rattle.hypotheses.specs.Listing.{GoodGroup, tasksOf, markTasks, locationTasksFor};
-ghost use Rattle.certificates.specs.Passed.{standsAt, markedFrom, oneOf, rowless, Fresh, Underway};
+ghost use Rattle.certificates.specs.Passed.{standsAt, markedFrom, goalPlace, oneOf, rowless, Fresh, Underway};
+
+// Where the row of a group's goal stands, by its number.
+fn goal_place(group: Group, n: usize, goal: u32) -> usize
+    requires { ⌜ (n ≤ 8) × ((goal ≤ 16) × (group .from + rowBytes (group .version) n * goal ≤ 32768)) ⌝ }
+    ensures { λ r. ⌜ r ≡ goalPlace group n goal ⌝ }
+{
+    group.from + rows_bytes(group.version, n, goal as usize)
+}
 
 // Of a group's goals the one with a number, alone.
 fn one_of(group: Group, n: usize, goal: u32) -> Group
-    requires { ⌜ (n ≤ 8) × (group .from + 4 * (n + 1) * goal ≤ 32768) ⌝ }
+    requires { ⌜ (n ≤ 8) × ((goal ≤ 16) × (group .from + rowBytes (group .version) n * goal ≤ 32768)) ⌝ }
     ensures { λ r. ⌜ r ≡ oneOf group n goal ⌝ }
 {
     Group {
+        version: group.version,
         segments: group.segments,
         hypotheses: group.hypotheses,
         goals: 1,
-        from: group.from + 4 * (n + 1) * (goal as usize),
+        from: goal_place(group, n, goal),
         shift: group.shift,
         width: group.width,
         zero: group.zero,
@@ -64,7 +75,7 @@ pub fn mark_group(
     let mut place = from.place;
     let mut goal: u32 = 0;
     while goal < goals {
-        let row = group.from + 4 * (n + 1) * (goal as usize);
+        let row = goal_place(group, n, goal);
         match mark_proof(
             model,
             second,

@@ -1,4 +1,4 @@
--- Rows that differ only in zeros at the end are alike: each coefficient and the bound are the same.
+-- Rows that differ only in zeros at the end are alike: each coefficient, the bound and the mark are the same.
 -- The test and the truth of a row ask for coefficients one by one, so alike rows can take each other's place. The code holds sums with a
 -- number for each unknown, the definitions hold a row with as many as the sheet gives. Assumes nothing.
 use mathlib.Core.Path.{_≡_, refl, sym, ap, ap₂, _∙_}
@@ -14,10 +14,10 @@ use Rattle.farkas.proofs.Order.{zero-plus-nothing}
 use Rattle.farkas.proofs.Test.{agree-means}
 
 pub alike-refl : (r : Row) → Alike r r
-alike-refl r = record { coefficient = λ i. refl; bound = refl }
+alike-refl r = record { coefficient = λ i. refl; bound = refl; strict = refl }
 
 pub alike-sym : {r s : Row} → Alike r s → Alike s r
-alike-sym h = record { coefficient = λ i. sym (h .coefficient i); bound = sym (h .bound) }
+alike-sym h = record { coefficient = λ i. sym (h .coefficient i); bound = sym (h .bound); strict = sym (h .strict) }
 
 -- zeros at the end
 pub item-padded : (n : ℕ) (xs : List ℤ) (i : ℕ) → item (xs ++ replicate n (pos 0)) i ≡ item xs i
@@ -29,9 +29,9 @@ item-padded n (a ∷ xs) zero = refl
 item-padded n (a ∷ xs) (suc i) = item-padded n xs i
 
 pub alike-padded :
-    (n : ℕ) (xs : List ℤ) (b : ℤ)
-    → Alike (record { coefficients = xs ++ replicate n (pos 0); bound = b }) (record { coefficients = xs; bound = b })
-alike-padded n xs b = record { coefficient = item-padded n xs; bound = refl }
+    (n : ℕ) (xs : List ℤ) (b : ℤ) (t : Bool)
+    → Alike (record { coefficients = xs ++ replicate n (pos 0); bound = b; strict = t }) (record { coefficients = xs; bound = b; strict = t })
+alike-padded n xs b t = record { coefficient = item-padded n xs; bound = refl; strict = refl }
 
 -- the test
 carry-agree :
@@ -54,7 +54,7 @@ alike-test k {r} {s} {x} {y} h g =
     (same-tests (coefficientsAgree k (r .coefficients) (x .coefficients)) (coefficientsAgree k (s .coefficients) (y .coefficients))
     (carry-agree k h g)
     (carry-agree k (alike-sym h) (alike-sym g)))
-    (ap₂ (boundPasses k) (h .bound) (g .bound))
+    (ap₂ (λ b d. boundPasses k b (r .strict) d (x .strict)) (h .bound) (g .bound) ∙ ap₂ (λ t u. boundPasses k (s .bound) t (y .bound) u) (h .strict) (g .strict))
 
 -- the truth of a row
 pub dot-items : (xs ys ps : List ℤ) → ((i : ℕ) → item xs i ≡ item ys i) → dot xs ps ≡ dot ys ps

@@ -6,10 +6,12 @@ pub mod Items
 pub mod Sizes
 pub mod ByteSizes
 pub mod Order
+pub mod Comparing
 pub mod All
 pub mod Test
 pub mod Alike
 pub mod Entries
+pub mod Strict
 pub mod SumLaws
 pub mod SumTest
 pub mod Soundness

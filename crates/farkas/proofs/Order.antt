@@ -2,10 +2,10 @@
 -- Each is a fact on naturals once the unknowns are split (Integers.antt). Assumes nothing.
 use mathlib.Core.Path.{_≡_}
 use Prim.Native.Nat.{ℕ, _≤_}
-use native.Mathlib.Nat.{le-of-mul-le-mul-left, mul-lt-mul-of-pos-left}
+use native.Mathlib.Nat.{le-of-mul-le-mul-left}
 use native.Mathlib.Omega.{arith}
 use lib.IntN.{ℤ, pos, _+ℤ_, _*ℤ_, *ℤ-comm}
-use lib.Signed.{_≤ℤ_, _<ℤ_}
+use lib.Signed.{_≤ℤ_}
 use Rattle.farkas.proofs.Integers.{split, by-parts, ≤-*}
 
 pub ≤-antisym : (a b : ℤ) → a ≤ℤ b → b ≤ℤ a → a ≡ b
@@ -21,10 +21,6 @@ pub ≤-times : (q : ℕ) (a b : ℤ) → a ≤ℤ b → (a *ℤ pos q) ≤ℤ (
 -- a factor of at least 1 cancels
 pub ≤-cancel : (k : ℕ) (a b : ℤ) → 1 ≤ k → (pos k *ℤ a) ≤ℤ (pos k *ℤ b) → a ≤ℤ b
 ≤-cancel k a b = rw (split a, split b) (simp by-parts (λ pk h. le-of-mul-le-mul-left {k = k} (omega arith) pk))
-
--- a number below 0 stays below 0 at a factor of at least 1
-pub <-times : (q : ℕ) (a : ℤ) → 1 ≤ q → a <ℤ pos 0 → (a *ℤ pos q) <ℤ pos 0
-<-times q a = rw (split a) (simp by-parts (λ pq h. omega (arith, mul-lt-mul-of-pos-left {k = q} h pq)))
 
 -- a row of zeros adds nothing, however often
 pub plus-nothing : (s : ℤ) (m : ℕ) → s ≡ s +ℤ pos m *ℤ pos 0

@@ -1,25 +1,29 @@
 -- What rows and proofs promise: all that the crates above may use of this crate, beside its definitions (specs/) and the general laws on
--- lists, whole numbers, bits and arrays (All, Integers, Order, Bits, Fill), which say nothing of rows.
+-- lists, whole numbers, bits and arrays (All, Integers, Order, Comparing, Bits, Fill), which say nothing of rows.
 --
 -- The functions (src/lib.rt), each an equation. The sums are the row of what the lent slice holds and of the bound beside it:
 --   add_row sums b m shift words at n    leaves addRow sums m (onward shift (rowIn words at n))                   where Spare m sums
 --   add_rates sums m words at n          leaves addRow sums m (onChange (rowIn words at n)), the bound as it was
 --   add_one sums unknown m               leaves the sums with m more at one unknown
---   judge sums b k shift words at n      has the number sumsTest k sums (onward shift (rowIn words at n)); passed, the sums are all 0
+--   strict_after before m strict         ≡ strictAfter before m strict: whether a strict row is among the summed
+--   judge sums b k shift words at n must has the number sumsTest k sums (onward shift (rowIn words at n)), the goal strict where it must
+--                                        be; passed, the sums are all 0
 --   judge_zero sums b                    has the number sumsTest 0 sums zeroRow; passed, the sums are all 0
+--   compare strict a b                   ≡ compared strict a b
 --   multiply_add x m y                   ≡ x +ℤ m *ℤ y                                                            where that fits 64 bits
 -- Below: numbers in bytes; rows may be held with zeros at the end; what entries sum to, in any order and entry by entry; the sums hold in 64
--- bits; the test gives 0 exactly when Farkas' condition holds; and what meets the condition is sound. Each law is proved where its name
--- stands after the sign =. Assumes nothing.
+-- bits; the test gives 0 exactly when Farkas' condition holds; what strict rows change in it; and what meets the condition is sound. Each
+-- law is proved where its name stands after the sign =. Assumes nothing.
 use mathlib.Core.Path.{_≡_}
 use mathlib.Core.Logic.{_↔_, _≢_, _⊎_}
+use mathlib.Core.Bool.{Bool, true, false}
 use mathlib.Core.List.{List, [], _∷_, _++_}
 use Prim.Native.Nat.{ℕ, _+_, _*_, _^_, _≤_, _<_}
 use lib.Dec.{T}
 use lib.IntN.{ℤ, pos, negsuc, negℤ, natAbs, _+ℤ_, _*ℤ_}
 use lib.ListN.{length, getD, set, drop, replicate}
-use Rattle.farkas.specs.Rows.{Row, Holds, Alike, item, rowOf, onward, onChange}
-use Rattle.farkas.specs.Farkas.{Entry, Proof, sumAt, boundSum, Agree, BoundMet, Meets, SumsOf, sameZ, plus, addRow, addEntry, summed, sumsTest, farkasTest}
+use Rattle.farkas.specs.Rows.{Row, Holds, Alike, item, rowOf, zeroRow, onward, onChange}
+use Rattle.farkas.specs.Farkas.{Entry, Proof, sumAt, boundSum, strictSum, Agree, BoundMet, SumsMeet, PlainMeet, Meets, SumsOf, sameZ, plus, addRow, addEntry, summed, sumsTest, farkasTest}
 use Rattle.farkas.specs.Sizes.{Bytes, Small, Within, Bounded}
 use Rattle.farkas.specs.Sums.{plusFrom, RoomAt, Spare}
 use Rattle.farkas.specs.Lists.{All}
@@ -31,6 +35,7 @@ use Rattle.farkas.proofs.Sizes as sizes
 use Rattle.farkas.proofs.ByteSizes as bytes
 use Rattle.farkas.proofs.SumLaws as sums
 use Rattle.farkas.proofs.Test as test
+use Rattle.farkas.proofs.Strict as strict
 use Rattle.farkas.proofs.Soundness as soundness
 
 -- Numbers of four bytes: the first byte of what is left
@@ -39,8 +44,8 @@ first-byte = words.first-byte
 
 -- Rows alike serve alike. The code holds sums with a number for each unknown, the definitions hold a row with as many as it has
 pub alike-padded :
-    (n : ℕ) (xs : List ℤ) (b : ℤ)
-    → Alike (record { coefficients = xs ++ replicate n (pos 0); bound = b }) (record { coefficients = xs; bound = b })
+    (n : ℕ) (xs : List ℤ) (b : ℤ) (t : Bool)
+    → Alike (record { coefficients = xs ++ replicate n (pos 0); bound = b; strict = t }) (record { coefficients = xs; bound = b; strict = t })
 alike-padded = alike.alike-padded
 
 pub alike-sums : {hypotheses : List Row} {es : List Entry} {r s : Row} → Alike r s → SumsOf hypotheses es r → SumsOf hypotheses es s
@@ -131,7 +136,7 @@ pub room-before : {k at n : ℕ} {sums : List ℤ} (to : ℕ) (m : ℤ) (xs : Li
 room-before = sums.room-before
 
 -- Rows of few coefficients, added one coefficient after the other: one coefficient past zeros, and one at v of each half; −1 is 1 taken
--- away, and a bound of 0 leaves the bound
+-- away, a bound of 0 leaves the bound, and a row that is not strict leaves sums that are not
 pub plus-onward : (to m : ℕ) (sums xs : List ℤ) → to + length xs ≤ length sums → plus m sums (replicate to (pos 0) ++ xs) ≡ plusFrom to (pos m) sums xs
 plus-onward = sums.plus-onward
 
@@ -143,6 +148,9 @@ less-one = sums.less-one
 
 pub no-bound : (b : ℤ) (m : ℕ) → b ≡ b +ℤ pos m *ℤ pos 0
 no-bound = sums.no-bound
+
+pub add-plain : (sums : List ℤ) (b : ℤ) (m : ℕ) (r : Row) → r .strict ≡ false → rowOf (plus m sums (r .coefficients)) (b +ℤ pos m *ℤ r .bound) ≡ addRow (rowOf sums b) m r
+add-plain = sums.add-plain
 
 -- The test's numbers: 0 exactly where Farkas' condition is met, 11 exactly where all sums agree and the bound fails, and else 10
 pub same-means : (a b : ℤ) → T (sameZ a b) ↔ (a ≡ b)
@@ -158,13 +166,33 @@ ten-means = entries.ten-means
 
 pub eleven-means :
     (hypotheses : List Row) (goal : Row) (p : Proof)
-    → (farkasTest hypotheses goal p ≡ 11) ↔ (Agree (p .k) (sumAt hypotheses (p .entries)) (goal .coefficients) × (¬ BoundMet (p .k) (boundSum hypotheses (p .entries)) (goal .bound)))
+    → (farkasTest hypotheses goal p ≡ 11) ↔ (Agree (p .k) (sumAt hypotheses (p .entries)) (goal .coefficients) × (¬ BoundMet (p .k) (boundSum hypotheses (p .entries)) (strictSum hypotheses (p .entries)) (goal .bound) (goal .strict)))
 eleven-means = entries.eleven-means
 
 pub only-three :
     (hypotheses : List Row) (goal : Row) (p : Proof)
     → (farkasTest hypotheses goal p ≡ 0) ⊎ ((farkasTest hypotheses goal p ≡ 10) ⊎ (farkasTest hypotheses goal p ≡ 11))
 only-three = entries.only-three
+
+-- Strict rows: at k = 0 a summed bound of 0 passes exactly with a strict entry; so does, for a strict goal at k from 1, a summed bound of k
+-- times its own; and where no hypothesis that is used is strict, nor the goal, the condition is 01's word for word
+pub zero-sum-strict : (sums : ℕ → ℤ) (strict : Bool) (goal : Row) → SumsMeet 0 sums (pos 0) strict goal ↔ (Agree 0 sums (goal .coefficients) × T strict)
+zero-sum-strict = strict.zero-sum-strict
+
+pub equal-sum-strict :
+    (k : ℕ) (sums : ℕ → ℤ) (strict : Bool) (goal : Row) → 1 ≤ k → goal .strict ≡ true
+    → SumsMeet k sums (pos k *ℤ goal .bound) strict goal ↔ (Agree k sums (goal .coefficients) × T strict)
+equal-sum-strict = strict.equal-sum-strict
+
+pub meets-plain :
+    (hypotheses : List Row) (goal : Row) (p : Proof) → All (λ e. getD hypotheses (e .hypothesis) zeroRow .strict ≡ false) (p .entries) → goal .strict ≡ false
+    → Meets hypotheses goal p ↔ PlainMeet (p .k) (sumAt hypotheses (p .entries)) (boundSum hypotheses (p .entries)) goal
+meets-plain = strict.meets-plain
+
+pub none-used :
+    (hypotheses : List Row) (es : List Entry) → All (λ r. r .strict ≡ false) hypotheses
+    → All (λ e. getD hypotheses (e .hypothesis) zeroRow .strict ≡ false) es
+none-used = strict.none-used
 
 -- Soundness: where a proof meets the condition and its hypotheses hold, at any point x over any q from 1, its goal holds too; and with
 -- k = 0 they cannot all hold

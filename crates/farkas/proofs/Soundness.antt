@@ -3,16 +3,19 @@
 -- so do all the entries; what is left is the last comparison. Assumes nothing.
 use mathlib.Core.Path.{_≡_, sym, ap, _∙_}
 use mathlib.Core.Logic.{_↔_}
+use mathlib.Core.Bool.{Bool, true, false, not, _&&_, _||_}
 use mathlib.Core.List.{List, [], _∷_}
 use Prim.Native.Nat.{ℕ, _≤_}
 use native.Mathlib.Omega.{arith}
+use lib.Dec.{T}
 use lib.IntN.{ℤ, pos, _+ℤ_, _*ℤ_, +ℤ-idl, zero-*ℤ}
 use lib.ListN.{getD}
-use lib.Signed.{_≤ℤ_, ≤ℤ-refl, clashℤ}
-use Rattle.farkas.specs.Rows.{Row, Holds, item, dot, rowHolds, zeroRow}
-use Rattle.farkas.specs.Farkas.{Entry, Proof, Agree, plus, addRow, addEntry, addEntries, summed, SumsMeet, Meets}
-use Rattle.farkas.proofs.Integers.{split, by-parts, *-assoc, +-*, ≤-trans, ≤-+, ≤-*}
-use Rattle.farkas.proofs.Order.{plus-nothing, ≤-times, ≤-cancel, <-times}
+use lib.Signed.{≤ℤ-refl, clashℤ}
+use Rattle.farkas.specs.Rows.{Row, Holds, Compared, item, dot, rowHolds, zeroRow}
+use Rattle.farkas.specs.Farkas.{Entry, Proof, Agree, plus, strictAfter, addRow, addEntry, addEntries, summed, SumsMeet, Meets}
+use Rattle.farkas.proofs.Integers.{split, by-parts, *-assoc, +-*}
+use Rattle.farkas.proofs.Order.{plus-nothing}
+use Rattle.farkas.proofs.Comparing.{compared-means, compared-+, compared-*, compared-times, compared-cancel, compared-trans, compared-weaker}
 use Rattle.farkas.specs.Lists.{All}
 use Rattle.farkas.proofs.All.{all-at}
 use Rattle.farkas.proofs.Test.{item-plus}
@@ -45,22 +48,20 @@ dot-multiple k ss gs ps h =
 
 -- At a point x over q
 module _ (q : ℕ) (x : List ℤ) where
-  pub holds-means : (r : Row) → Holds q x r ↔ (dot (r .coefficients) x ≤ℤ (r .bound *ℤ pos q))
+  pub holds-means : (r : Row) → Holds q x r ↔ Compared (r .strict) (dot (r .coefficients) x) (r .bound *ℤ pos q)
   unfolding rowHolds
-  holds-means r = (λ t. record { le = t }, λ h. h .le)
+  holds-means r = compared-means (r .strict) (dot (r .coefficients) x) (r .bound *ℤ pos q)
 
   pub zero-row-holds : Holds q x zeroRow
   unfolding zeroRow dot
-  zero-row-holds = holds-means zeroRow .1 (rw (zero-*ℤ (pos q)) (≤ℤ-refl (pos 0)))
+  zero-row-holds = holds-means zeroRow .1 (record { most = rw (zero-*ℤ (pos q)) (≤ℤ-refl (pos 0)); below = λ t. absurd t })
 
   pub add-row-holds : (sums : Row) (m : ℕ) (r : Row) → Holds q x sums → Holds q x r → Holds q x (addRow sums m r)
-  unfolding addRow
+  unfolding addRow strictAfter
   add-row-holds sums m r s h =
       holds-means (addRow sums m r) .1
       (rw (dot-plus m (sums .coefficients) (r .coefficients) x, +-* (sums .bound) (pos m *ℤ r .bound) (pos q), *-assoc (pos m) (r .bound) (pos q))
-      (≤-+ (dot (sums .coefficients) x) (sums .bound *ℤ pos q) (pos m *ℤ dot (r .coefficients) x) (pos m *ℤ (r .bound *ℤ pos q))
-      (holds-means sums .0 s)
-      (≤-* m (dot (r .coefficients) x) (r .bound *ℤ pos q) (holds-means r .0 h))))
+      (compared-+ (holds-means sums .0 s) (compared-* m (holds-means r .0 h))))
 
   -- hypotheses that hold
   module _ (hypotheses : List Row) (holds : (i : ℕ) → Holds q x (getD hypotheses i zeroRow)) where
@@ -76,24 +77,35 @@ module _ (q : ℕ) (x : List ℤ) where
     summed-holds es = add-entries-holds es zeroRow zero-row-holds
 
   -- sums that hold and meet the condition
-  module _ (k : ℕ) (sums goal : Row) (meet : SumsMeet k (item (sums .coefficients)) (sums .bound) goal) (s : Holds q x sums) where
+  module _ (k : ℕ) (sums goal : Row) (meet : SumsMeet k (item (sums .coefficients)) (sums .bound) (sums .strict) goal) (s : Holds q x sums) where
     multiple : dot (sums .coefficients) x ≡ pos k *ℤ dot (goal .coefficients) x
     multiple = dot-multiple k (sums .coefficients) (goal .coefficients) x (meet .coefficients)
 
-    pub goal-holds : 1 ≤ k → Holds q x goal
-    goal-holds h =
+    -- a strict goal is met strictly by the sums, or else by its bound
+    one-strict : (strict must : Bool) → T must → T (strict || (must && not strict))
+    one-strict true must t = tt
+    one-strict false true t = tt
+    one-strict false false t = t
+
+    pub goal-holds : 1 ≤ q → 1 ≤ k → Holds q x goal
+    goal-holds positive h =
         holds-means goal .1
-        (≤-cancel k (dot (goal .coefficients) x) (goal .bound *ℤ pos q) h
+        (compared-cancel k h
         (rw (← multiple, ← *-assoc (pos k) (goal .bound) (pos q))
-        (≤-trans (dot (sums .coefficients) x) (sums .bound *ℤ pos q) ((pos k *ℤ goal .bound) *ℤ pos q)
-        (holds-means sums .0 s)
-        (≤-times q (sums .bound) (pos k *ℤ goal .bound) (meet .bound h)))))
+        (compared-weaker (one-strict (sums .strict) (goal .strict))
+        (compared-trans (holds-means sums .0 s) (compared-times q positive (meet .bound h))))))
+
+    -- at k = 0 the sums are strict, or else their bound is below 0: either way 0 would be below 0
+    nothing-left : (strict : Bool) → T (strict || not strict)
+    nothing-left true = tt
+    nothing-left false = tt
 
     pub none-there : 1 ≤ q → k ≡ 0 → ⊥
     none-there h e =
         let g = dot (goal .coefficients) x in
         let zero-sum : dot (sums .coefficients) x ≡ pos 0 = multiple ∙ ap (λ n. pos n *ℤ g) e ∙ zero-*ℤ g in
-        clashℤ (<-times q (sums .bound) h (meet .below e)) (rw zero-sum at (holds-means sums .0 s))
+        let w = compared-trans (holds-means sums .0 s) (compared-times q h (meet .below e)) in
+        clashℤ (rw (zero-sum, zero-*ℤ (pos q)) at (w .below (nothing-left (sums .strict)))) (≤ℤ-refl (pos 0))
 
 -- A proof that meets the condition, at a point x over q where its hypotheses hold: at every place, or as a list
 module _ (hypotheses : List Row) (goal : Row) (p : Proof) (meets : Meets hypotheses goal p) (x : List ℤ) (q : ℕ) (positive : 1 ≤ q) where
@@ -103,7 +115,7 @@ module _ (hypotheses : List Row) (goal : Row) (p : Proof) (meets : Meets hypothe
       let sums = summed hypotheses (p .entries) in
       let met = held-meets (p .k) goal (sums-worked hypotheses (p .entries)) .1 meets in
       let s = summed-holds q x hypotheses h (p .entries) in
-      (goal-holds q x (p .k) sums goal met s, none-there q x (p .k) sums goal met s positive)
+      (goal-holds q x (p .k) sums goal met s positive, none-there q x (p .k) sums goal met s positive)
 
   pub sound : All (Holds q x) hypotheses → (1 ≤ p .k → Holds q x goal) × (p .k ≡ 0 → ⊥)
   sound h = sound-at (all-at zeroRow (zero-row-holds q x) h)

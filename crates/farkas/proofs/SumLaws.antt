@@ -1,5 +1,6 @@
 -- Laws of sums in a list: how a loop adds one number after another, and that a row so added is a row added (`plus`). Assumes nothing.
 use mathlib.Core.Path.{_≡_, refl, sym, ap, ap₂, _∙_, subst}
+use mathlib.Core.Bool.{Bool, false}
 use mathlib.Core.List.{List, [], _∷_, _++_, map}
 use Prim.Native.Nat.{ℕ, zero, suc, _+_, _*_, _-_, _^_, _≤_, _<_}
 use native.Mathlib.Nat.{mul-le-mul-left}
@@ -10,11 +11,12 @@ use lib.ListN.{length, getD, set, replicate, length-append, length-map, length-s
 use mir.Syntax.{w64}
 use mir.Val.{SFits, toZ, ofZ}
 use mir.Facts.{toZ-ofZ}
-use Rattle.farkas.specs.Farkas.{plus}
+use Rattle.farkas.specs.Farkas.{counts, strictAfter, plus, addRow}
 use Rattle.farkas.proofs.Bits.{read-back}
 use Rattle.farkas.proofs.Integers.{split, by-parts}
+use Rattle.farkas.proofs.Comparing.{counts-never}
 use Rattle.farkas.specs.Words.{signedAt, numbersAt}
-use Rattle.farkas.specs.Rows.{rowOf, item}
+use Rattle.farkas.specs.Rows.{Row, rowOf, strictly, item}
 use Rattle.farkas.specs.Sums.{plusFrom, RoomAt, Spare}
 
 -- where nothing was added yet
@@ -242,3 +244,9 @@ less-one to m sums = sym (plus-negative to (pos m) sums (pos 1 ∷ []))
 -- a row whose bound is 0 leaves the bound
 pub no-bound : (b : ℤ) (m : ℕ) → b ≡ b +ℤ pos m *ℤ pos 0
 no-bound b m = sym (nothing b m)
+
+-- a row that is not strict, added to sums that are not
+pub add-plain : (sums : List ℤ) (b : ℤ) (m : ℕ) (r : Row) → r .strict ≡ false → rowOf (plus m sums (r .coefficients)) (b +ℤ pos m *ℤ r .bound) ≡ addRow (rowOf sums b) m r
+unfolding addRow strictAfter
+add-plain sums b m r h =
+    ap (λ (t : Bool). strictly t (rowOf (plus m sums (r .coefficients)) (b +ℤ pos m *ℤ r .bound))) (sym (ap (counts m) h ∙ counts-never m))

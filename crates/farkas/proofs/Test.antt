@@ -16,6 +16,7 @@ use Rattle.farkas.specs.Rows.{Row, item}
 use Rattle.farkas.specs.Lists.{every}
 use Rattle.farkas.specs.Farkas.{Agree, BoundMet, plus, sameZ, coefficientsAgree, boundPasses, sumsTest, SumsMeet}
 use Rattle.farkas.proofs.Order.{≤-antisym, ≤-of-≡, plus-nothing}
+use Rattle.farkas.proofs.Comparing.{compared-means}
 
 -- an unknown's sum after one more row
 pub item-plus : (m : ℕ) (ss xs : List ℤ) (i : ℕ) → item (plus m ss xs) i ≡ item ss i +ℤ pos m *ℤ item xs i
@@ -82,10 +83,14 @@ agree-means k ss gs = told-passes (coefficientsAgree k ss gs) (λ i. item ss i �
 pub differ-means : (k : ℕ) (ss gs : List ℤ) → T (not (coefficientsAgree k ss gs)) ↔ ((i : ℕ) × (item ss i ≢ pos k *ℤ item gs i))
 differ-means k ss gs = told-fails (coefficientsAgree k ss gs) (λ i. item ss i ≡ pos k *ℤ item gs i) (agree-told k ss gs)
 
-pub bound-means : (k : ℕ) (s g : ℤ) → T (boundPasses k s g) ↔ BoundMet k s g
+pub bound-means : (k : ℕ) (s : ℤ) (strict : Bool) (g : ℤ) (must : Bool) → T (boundPasses k s strict g must) ↔ BoundMet k s strict g must
 unfolding boundPasses
-bound-means zero s g = (λ t. (λ h. absurd (omega arith), λ e. record { lt = t }), λ h. h .1 refl .lt)
-bound-means (suc k) s g = (λ t. (λ h. record { le = t }, λ e. absurd (omega arith)), λ h. h .0 (omega arith) .le)
+bound-means zero s strict g must =
+    let m = compared-means (not strict) s (pos 0) in
+    (λ t. (λ h. absurd (omega arith), λ e. m .0 t), λ h. m .1 (h .1 refl))
+bound-means (suc k) s strict g must =
+    let m = compared-means (must && not strict) s (pos (suc k) *ℤ g) in
+    (λ t. (λ h. m .0 t, λ e. absurd (omega arith)), λ h. m .1 (h .0 (omega arith)))
 
 -- the number that the two tests pick
 abbrev picked : Bool → Bool → ℕ
@@ -117,15 +122,15 @@ module _ (k : ℕ) (sums goal : Row) where
   agrees = coefficientsAgree k (sums .coefficients) (goal .coefficients)
 
   abbrev passes : Bool
-  passes = boundPasses k (sums .bound) (goal .bound)
+  passes = boundPasses k (sums .bound) (sums .strict) (goal .bound) (goal .strict)
 
   agrees-means : T agrees ↔ Agree k (item (sums .coefficients)) (goal .coefficients)
   agrees-means = agree-means k (sums .coefficients) (goal .coefficients)
 
-  passes-means : T passes ↔ BoundMet k (sums .bound) (goal .bound)
-  passes-means = bound-means k (sums .bound) (goal .bound)
+  passes-means : T passes ↔ BoundMet k (sums .bound) (sums .strict) (goal .bound) (goal .strict)
+  passes-means = bound-means k (sums .bound) (sums .strict) (goal .bound) (goal .strict)
 
-  pub zero-means : (sumsTest k sums goal ≡ 0) ↔ SumsMeet k (item (sums .coefficients)) (sums .bound) goal
+  pub zero-means : (sumsTest k sums goal ≡ 0) ↔ SumsMeet k (item (sums .coefficients)) (sums .bound) (sums .strict) goal
   unfolding sumsTest
   zero-means =
       Iff·trans (Iff·trans (picks-zero agrees passes) (Iff·and agrees-means passes-means))
@@ -135,7 +140,7 @@ module _ (k : ℕ) (sums goal : Row) where
   unfolding sumsTest
   ten-means = Iff·trans (picks-ten agrees passes) (differ-means k (sums .coefficients) (goal .coefficients))
 
-  pub eleven-means : (sumsTest k sums goal ≡ 11) ↔ (Agree k (item (sums .coefficients)) (goal .coefficients) × (¬ BoundMet k (sums .bound) (goal .bound)))
+  pub eleven-means : (sumsTest k sums goal ≡ 11) ↔ (Agree k (item (sums .coefficients)) (goal .coefficients) × (¬ BoundMet k (sums .bound) (sums .strict) (goal .bound) (goal .strict)))
   unfolding sumsTest
   eleven-means = Iff·trans (picks-eleven agrees passes) (Iff·and agrees-means (Iff·trans (T-not passes, not-T passes) (Iff·not passes-means)))
 

@@ -1,7 +1,7 @@
 -- Numbers as rows have them in bytes (01, Sheet): four bytes to a number. Assumes nothing.
-use mathlib.Core.Bool.{cond}
+use mathlib.Core.Bool.{false, cond}
 use mathlib.Core.List.{List, [], _∷_}
-use Prim.Native.Nat.{ℕ, zero, suc, _+_, _*_, _-_, _^_}
+use Prim.Native.Nat.{ℕ, zero, suc, _+_, _*_, _-_, _^_, _≤_, _<_}
 use lib.Dec.{ltb}
 use lib.IntN.{ℤ, pos, negsuc}
 use lib.ListN.{length, take, drop}
@@ -24,6 +24,10 @@ unfoldable pub numbersAt : List ℕ → ℕ → ℕ → List ℤ
 numbersAt s p zero = []
 numbersAt s p (suc k) = signedAt s p ∷ numbersAt s (p + 4) k
 
--- the row of so many coefficients at a place
+-- so many numbers stand at a place, among bytes that are not many
+abbrev pub NumbersIn : List ℕ → ℕ → ℕ → Type 0
+NumbersIn s p count = (p + 4 * count ≤ length s) × (length s < 2 ^ 20)
+
+-- the row of so many coefficients at a place; it is not strict
 unfoldable pub rowIn : List ℕ → ℕ → ℕ → Row
-rowIn s p count = record { coefficients = numbersAt s p count; bound = signedAt s (p + 4 * count) }
+rowIn s p count = record { coefficients = numbersAt s p count; bound = signedAt s (p + 4 * count); strict = false }

@@ -1,25 +1,31 @@
-// Tries Farkas' test on the three proofs of document 01's certificate C, on a flow with time, and at the ends of its ranges. A line for
-// each: the sums, the goal, k, and the number that the test finds.
+// Tries Farkas' test on the three proofs of document 01's certificate C, on a flow with time, at the ends of its ranges, and on strict rows
+// (document 02, order 8). A line for each: the sums, the goal, k, and the number that the test finds; sums with a strict row among the summed
+// and goals that must be met strictly are marked.
 // T has one unknown x: start x ≤ 5 and −x ≤ −5, invariant x ≤ 10, rates 0 to 2, unsafe −x ≤ −11. C's region is x ≤ 10. A flow has the
 // unknowns x, x' and d. Rows stand in bytes as in a sheet, four to a number, the bound last.
+use farkas::Bound;
 use farkas::Verdict;
+use farkas::strict_after;
 use farkas::words::signed_word;
 use libc::STDOUT_FILENO;
 ghost use mathlib.Core.Path.{_≡_};
 ghost use Prim.Native.Nat.{_+_, _*_, _^_, _≤_, _<_};
 ghost use lib.IntN.{pos, natAbs};
 ghost use lib.ListN.{length, replicate};
+ghost use Rattle.farkas.specs.Words.{NumbersIn};
 ghost use Rattle.farkas.specs.Rows.{rowOf};
 ghost use Rattle.farkas.specs.Farkas.{numberOf};
 ghost use Rattle.farkas.specs.Sizes.{Within};
 
-// Rows of one coefficient: the region x ≤ 10, which is the invariant too; the unsafe row −x ≤ −11; 0 ≤ 0; −x ≤ −5; −x ≤ −1; and the row
-// with the lowest numbers, −2^31.
+// Rows of one coefficient: the region x ≤ 10, which is the invariant too; the unsafe row −x ≤ −11; 0 ≤ 0; −x ≤ −10; −x ≤ −5; −x ≤ −1; and
+// the row with the lowest numbers, −2^31.
 const REGION: [u8; 8] = [0, 0, 0, 1, 0, 0, 0, 10];
 
 const UNSAFE: [u8; 8] = [255, 255, 255, 255, 255, 255, 255, 245];
 
 const ZEROS: [u8; 8] = [0; 8];
+
+const FROM_TEN: [u8; 8] = [255, 255, 255, 255, 255, 255, 255, 246];
 
 const FROM_FIVE: [u8; 8] = [255, 255, 255, 255, 255, 255, 255, 251];
 
@@ -44,7 +50,7 @@ fn entries(
 ) -> i64
     requires { ⌜ Within (before * 2 ^ 55) (rowOf (now sums) bound) ⌝ }
     requires { ⌜ (before + count ≤ 128) × (m < 2 ^ 24) ⌝ }
-    requires { ⌜ (shift + n ≤ length (now sums)) × ((4 * (n + 1) ≤ length (now words)) × (length (now words) < 2 ^ 20)) ⌝ }
+    requires { ⌜ (shift + n ≤ length (now sums)) × NumbersIn (now words) 0 (n + 1) ⌝ }
     ensures { λ r. ⌜ Within ((before + count) * 2 ^ 55) (rowOf (now (sums .exit)) r) ⌝ }
 {
     let mut sum = bound;
@@ -60,7 +66,7 @@ fn entries(
 fn first_entries(sums: &mut [i64], count: u32, m: u32, shift: usize, words: &[u8], n: usize) -> i64
     requires { ⌜ now sums ≡ replicate (length (now sums)) (pos 0) ⌝ }
     requires { ⌜ (count ≤ 128) × (m < 2 ^ 24) ⌝ }
-    requires { ⌜ (shift + n ≤ length (now sums)) × ((4 * (n + 1) ≤ length (now words)) × (length (now words) < 2 ^ 20)) ⌝ }
+    requires { ⌜ (shift + n ≤ length (now sums)) × NumbersIn (now words) 0 (n + 1) ⌝ }
     ensures { λ r. ⌜ Within (count * 2 ^ 55) (rowOf (now (sums .exit)) r) ⌝ }
 {
     entries(sums, 0, 0, count, m, shift, words, n)
@@ -80,7 +86,7 @@ fn two_entries(sums: &mut [i64], m: u32, words: &[u8], more: &[u8]) -> i64
 fn entries_on_rates(sums: &mut [i64], count: u32, m: u32, words: &[u8], n: usize)
     requires { ⌜ now sums ≡ replicate (length (now sums)) (pos 0) ⌝ }
     requires { ⌜ (count ≤ 128) × (m < 2 ^ 24) ⌝ }
-    requires { ⌜ (n + n + 1 ≤ length (now sums)) × ((4 * (n + 1) ≤ length (now words)) × (length (now words) < 2 ^ 20)) ⌝ }
+    requires { ⌜ (n + n + 1 ≤ length (now sums)) × NumbersIn (now words) 0 (n + 1) ⌝ }
     ensures { λ _. ⌜ Within (count * 2 ^ 55) (rowOf (now (sums .exit)) (pos 0)) ⌝ }
 {
     let mut i: u32 = 0;
@@ -129,7 +135,7 @@ fn print_sums(sums: &[i64], bound: i64) {
 
 // The coefficient of an unknown in a row that stands on the unknowns from `shift` on.
 fn coefficient(unknown: usize, shift: usize, words: &[u8], n: usize) -> i64
-    requires { ⌜ (4 * (n + 1) ≤ length (now words)) × (length (now words) < 2 ^ 20) ⌝ }
+    requires { ⌜ NumbersIn (now words) 0 (n + 1) ⌝ }
 {
     if unknown < shift {
         return 0;
@@ -142,7 +148,7 @@ fn coefficient(unknown: usize, shift: usize, words: &[u8], n: usize) -> i64
 
 // Writes the goal: its coefficients at so many unknowns, and its bound.
 fn print_goal(width: usize, shift: usize, words: &[u8], n: usize)
-    requires { ⌜ (4 * (n + 1) ≤ length (now words)) × (length (now words) < 2 ^ 20) ⌝ }
+    requires { ⌜ NumbersIn (now words) 0 (n + 1) ⌝ }
 {
     print(b", goal");
     let mut i: usize = 0;
@@ -172,24 +178,62 @@ fn print_verdict(v: Verdict) {
     print(b"\n");
 }
 
-// Tests sums with this k against a goal on the unknowns from `shift` on, and writes the line.
-fn try_sums(name: &[u8], sums: &mut [i64], bound: i64, k: u32, shift: usize, words: &[u8], n: usize)
-    requires { ⌜ (shift + n ≤ length (now sums)) × ((4 * (n + 1) ≤ length (now words)) × (length (now words) < 2 ^ 20)) ⌝ }
+// A summed bound without a strict row among the summed.
+fn plain(value: i64) -> Bound {
+    Bound {
+        value,
+        strict: false,
+    }
+}
+
+// Writes the mark of strict sums, or of a goal that must be met strictly.
+fn print_mark(strict: bool) {
+    if strict {
+        print(b" strict");
+    }
+}
+
+// Tests sums with this k against a goal on the unknowns from `shift` on, strict where it must be, and writes the line.
+fn try_marked(
+    name: &[u8],
+    sums: &mut [i64],
+    bound: Bound,
+    k: u32,
+    shift: usize,
+    words: &[u8],
+    n: usize,
+    must: bool,
+)
+    requires { ⌜ (shift + n ≤ length (now sums)) × NumbersIn (now words) 0 (n + 1) ⌝ }
 {
     print(name);
-    print_sums(sums, bound);
+    print_sums(sums, bound.value);
+    print_mark(bound.strict);
     print_goal(sums.len(), shift, words, n);
+    print_mark(must);
     print(b", k ");
     io::print_decimal(STDOUT_FILENO, k as u64);
-    print_verdict(farkas::judge(sums, bound, k, shift, words, 0, n));
+    print_verdict(farkas::judge(sums, bound, k, shift, words, 0, n, must));
+}
+
+// The same where nothing is strict.
+fn try_sums(name: &[u8], sums: &mut [i64], bound: i64, k: u32, shift: usize, words: &[u8], n: usize)
+    requires { ⌜ (shift + n ≤ length (now sums)) × NumbersIn (now words) 0 (n + 1) ⌝ }
+{
+    try_marked(name, sums, plain(bound), k, shift, words, n, false);
 }
 
 // The same where the goal is 0 ≤ 0 and k is 0.
-fn try_zero(name: &[u8], sums: &[i64], bound: i64) {
+fn try_zero_marked(name: &[u8], sums: &[i64], bound: Bound) {
     print(name);
-    print_sums(sums, bound);
+    print_sums(sums, bound.value);
+    print_mark(bound.strict);
     print(b", goal 0 bound 0, k 0");
     print_verdict(farkas::judge_zero(sums, bound));
+}
+
+fn try_zero(name: &[u8], sums: &[i64], bound: i64) {
+    try_zero_marked(name, sums, plain(bound));
 }
 
 // C's first proof: k 1, entry 2:1. Hypotheses: the start rows, the invariant. Goal: the region. The test passes, so all sums are 0 again;
@@ -231,8 +275,12 @@ fn unsafe_proof() {
 // No entries with k 0: the sum 0 is not below 0. That the number is 11 is proved, not only tried.
 fn none_refused() {
     let mut sums = [0i64; 1];
-    check::expect(number(farkas::judge_zero(&sums, 0)) == 11);
-    check::expect(number(farkas::judge(&mut sums, 0, 0, 0, &ZEROS, 0, 1)) == 11);
+    let none = Bound {
+        value: 0,
+        strict: false,
+    };
+    check::expect(number(farkas::judge_zero(&sums, none)) == 11);
+    check::expect(number(farkas::judge(&mut sums, none, 0, 0, &ZEROS, 0, 1, false)) == 11);
 }
 
 // The same, tried.
@@ -350,6 +398,80 @@ fn time() {
     );
 }
 
+// m times x ≤ 10, strict or not, and a row more that is not, with k 0: against 0 ≤ 0.
+fn try_clash(name: &[u8], strict: bool, m: u32, more: &[u8])
+    requires { ⌜ (m < 2 ^ 24) × ((8 ≤ length (now more)) × (length (now more) < 2 ^ 20)) ⌝ }
+{
+    let mut sums = [0i64; 1];
+    let value = two_entries(&mut sums, m, &REGION, more);
+    let first = strict_after(false, m, strict);
+    let strict = strict_after(first, 1, false);
+    try_zero_marked(name, &sums, Bound { value, strict });
+}
+
+// A summed bound of 0 with k 0 passes with a strict entry only, and an entry with the multiplier 0 is none; below 0 it passes in any case,
+// and above 0 in none.
+fn strict_clashes() {
+    try_clash(b"sum 0, a strict entry", true, 1, &FROM_TEN);
+    try_clash(b"sum 0, no strict entry", false, 1, &FROM_TEN);
+    try_clash(b"sum 0, a strict row 0 times", true, 0, &ZEROS);
+    try_clash(b"sum -1, a strict entry", true, 1, &UNSAFE);
+    try_clash(
+        b"sum 1, a strict entry",
+        true,
+        1,
+        b"\xff\xff\xff\xff\xff\xff\xff\xf7",
+    );
+    let mut sums = [0i64; 1];
+    let bound = Bound {
+        value: 0,
+        strict: true,
+    };
+    try_marked(
+        b"sum 0, a strict entry, a row of zeros",
+        &mut sums,
+        bound,
+        0,
+        0,
+        &ZEROS,
+        1,
+        false,
+    );
+}
+
+// x ≤ 10 three times, strict or not, against a row with k 3 that must be met strictly or need not.
+fn try_strict(name: &[u8], strict: bool, words: &[u8], must: bool)
+    requires { ⌜ (8 ≤ length (now words)) × (length (now words) < 2 ^ 20) ⌝ }
+{
+    let mut sums = [0i64; 1];
+    let value = first_entries(&mut sums, 1, 3, 0, &REGION, 1);
+    let strict = strict_after(false, 3, strict);
+    try_marked(
+        name,
+        &mut sums,
+        Bound { value, strict },
+        3,
+        0,
+        words,
+        1,
+        must,
+    );
+}
+
+// A strict goal is met by a summed bound below k times its own, or by an equal one with a strict entry; a goal that is not strict as ever.
+fn strict_goals() {
+    try_strict(b"strict goal, a strict entry", true, &REGION, true);
+    try_strict(b"strict goal, no strict entry", false, &REGION, true);
+    try_strict(b"strict goal x < 11", false, b"\0\0\0\x01\0\0\0\x0b", true);
+    try_strict(
+        b"strict goal x < 9, a strict entry",
+        true,
+        b"\0\0\0\x01\0\0\0\x09",
+        true,
+    );
+    try_strict(b"goal not strict, a strict entry", true, &REGION, false);
+}
+
 fn main() {
     start_proof();
     flow_proof();
@@ -360,4 +482,6 @@ fn main() {
     coefficients();
     extremes();
     time();
+    strict_clashes();
+    strict_goals();
 }

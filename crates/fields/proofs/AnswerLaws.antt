@@ -26,10 +26,10 @@ pub next-refused : {A : Type 0} (a : A) {x : Next} {n p : ℕ} → x ≡ next.Re
 unfolding gotAs
 next-refused a e = ap (gotAs a) e
 
-pub rows-value : (s : List ℕ) (n at : ℕ) {f : Field} {v p : ℕ} → f ≡ field.Value v p → gotRows s n at f ≡ got (rowsFrom s n (at + 1) v) p
+pub rows-value : (s : List ℕ) (version n at : ℕ) {f : Field} {v p : ℕ} → f ≡ field.Value v p → gotRows s version n at f ≡ got (rowsFrom s version n (at + 1) v) p
 unfolding gotRows
-rows-value s n at e = ap (gotRows s n at) e
+rows-value s version n at e = ap (gotRows s version n at) e
 
-pub rows-refused : (s : List ℕ) (n at : ℕ) {f : Field} {v p : ℕ} → f ≡ field.Refused v p → gotRows s n at f ≡ refused v p
+pub rows-refused : (s : List ℕ) (version n at : ℕ) {f : Field} {v p : ℕ} → f ≡ field.Refused v p → gotRows s version n at f ≡ refused v p
 unfolding gotRows
-rows-refused s n at e = ap (gotRows s n at) e
+rows-refused s version n at e = ap (gotRows s version n at) e

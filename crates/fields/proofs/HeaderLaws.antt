@@ -1,6 +1,6 @@
 -- A sheet's header by the bytes of the sheet: its length, its version and its kind, each right or refused. Assumes nothing.
 use mathlib.Core.Path.{_≡_, refl, sym, ap, _∙_}
-use mathlib.Core.Bool.{true, false}
+use mathlib.Core.Bool.{Bool, true, false}
 use mathlib.Core.List.{List}
 use Prim.Native.Nat.{ℕ, _+_, _*_, _≤_, _<_}
 use native.Mathlib.Decide.{decLe}
@@ -8,6 +8,7 @@ use native.Mathlib.Omega.{arith}
 use lib.Dec.{eqb}
 use lib.ListN.{length, getD, take, drop}
 use borrow.Author.Tests.{le-leb, lt-leb, eq-eqb, ne-eqb}
+use Rattle.formats.specs.Versions.{versionFits, kindFits}
 use Rattle.formats.specs.Reading.{got, refused, Reader, andThen, _>>_, give, bigEndian, u8, u16, passing, must, lengthRight, sized, header, finished}
 use Rattle.formats.proofs.FieldLaws.{field-got, byte-at, two-at}
 use Rattle.formats.proofs.Gives.{bind-got, then-got}
@@ -45,6 +46,15 @@ pub equal-out : (x v number p next : ℕ) → (v ≡ x → ⊥) → passing (λ 
 unfolding passing
 equal-out x v number p next h = rw (ne-eqb v x h) refl
 
+-- a field that must pass a test
+passes-in : (test : ℕ → Bool) (v number p next : ℕ) → test v ≡ true → passing test number p (got v next) ≡ got v next
+unfolding passing
+passes-in test v number p next h = rw h refl
+
+passes-out : (test : ℕ → Bool) (v number p next : ℕ) → test v ≡ false → passing test number p (got v next) ≡ refused number p
+unfolding passing
+passes-out test v number p next h = rw h refl
+
 pub byte-got : (s : List ℕ) (p : ℕ) → p < length s → u8 s p ≡ got (getD s p 0) (p + 1)
 unfolding u8
 byte-got s p h = field-got 1 s p (omega arith) ∙ ap (λ (v : ℕ). got v (p + 1)) (byte-at s p h)
@@ -73,36 +83,36 @@ module _ (s : List ℕ) (kind : ℕ) where
     kind-read : u8 s 3 ≡ got (getD s 3 0) 4
     kind-read = let h = right-least s right in byte-got s 3 (omega arith)
 
-    pub header-version : (getD s 2 0 ≡ 1 → ⊥) → header kind s 0 ≡ refused 2 2
+    pub header-version : versionFits kind (getD s 2 0) ≡ false → header kind s 0 ≡ refused 2 2
     unfolding header must
     header-version h =
         then-got sized _ s 0 size-right
         (then-got u16 _ s 0 length-passed
-        (bind-refused (must (λ v. eqb v 1) 2 u8) _ s 2
-        (ap (passing (λ v. eqb v 1) 2 2) version-read ∙ equal-out 1 (getD s 2 0) 2 2 3 h)))
+        (bind-refused (must (versionFits kind) 2 u8) _ s 2
+        (ap (passing (versionFits kind) 2 2) version-read ∙ passes-out (versionFits kind) (getD s 2 0) 2 2 3 h)))
 
-    module _ (one : getD s 2 0 ≡ 1) where
-      version-right : must (λ v. eqb v 1) 2 u8 s 2 ≡ got (getD s 2 0) 3
+    module _ (fits : versionFits kind (getD s 2 0) ≡ true) where
+      version-right : must (versionFits kind) 2 u8 s 2 ≡ got (getD s 2 0) 3
       unfolding must
-      version-right = ap (passing (λ v. eqb v 1) 2 2) version-read ∙ equal-in 1 (getD s 2 0) 2 2 3 one
+      version-right = ap (passing (versionFits kind) 2 2) version-read ∙ passes-in (versionFits kind) (getD s 2 0) 2 2 3 fits
 
-      pub header-kind : (getD s 3 0 ≡ kind → ⊥) → header kind s 0 ≡ refused 3 3
+      pub header-kind : kindFits kind (getD s 3 0) ≡ false → header kind s 0 ≡ refused 3 3
       unfolding header must
       header-kind h =
           then-got sized _ s 0 size-right
           (then-got u16 _ s 0 length-passed
-          (bind-got (must (λ v. eqb v 1) 2 u8) _ s 2 version-right
-          (then-refused (must (λ v. eqb v kind) 3 u8) _ s 3
-          (ap (passing (λ v. eqb v kind) 3 3) kind-read ∙ equal-out kind (getD s 3 0) 3 3 4 h))))
+          (bind-got (must (versionFits kind) 2 u8) _ s 2 version-right
+          (then-refused (must (kindFits kind) 3 u8) _ s 3
+          (ap (passing (kindFits kind) 3 3) kind-read ∙ passes-out (kindFits kind) (getD s 3 0) 3 3 4 h))))
 
-      pub header-right : getD s 3 0 ≡ kind → header kind s 0 ≡ got (getD s 2 0) 4
+      pub header-right : kindFits kind (getD s 3 0) ≡ true → header kind s 0 ≡ got (getD s 2 0) 4
       unfolding header must give
       header-right h =
           then-got sized _ s 0 size-right
           (then-got u16 _ s 0 length-passed
-          (bind-got (must (λ v. eqb v 1) 2 u8) _ s 2 version-right
-          (then-got (must (λ v. eqb v kind) 3 u8) _ s 3
-          (ap (passing (λ v. eqb v kind) 3 3) kind-read ∙ equal-in kind (getD s 3 0) 3 3 4 h) refl)))
+          (bind-got (must (versionFits kind) 2 u8) _ s 2 version-right
+          (then-got (must (kindFits kind) 3 u8) _ s 3
+          (ap (passing (kindFits kind) 3 3) kind-read ∙ passes-in (kindFits kind) (getD s 3 0) 3 3 4 h) refl)))
 
 -- the end
 pub finished-right : (s : List ℕ) (p : ℕ) → length s ≤ p → finished s p ≡ got tt p

@@ -4,14 +4,14 @@ use mathlib.Core.Path.{_≡_, refl, ap, _∙_}
 use mathlib.Core.List.{List, [], _∷_}
 use Prim.Native.Nat.{ℕ, zero, suc, _+_, _*_, _-_, _/_, _≤_, _<_}
 use native.Mathlib.Decide.{decLe}
-use native.Mathlib.Nat.{mul-le-mul-left, le-trans}
 use native.Mathlib.Omega.{arith}
 use lib.ListN.{length}
 use Rattle.formats.specs.Reading.{got, refused, Reader, andThen, _>>=_, give, here, signed, field, u32, s32, many}
-use Rattle.formats.specs.Rows.{readRow}
+use Rattle.formats.specs.Rows.{sheetRow, readStrict, readRow}
 use Rattle.fields.specs.Places.{signedAt, numbersAt, rowAt, rowsFrom}
 use Rattle.formats.proofs.Gives.{bind-got}
 use Rattle.formats.proofs.FieldLaws.{field-got, field-cut}
+use Rattle.formats.specs.Versions.{rowBytes, strictAt}
 
 -- a reading whose first part is refused is refused there
 pub bind-refused : {A B : Type 0} (r : Reader A) (f : A → Reader B) (s : List ℕ) (p : ℕ) {number place : ℕ} → r s p ≡ refused number place → (r >>= f) s p ≡ refused number place
@@ -63,70 +63,69 @@ unfolding many
 numbers-cut s p zero h l = absurd (omega arith)
 numbers-cut s p (suc k) h l = numbers-cut-step s p k (decLe (p + 4) (length s)) (λ i. numbers-cut s (p + 4) k i (omega arith))
 
--- a row
-pub row-got : (s : List ℕ) (n p : ℕ) → p + 4 * (n + 1) ≤ length s → readRow n s p ≡ got (rowAt s n p) (p + 4 * (n + 1))
-unfolding readRow here _>>=_ andThen give rowAt
-row-got s n p h =
-    bind-got (many n s32) (λ xs. s32 >>= λ b. give (record { place = p; row = record { coefficients = xs; bound = b } })) s p (numbers-got s p n (omega arith))
-    (bind-got s32 (λ b. give (record { place = p; row = record { coefficients = numbersAt s p n; bound = b } })) s (p + 4 * n) (signed-got s (p + 4 * n) (omega arith))
-    (ap (λ (k : ℕ). got (rowAt s n p) k) (one-more p n)))
-  where
-    one-more : (p n : ℕ) → p + 4 * n + 4 ≡ p + 4 * (n + 1)
-    one-more p n = omega arith
+-- a row: where it ends after its bound, where its bound is cut, and where the first number is cut after it
+row-ends : (p version n : ℕ) → p + 4 * n + 4 ≡ p + rowBytes version n
+unfolding rowBytes
+row-ends p version n = omega arith
 
-row-cut-step : (s : List ℕ) (n p : ℕ) → p ≤ length s → length s < p + 4 * (n + 1) → Dec (p + 4 * n ≤ length s) → readRow n s p ≡ refused 4 (numberCutAt s p)
-unfolding readRow here _>>=_ andThen
-row-cut-step s n p h l (yes i) =
-    bind-got (many n s32) (λ xs. s32 >>= λ b. give (record { place = p; row = record { coefficients = xs; bound = b } })) s p (numbers-got s p n i)
-    (bind-refused s32 (λ b. give (record { place = p; row = record { coefficients = numbersAt s p n; bound = b } })) s (p + 4 * n) (signed-cut s (p + 4 * n) (omega arith) ∙ ap (λ (k : ℕ). refused 4 k) (last (length s) n p i l)))
-  where
-    last : (len n p : ℕ) → p + 4 * n ≤ len → len < p + 4 * (n + 1) → p + 4 * n ≡ p + (len - p) / 4 * 4
-    last len n p i l = omega arith
-row-cut-step s n p h l (no f) =
-    bind-refused (many n s32) (λ xs. s32 >>= λ b. give (record { place = p; row = record { coefficients = xs; bound = b } })) s p (numbers-cut s p n h (omega arith))
+bound-cut : (len version n p : ℕ) → p + 4 * n ≤ len → len < p + rowBytes version n → p + 4 * n ≡ p + (len - p) / 4 * 4
+unfolding rowBytes
+bound-cut len version n p i l = omega arith
 
-pub row-cut : (s : List ℕ) (n p : ℕ) → p ≤ length s → length s < p + 4 * (n + 1) → readRow n s p ≡ refused 4 (numberCutAt s p)
-row-cut s n p h l = row-cut-step s n p h l (decLe (p + 4 * n) (length s))
+cut-after : (len p version n : ℕ) → p + rowBytes version n ≤ len → p + rowBytes version n + (len - (p + rowBytes version n)) / 4 * 4 ≡ p + (len - p) / 4 * 4
+unfolding rowBytes
+cut-after len p version n i = omega arith
+
+pub row-got : (s : List ℕ) (version n p : ℕ) → p + rowBytes version n ≤ length s → readRow version n s p ≡ got (rowAt s version n p) (p + rowBytes version n)
+unfolding readRow readStrict rowBytes here _>>=_ andThen give rowAt
+row-got s version n p h =
+    bind-got (many n s32) (λ xs. s32 >>= λ b. give (sheetRow version n p (strictAt version s p) xs b)) s p (numbers-got s p n (omega arith))
+    (bind-got s32 (λ b. give (sheetRow version n p (strictAt version s p) (numbersAt s p n) b)) s (p + 4 * n) (signed-got s (p + 4 * n) (omega arith))
+    (ap (λ (k : ℕ). got (rowAt s version n p) k) (row-ends p version n)))
+
+row-cut-step : (s : List ℕ) (version n p : ℕ) → p ≤ length s → length s < p + rowBytes version n → Dec (p + 4 * n ≤ length s) → readRow version n s p ≡ refused 4 (numberCutAt s p)
+unfolding readRow readStrict rowBytes here _>>=_ andThen
+row-cut-step s version n p h l (yes i) =
+    bind-got (many n s32) (λ xs. s32 >>= λ b. give (sheetRow version n p (strictAt version s p) xs b)) s p (numbers-got s p n i)
+    (bind-refused s32 (λ b. give (sheetRow version n p (strictAt version s p) (numbersAt s p n) b)) s (p + 4 * n) (signed-cut s (p + 4 * n) (omega arith) ∙ ap (λ (k : ℕ). refused 4 k) (bound-cut (length s) version n p i l)))
+row-cut-step s version n p h l (no f) =
+    bind-refused (many n s32) (λ xs. s32 >>= λ b. give (sheetRow version n p (strictAt version s p) xs b)) s p (numbers-cut s p n h (omega arith))
+
+pub row-cut : (s : List ℕ) (version n p : ℕ) → p ≤ length s → length s < p + rowBytes version n → readRow version n s p ≡ refused 4 (numberCutAt s p)
+row-cut s version n p h l = row-cut-step s version n p h l (decLe (p + 4 * n) (length s))
 
 -- rows
-pub rows-got : (s : List ℕ) (n p k : ℕ) → p + 4 * (n + 1) * k ≤ length s → many k (readRow n) s p ≡ got (rowsFrom s n p k) (p + 4 * (n + 1) * k)
+pub rows-got : (s : List ℕ) (version n p k : ℕ) → p + rowBytes version n * k ≤ length s → many k (readRow version n) s p ≡ got (rowsFrom s version n p k) (p + rowBytes version n * k)
 unfolding many rowsFrom give
-rows-got s n p zero h = ap (λ (i : ℕ). got [] i) (nothing p n)
+rows-got s version n p zero h = ap (λ (i : ℕ). got [] i) (nothing p version n)
   where
-    nothing : (p n : ℕ) → p ≡ p + 4 * (n + 1) * 0
-    nothing p n = omega arith
-rows-got s n p (suc k) h =
-    bind-got (readRow n) (λ a. many k (readRow n) >>= λ rest. give (a ∷ rest)) s p (row-got s n p (first p n k (length s) h))
-    (bind-got (many k (readRow n)) (λ rest. give (rowAt s n p ∷ rest)) s (p + 4 * (n + 1)) (rows-got s n (p + 4 * (n + 1)) k (later p n k (length s) h)) (ap (λ (i : ℕ). got (rowAt s n p ∷ rowsFrom s n (p + 4 * (n + 1)) k) i) (one-more p n k)))
+    nothing : (p version n : ℕ) → p ≡ p + rowBytes version n * 0
+    nothing p version n = omega arith
+rows-got s version n p (suc k) h =
+    bind-got (readRow version n) (λ a. many k (readRow version n) >>= λ rest. give (a ∷ rest)) s p (row-got s version n p (first p version n k (length s) h))
+    (bind-got (many k (readRow version n)) (λ rest. give (rowAt s version n p ∷ rest)) s (p + rowBytes version n) (rows-got s version n (p + rowBytes version n) k (later p version n k (length s) h)) (ap (λ (i : ℕ). got (rowAt s version n p ∷ rowsFrom s version n (p + rowBytes version n) k) i) (one-more p version n k)))
   where
-    first : (p n k len : ℕ) → p + 4 * (n + 1) * suc k ≤ len → p + 4 * (n + 1) ≤ len
-    first p n k len h = omega arith
+    first : (p version n k len : ℕ) → p + rowBytes version n * suc k ≤ len → p + rowBytes version n ≤ len
+    first p version n k len h = omega arith
 
-    later : (p n k len : ℕ) → p + 4 * (n + 1) * suc k ≤ len → p + 4 * (n + 1) + 4 * (n + 1) * k ≤ len
-    later p n k len h = omega arith
+    later : (p version n k len : ℕ) → p + rowBytes version n * suc k ≤ len → p + rowBytes version n + rowBytes version n * k ≤ len
+    later p version n k len h = omega arith
 
-    one-more : (p n k : ℕ) → p + 4 * (n + 1) + 4 * (n + 1) * k ≡ p + 4 * (n + 1) * suc k
-    one-more p n k = omega arith
+    one-more : (p version n k : ℕ) → p + rowBytes version n + rowBytes version n * k ≡ p + rowBytes version n * suc k
+    one-more p version n k = omega arith
 
-rows-cut-step : (s : List ℕ) (n p k : ℕ) → p ≤ length s → Dec (p + 4 * (n + 1) ≤ length s) → (p + 4 * (n + 1) ≤ length s → many k (readRow n) s (p + 4 * (n + 1)) ≡ refused 4 (numberCutAt s (p + 4 * (n + 1)))) → (readRow n >>= λ a. many k (readRow n) >>= λ rest. give (a ∷ rest)) s p ≡ refused 4 (numberCutAt s p)
-rows-cut-step s n p k h (yes i) next =
-    bind-got (readRow n) (λ a. many k (readRow n) >>= λ rest. give (a ∷ rest)) s p (row-got s n p i)
-    (bind-refused (many k (readRow n)) (λ rest. give (rowAt s n p ∷ rest)) s (p + 4 * (n + 1)) (next i ∙ ap (λ (x : ℕ). refused 4 x) (same (length s) p n i)))
-  where
-    same : (len p n : ℕ) → p + 4 * (n + 1) ≤ len → p + 4 * (n + 1) + (len - (p + 4 * (n + 1))) / 4 * 4 ≡ p + (len - p) / 4 * 4
-    same len p n i = omega arith
-rows-cut-step s n p k h (no f) next =
-    bind-refused (readRow n) (λ a. many k (readRow n) >>= λ rest. give (a ∷ rest)) s p (row-cut s n p h (omega arith))
+rows-cut-step : (s : List ℕ) (version n p k : ℕ) → p ≤ length s → Dec (p + rowBytes version n ≤ length s) → (p + rowBytes version n ≤ length s → many k (readRow version n) s (p + rowBytes version n) ≡ refused 4 (numberCutAt s (p + rowBytes version n))) → (readRow version n >>= λ a. many k (readRow version n) >>= λ rest. give (a ∷ rest)) s p ≡ refused 4 (numberCutAt s p)
+rows-cut-step s version n p k h (yes i) next =
+    bind-got (readRow version n) (λ a. many k (readRow version n) >>= λ rest. give (a ∷ rest)) s p (row-got s version n p i)
+    (bind-refused (many k (readRow version n)) (λ rest. give (rowAt s version n p ∷ rest)) s (p + rowBytes version n) (next i ∙ ap (λ (x : ℕ). refused 4 x) (cut-after (length s) p version n i)))
+rows-cut-step s version n p k h (no f) next =
+    bind-refused (readRow version n) (λ a. many k (readRow version n) >>= λ rest. give (a ∷ rest)) s p (row-cut s version n p h (omega arith))
 
-pub rows-cut : (s : List ℕ) (n p k : ℕ) → p ≤ length s → length s < p + 4 * (n + 1) * k → many k (readRow n) s p ≡ refused 4 (numberCutAt s p)
+pub rows-cut : (s : List ℕ) (version n p k : ℕ) → p ≤ length s → length s < p + rowBytes version n * k → many k (readRow version n) s p ≡ refused 4 (numberCutAt s p)
 unfolding many
-rows-cut s n p zero h l = absurd (omega arith)
-rows-cut s n p (suc k) h l =
-    rows-cut-step s n p k h (decLe (p + 4 * (n + 1)) (length s)) (λ i. rows-cut s n (p + 4 * (n + 1)) k i (later p n k (length s) l))
+rows-cut s version n p zero h l = absurd (omega arith)
+rows-cut s version n p (suc k) h l =
+    rows-cut-step s version n p k h (decLe (p + rowBytes version n) (length s)) (λ i. rows-cut s version n (p + rowBytes version n) k i (later p version n k (length s) l))
   where
-    later : (p n k len : ℕ) → len < p + 4 * (n + 1) * suc k → len < p + 4 * (n + 1) + 4 * (n + 1) * k
-    later p n k len h = omega arith
-
--- rows of the sizes in use fit a machine word
-pub rows-fit : (n k : ℕ) → n ≤ 16 → k ≤ 255 → 4 * (n + 1) * k ≤ 17340
-rows-fit n k h l = le-trans (mul-le-mul-left (4 * (n + 1)) l) (omega arith)
+    later : (p version n k len : ℕ) → len < p + rowBytes version n * suc k → len < p + rowBytes version n + rowBytes version n * k
+    later p version n k len h = omega arith

@@ -19,6 +19,6 @@ gotAs a (next.At p) = got a p
 gotAs a (next.Refused number place) = refused number place
 
 -- a condition by its count: its rows begin one byte after its place
-unfoldable pub gotRows : List ℕ → ℕ → ℕ → Field → Got Condition
-gotRows s n at (field.Value count p) = got (rowsFrom s n (at + 1) count) p
-gotRows s n at (field.Refused number place) = refused number place
+unfoldable pub gotRows : List ℕ → ℕ → ℕ → ℕ → Field → Got Condition
+gotRows s version n at (field.Value count p) = got (rowsFrom s version n (at + 1) count) p
+gotRows s version n at (field.Refused number place) = refused number place

@@ -1,6 +1,9 @@
 // A sheet's header, tested before its body: its length, its version, its kind. And its end.
 use crate::Field;
 use crate::Next;
+use crate::versions::HEADER_LENGTH;
+use crate::versions::kind_fits;
+use crate::versions::version_fits;
 ghost use mathlib.Core.Path.{_≡_};
 ghost use Rattle.formats.specs.Reading as reading;
 ghost use Rattle.formats.specs.Reading.{lengthRight};
@@ -28,13 +31,13 @@ pub fn header(s: &[u8], kind: u32) -> Field
         return Field::Refused(1, 0);
     }
     let version = s[2] as u32;
-    if version != 1 {
+    if !version_fits(kind, version) {
         return Field::Refused(2, 2);
     }
-    if s[3] as u32 != kind {
+    if !kind_fits(kind, s[3] as u32) {
         return Field::Refused(3, 3);
     }
-    Field::Value(version, 4)
+    Field::Value(version, HEADER_LENGTH)
 }
 
 // The end of the sheet: no byte is left at this place.

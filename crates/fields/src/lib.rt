@@ -2,6 +2,7 @@
 pub mod conditions;
 pub mod fields;
 pub mod header;
+pub mod versions;
 
 // What reading a field gives: its value and the place after it, or the number and the place of a refusal.
 pub enum Field {

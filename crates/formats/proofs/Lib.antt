@@ -1,3 +1,4 @@
+pub mod Versions
 pub mod FieldLaws
 pub mod Gives
 pub mod ModelSheet

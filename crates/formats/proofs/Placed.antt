@@ -9,7 +9,7 @@ use lib.Dec.{leb}
 use lib.ListN.{length}
 use borrow.Author.Tests.{leb-true}
 use Rattle.formats.specs.Reading.{Got, got, refused, Reader, andThen, _>>=_, _>>_, give, here, expect, field, u8, u16, u32, s32, passing, must, within, below, many, each, lengthRight, sized, header, finished, withinSigned}
-use Rattle.formats.specs.Rows.{readRow, readCondition}
+use Rattle.formats.specs.Rows.{readStrict, readRow, readCondition}
 use Rattle.formats.specs.Model.{Component, Model, readMode, readSwitch, readComponent, readUnsafe, readModelBody}
 use Rattle.formats.specs.declared.Limits.{Limits}
 use Rattle.formats.specs.ModelSheet.{limitsTest, readModel}
@@ -139,48 +139,53 @@ placed-finished {least} = record { fine = λ s p h l. go (leb (length s) p) s p 
     go true s p l = (omega arith, l)
     go false s p l = (omega arith, omega arith, l)
 
-placed-row : {least : ℕ} (n : ℕ) → Placed least (readRow n)
+placed-strict : {least : ℕ} (version : ℕ) → Placed least (readStrict version)
+unfolding readStrict
+placed-strict version = record { fine = λ s p h l. (omega arith, l) }
+
+placed-row : {least : ℕ} (version n : ℕ) → Placed least (readRow version n)
 unfolding readRow
-placed-row n =
-    placed-here (λ place. placed-bind (placed-many n placed-s32) (λ coefficients. placed-bind placed-s32 (λ bound. placed-give _)))
+placed-row version n =
+    placed-here
+    (λ place. placed-bind (placed-strict version) (λ strict. placed-bind (placed-many n placed-s32) (λ coefficients. placed-bind placed-s32 (λ bound. placed-give _))))
 
-pub placed-condition : {least : ℕ} (most n : ℕ) → Placed least (readCondition most n)
+pub placed-condition : {least : ℕ} (most version n : ℕ) → Placed least (readCondition version most n)
 unfolding readCondition
-placed-condition most n = placed-bind (placed-within 0 most placed-u8) (λ count. placed-many count (placed-row n))
+placed-condition most version n = placed-bind (placed-within 0 most placed-u8) (λ count. placed-many count (placed-row version n))
 
-placed-mode : {least : ℕ} (n : ℕ) → Placed least (readMode n)
+placed-mode : {least : ℕ} (version n : ℕ) → Placed least (readMode version n)
 unfolding readMode
-placed-mode n =
+placed-mode version n =
     placed-bind (placed-within 0 1 placed-u8)
-    (λ start. placed-bind (placed-condition _ n) (λ initial. placed-bind (placed-condition 8 n) (λ invariant. placed-bind (placed-condition 8 n) (λ flow. placed-give _))))
+    (λ start. placed-bind (placed-condition _ version n) (λ initial. placed-bind (placed-condition 8 version n) (λ invariant. placed-bind (placed-condition 8 version n) (λ flow. placed-give _))))
 
-placed-switch : {least : ℕ} (n alphabet modes : ℕ) → Placed least (readSwitch n alphabet modes)
+placed-switch : {least : ℕ} (version n alphabet modes : ℕ) → Placed least (readSwitch version n alphabet modes)
 unfolding readSwitch
-placed-switch n alphabet modes =
+placed-switch version n alphabet modes =
     placed-bind (placed-below modes placed-u8)
     (λ source.
     placed-bind (placed-below modes placed-u8)
     (λ target.
     placed-bind (placed-must _ 6 (omega arith) (omega arith) (placed-within 0 15 placed-u8))
-    (λ label. placed-bind (placed-condition 8 (2 * n)) (λ jump. placed-give _))))
+    (λ label. placed-bind (placed-condition 8 version (2 * n)) (λ jump. placed-give _))))
 
-placed-component : {least : ℕ} (n : ℕ) → Placed least (readComponent n)
+placed-component : {least : ℕ} (version n : ℕ) → Placed least (readComponent version n)
 unfolding readComponent
-placed-component n =
+placed-component version n =
     placed-bind (placed-must _ 5 (omega arith) (omega arith) placed-u16)
     (λ alphabet.
     placed-bind (placed-within 1 8 placed-u8)
     (λ modeCount.
     placed-bind (placed-within 0 32 placed-u8)
     (λ switchCount.
-    placed-bind (placed-many modeCount (placed-mode n))
-    (λ modes. placed-bind (placed-many switchCount (placed-switch n alphabet modeCount)) (λ switches. placed-give _)))))
+    placed-bind (placed-many modeCount (placed-mode version n))
+    (λ modes. placed-bind (placed-many switchCount (placed-switch version n alphabet modeCount)) (λ switches. placed-give _)))))
 
-placed-unsafe : {least : ℕ} (n : ℕ) (components : List Component) → Placed least (readUnsafe n components)
+placed-unsafe : {least : ℕ} (version n : ℕ) (components : List Component) → Placed least (readUnsafe version n components)
 unfolding readUnsafe
-placed-unsafe n components =
+placed-unsafe version n components =
     placed-bind (placed-each _ components (λ c. placed-must _ 5 (omega arith) (omega arith) placed-u8))
-    (λ modes. placed-bind (placed-condition 8 n) (λ rows. placed-give _))
+    (λ modes. placed-bind (placed-condition 8 version n) (λ rows. placed-give _))
 
 placed-body : {least : ℕ} (version : ℕ) → Placed least (readModelBody version)
 unfolding readModelBody
@@ -193,8 +198,8 @@ placed-body version =
     (λ conditions.
     placed-bind (placed-many n (placed-below c placed-u8))
     (λ owners.
-    placed-bind (placed-many c (placed-component n))
-    (λ components. placed-bind (placed-many conditions (placed-unsafe n components)) (λ unsafe. placed-give _))))))
+    placed-bind (placed-many c (placed-component version n))
+    (λ components. placed-bind (placed-many conditions (placed-unsafe version n components)) (λ unsafe. placed-give _))))))
 
 -- a model sheet
 pub model-fine : (limits : Limits) (s : List ℕ) → Fine s 0 (readModel limits s)
@@ -216,7 +221,7 @@ model-fine limits s =
 -- a certificate's fields
 pub placed-regions : {least : ℕ} (m : Model) → Placed least (readRegions m)
 unfolding readRegions
-placed-regions m = placed-bind (placed-must _ 5 (omega arith) (omega arith) placed-u8) (λ count. placed-many count (placed-condition 16 (m .variables)))
+placed-regions m = placed-bind (placed-must _ 5 (omega arith) (omega arith) placed-u8) (λ count. placed-many count (placed-condition 16 (m .version) (m .variables)))
 
 pub placed-entry : {least : ℕ} (hypotheses first : ℕ) → Placed least (readEntry hypotheses first)
 unfolding readEntry

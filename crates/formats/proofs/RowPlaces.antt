@@ -10,14 +10,15 @@ use lib.IntN.{ℤ}
 use lib.ListN.{length}
 use borrow.Author.Tests.{leb-true}
 use Rattle.farkas.specs.Lists.{All, none, more}
+use Rattle.formats.specs.Versions.{rowBytes, strictAt}
 use Rattle.formats.specs.Reading.{got, refused, Reader, andThen, _>>=_, _>>_, give, here, field, u32, s32, many, finished}
-use Rattle.formats.specs.Rows.{SheetRow, Condition, readRow, readCondition}
+use Rattle.formats.specs.Rows.{SheetRow, Condition, readStrict, readRow, readCondition, sheetRow}
 use Rattle.formats.specs.Model.{Mode, Component, Model, readMode, readSwitch, readComponent, readUnsafe, readModelBody}
 use Rattle.formats.specs.declared.Limits.{Limits}
 use Rattle.formats.specs.ModelSheet.{readModel}
 use Rattle.formats.proofs.ModelSheet.{in-a-chain}
 use Rattle.formats.specs.Certificate.{readRegions}
-use Rattle.formats.proofs.Gives.{got-value, got-next, passes, gives-any, gives-many}
+use Rattle.formats.proofs.Gives.{got-value, got-next, passes}
 
 -- whatever a reading gives, at any place of this sheet, has the property
 pub record GivesFrom {A : Type 0} (s : List ℕ) (P : A → Type 0) (r : Reader A) : Type 0 where
@@ -82,26 +83,25 @@ numbers-end (suc n) s p xs next e =
 
 -- a row's bytes end within a sheet
 abbrev pub EndsWithin : List ℕ → SheetRow → Type 0
-EndsWithin s r = r .place + 4 * (length (r .row .coefficients) + 1) ≤ length s
+EndsWithin s r = r .place + r .size ≤ length s
 
 abbrev pub RowsWithin : List ℕ → Condition → Type 0
 RowsWithin s rows = All (EndsWithin s) rows
 
-row-within : (s : List ℕ) (n : ℕ) → GivesFrom s (EndsWithin s) (readRow n)
-unfolding readRow _>>=_ here andThen give
-row-within s n = record {
+row-within : (s : List ℕ) (version n : ℕ) → GivesFrom s (EndsWithin s) (readRow version n)
+unfolding readRow readStrict rowBytes _>>=_ here andThen give
+row-within s version n = record {
   holds = λ p r next e.
-      let w = passes (many n s32 s p) (λ coefficients. s32 >>= λ bound. give (record { place = p; row = record { coefficients = coefficients; bound = bound } })) s r next e in
-      let v = passes (s32 s (w .place)) (λ bound. give (record { place = p; row = record { coefficients = w .value; bound = bound } })) s r next (w .second) in
+      let w = passes (many n s32 s p) (λ coefficients. s32 >>= λ bound. give (sheetRow version n p (strictAt version s p) coefficients bound)) s r next e in
+      let v = passes (s32 s (w .place)) (λ bound. give (sheetRow version n p (strictAt version s p) (w .value) bound)) s r next (w .second) in
       let h = numbers-end n s p (w .value) (w .place) (w .first) in
       let k = number-ends s (w .place) (v .value) (v .place) (v .first) in
-      let l = gives-many n gives-any .holds s p (w .value) (w .place) (w .first) .0 in
       rw (← (got-value (v .second))) (omega arith);
 }
 
-condition-within : (s : List ℕ) (most n : ℕ) → GivesFrom s (RowsWithin s) (readCondition most n)
+condition-within : (s : List ℕ) (most version n : ℕ) → GivesFrom s (RowsWithin s) (readCondition version most n)
 unfolding readCondition
-condition-within s most n = from-bind from-any (λ count u. from-many count (row-within s n))
+condition-within s most version n = from-bind from-any (λ count u. from-many count (row-within s version n))
 
 -- a model's rows
 pub record ModeWithin (s : List ℕ) (mode : Mode) : Type 0 where
@@ -117,42 +117,42 @@ pub record ModelWithin (s : List ℕ) (m : Model) : Type 0 where
   pub components : All (ComponentWithin s) (m .components)
   pub unsafe : All (λ u. RowsWithin s (u .rows)) (m .unsafe)
 
-mode-within : (s : List ℕ) (n : ℕ) → GivesFrom s (ModeWithin s) (readMode n)
+mode-within : (s : List ℕ) (version n : ℕ) → GivesFrom s (ModeWithin s) (readMode version n)
 unfolding readMode
-mode-within s n =
+mode-within s version n =
     from-bind from-any
     (λ start u.
-    from-bind (condition-within s _ n)
+    from-bind (condition-within s _ version n)
     (λ initial i.
-    from-bind (condition-within s 8 n)
+    from-bind (condition-within s 8 version n)
     (λ invariant j.
-    from-bind (condition-within s 8 n) (λ flow k. from-give _ (record { initial = i; invariant = j; flow = k })))))
+    from-bind (condition-within s 8 version n) (λ flow k. from-give _ (record { initial = i; invariant = j; flow = k })))))
 
-switch-within : (s : List ℕ) (n alphabet modes : ℕ) → GivesFrom s (λ w. RowsWithin s (w .jump)) (readSwitch n alphabet modes)
+switch-within : (s : List ℕ) (version n alphabet modes : ℕ) → GivesFrom s (λ w. RowsWithin s (w .jump)) (readSwitch version n alphabet modes)
 unfolding readSwitch
-switch-within s n alphabet modes =
+switch-within s version n alphabet modes =
     from-bind from-any
     (λ source u.
     from-bind from-any
-    (λ target u. from-bind from-any (λ label u. from-bind (condition-within s 8 (2 * n)) (λ jump w. from-give _ w))))
+    (λ target u. from-bind from-any (λ label u. from-bind (condition-within s 8 version (2 * n)) (λ jump w. from-give _ w))))
 
-component-within : (s : List ℕ) (n : ℕ) → GivesFrom s (ComponentWithin s) (readComponent n)
+component-within : (s : List ℕ) (version n : ℕ) → GivesFrom s (ComponentWithin s) (readComponent version n)
 unfolding readComponent
-component-within s n =
+component-within s version n =
     from-bind from-any
     (λ alphabet u.
     from-bind from-any
     (λ modeCount u.
     from-bind from-any
     (λ switchCount u.
-    from-bind (from-many modeCount (mode-within s n))
+    from-bind (from-many modeCount (mode-within s version n))
     (λ modes i.
-    from-bind (from-many switchCount (switch-within s n alphabet modeCount))
+    from-bind (from-many switchCount (switch-within s version n alphabet modeCount))
     (λ switches j. from-give _ (record { modes = i; switches = j }))))))
 
-unsafe-within : (s : List ℕ) (n : ℕ) (components : List Component) → GivesFrom s (λ u. RowsWithin s (u .rows)) (readUnsafe n components)
+unsafe-within : (s : List ℕ) (version n : ℕ) (components : List Component) → GivesFrom s (λ u. RowsWithin s (u .rows)) (readUnsafe version n components)
 unfolding readUnsafe
-unsafe-within s n components = from-bind from-any (λ modes u. from-bind (condition-within s 8 n) (λ rows w. from-give _ w))
+unsafe-within s version n components = from-bind from-any (λ modes u. from-bind (condition-within s 8 version n) (λ rows w. from-give _ w))
 
 pub body-within : (s : List ℕ) (version : ℕ) → GivesFrom s (ModelWithin s) (readModelBody version)
 unfolding readModelBody
@@ -165,9 +165,9 @@ body-within s version =
     (λ conditions u.
     from-bind from-any
     (λ owners u.
-    from-bind (from-many c (component-within s n))
+    from-bind (from-many c (component-within s version n))
     (λ components i.
-    from-bind (from-many conditions (unsafe-within s n components))
+    from-bind (from-many conditions (unsafe-within s version n components))
     (λ unsafe j. from-give _ (record { components = i; unsafe = j })))))))
 
 pub rows-within : (limits : Limits) (s : List ℕ) (m : Model) (next : ℕ) → readModel limits s ≡ got m next → ModelWithin s m
@@ -182,4 +182,4 @@ rows-within limits s m next e =
 pub regions-within : (m : Model) (s : List ℕ) (p : ℕ) (regions : List Condition) (next : ℕ) → readRegions m s p ≡ got regions next → All (RowsWithin s) regions
 unfolding readRegions
 regions-within m s p regions next e =
-    from-bind from-any (λ count u. from-many count (condition-within s 16 (m .variables))) .holds p regions next e
+    from-bind from-any (λ count u. from-many count (condition-within s 16 (m .version) (m .variables))) .holds p regions next e

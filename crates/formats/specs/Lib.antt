@@ -1,3 +1,4 @@
+pub mod Versions
 pub mod Reading
 pub mod Rows
 pub mod Model

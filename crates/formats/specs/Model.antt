@@ -43,37 +43,37 @@ unfoldable pub hasEvent : ℕ → ℕ → Bool
 hasEvent alphabet e = eqb (alphabet / 2 ^ e % 2) 1
 
 -- "each 0..8 rows (the initial count is 0 where start is 0)"
-unfoldable pub readMode : ℕ → Reader Mode
-readMode n = do
+unfoldable pub readMode : ℕ → ℕ → Reader Mode
+readMode version n = do
   start ← within 0 1 u8
-  initial ← readCondition (cond (eqb start 0) 0 8) n
-  invariant ← readCondition 8 n
-  flow ← readCondition 8 n
+  initial ← readCondition version (cond (eqb start 0) 0 8) n
+  invariant ← readCondition version 8 n
+  flow ← readCondition version 8 n
   give (record { start = start; initial = initial; invariant = invariant; flow = flow })
 
 -- "a jump condition of 0..8 rows with 2n coefficients, values before, then after"; 6, "label from 1 not in its alphabet"
-unfoldable pub readSwitch : ℕ → ℕ → ℕ → Reader Switch
-readSwitch n alphabet modes = do
+unfoldable pub readSwitch : ℕ → ℕ → ℕ → ℕ → Reader Switch
+readSwitch version n alphabet modes = do
   source ← below modes u8
   target ← below modes u8
   label ← must (λ v. eqb v 0 || hasEvent alphabet v) 6 (within 0 15 u8)
-  jump ← readCondition 8 (2 * n)
+  jump ← readCondition version 8 (2 * n)
   give (record { source = source; target = target; label = label; jump = jump })
 
 -- "Per component: u16 alphabet ..; u8 modes, 1..8; u8 switches, 0..32. Per mode .. Per switch .."
-unfoldable pub readComponent : ℕ → Reader Component
-readComponent n = do
+unfoldable pub readComponent : ℕ → ℕ → Reader Component
+readComponent version n = do
   alphabet ← must (λ v. eqb (v % 2) 0) 5 u16
   modeCount ← within 1 8 u8
   switchCount ← within 0 32 u8
-  modes ← many modeCount (readMode n)
-  switches ← many switchCount (readSwitch n alphabet modeCount)
+  modes ← many modeCount (readMode version n)
+  switches ← many switchCount (readSwitch version n alphabet modeCount)
   give (record { alphabet = alphabet; modes = modes; switches = switches })
 
-unfoldable pub readUnsafe : ℕ → List Component → Reader Unsafe
-readUnsafe n components = do
+unfoldable pub readUnsafe : ℕ → ℕ → List Component → Reader Unsafe
+readUnsafe version n components = do
   modes ← each (λ c. must (λ v. ltb v (length (c .modes)) || eqb v 255) 5 u8) components
-  rows ← readCondition 8 n
+  rows ← readCondition version 8 n
   give (record { modes = modes; rows = rows })
 
 -- "u8 variables n, 1..8; u8 components c, 1..4; u8 unsafe conditions, 0..16. n bytes: each variable's owner, 0..c−1. Per component ..
@@ -84,6 +84,6 @@ readModelBody version = do
   c ← within 1 4 u8
   conditions ← within 0 16 u8
   owners ← many n (below c u8)
-  components ← many c (readComponent n)
-  unsafe ← many conditions (readUnsafe n components)
+  components ← many c (readComponent version n)
+  unsafe ← many conditions (readUnsafe version n components)
   give (record { version = version; variables = n; owners = owners; components = components; unsafe = unsafe })

@@ -7,6 +7,7 @@ use lib.Dec.{leb, ltb, eqb}
 use lib.IntN.{ℤ}
 use lib.ListN.{length, take, drop}
 use lib.Signed.{leZ}
+use Rattle.formats.specs.Versions.{versionFits, kindFits}
 -- "all big-endian": the number that bytes give; "s32 is two's complement": a number as a signed one
 unfoldable pub use Rattle.farkas.specs.Words.{bigEndian, signed}
 
@@ -95,8 +96,8 @@ unfoldable pub header : ℕ → Reader ℕ
 header kind = do
   sized
   u16
-  version ← must (λ v. eqb v 1) 2 u8
-  must (λ v. eqb v kind) 3 u8
+  version ← must (versionFits kind) 2 u8
+  must (kindFits kind) 3 u8
   give version
 
 -- 4, "bytes left": "that of bytes left the first of them"

@@ -28,7 +28,7 @@ use Rattle.hypotheses.proofs.HypothesisLines.{told, start-told, flow-to
 -- one task per row of a region
 no-region : (model index second regions : List ℕ) (location : ℕ) → location < locationCount (componentsFrom model index) → entry regions (2 * location + 1) ≡ 0 → regionsOf model index second regions location ≡ []
 unfolding spanRows rowsFrom
-no-region model index second regions location h e = region-at model index second regions location h ∙ ap (rowsFrom second (entry index 0) (entry regions (2 * location))) e
+no-region model index second regions location h e = region-at model index second regions location h ∙ ap (rowsFrom second (entry index 11) (entry index 0) (entry regions (2 * location))) e
 
 either : (b : Bool) (hs : List Hypothesis) (location : ℕ) → tasks (elim b [ true ↦ perRow atStart location hs onX 0 [] | false ↦ [] ]) ≡ []
 unfolding tasks perRow
@@ -51,24 +51,24 @@ module _ (model index second regions : List ℕ) where
   regionAt = regionsOf model index second regions
 
   -- the goals of a region's group
-  region-goals : (table : List ℕ) (location segments shift width : ℕ) → location < locationCount (componentsFrom model index) → goalsOf second (entry index 0) (regionGroup regions location table segments shift width) ≡ map (λ r. onNext shift (r .row)) (regionAt location)
+  region-goals : (table : List ℕ) (location segments shift width : ℕ) → location < locationCount (componentsFrom model index) → goalsOf second (entry index 0) (regionGroup (entry index 11) regions location table segments shift width) ≡ map (λ r. onNext shift (r .row)) (regionAt location)
   unfolding goalsOf regionGroup spanRows
   region-goals table location segments shift width h = ap (map (λ r. onNext shift (r .row))) (sym (region-at model index second regions location h))
 
   -- the tasks of a table's lines
-  pub line-tasks : (table : List ℕ) (g : Group) (lines : List TableLine) → linesIn table (g .segments) ≡ lines → tasksOf model second (entry index 0) table g ≡ tasksFrom (hypothesisRows (told model second (entry index 0) lines)) (g .zero) (goalsOf second (entry index 0) g)
+  pub line-tasks : (table : List ℕ) (g : Group) (lines : List TableLine) → linesIn table (g .segments) ≡ lines → tasksOf model second (entry index 0) table g ≡ tasksFrom (hypothesisRows (told model second (g .version) (entry index 0) lines)) (g .zero) (goalsOf second (entry index 0) g)
   unfolding tasksOf hypothesesFrom
-  line-tasks table g lines e = ap (λ (ls : List TableLine). tasksFrom (hypothesisRows (told model second (entry index 0) ls)) (g .zero) (goalsOf second (entry index 0) g)) e
+  line-tasks table g lines e = ap (λ (ls : List TableLine). tasksFrom (hypothesisRows (told model second (g .version) (entry index 0) ls)) (g .zero) (goalsOf second (entry index 0) g)) e
 
   -- a group that proves a region's rows
   region-tasks :
       (table : List ℕ) (location segments shift width : ℕ) (lines : List TableLine) (hs : List Hypothesis) (kind : Kind) (subject : ℕ)
       → location < locationCount (componentsFrom model index) → zeroOnly kind ≡ false
-      → linesIn table segments ≡ lines → told model second (entry index 0) lines ≡ hs
-      → tasksOf model second (entry index 0) table (regionGroup regions location table segments shift width) ≡ tasks (perRow kind subject hs (onNext shift) 0 (regionAt location))
+      → linesIn table segments ≡ lines → told model second (entry index 11) (entry index 0) lines ≡ hs
+      → tasksOf model second (entry index 0) table (regionGroup (entry index 11) regions location table segments shift width) ≡ tasks (perRow kind subject hs (onNext shift) 0 (regionAt location))
   unfolding regionGroup
   region-tasks table location segments shift width lines hs kind subject h z e t =
-      line-tasks table (regionGroup regions location table segments shift width) lines e
+      line-tasks table (regionGroup (entry index 11) regions location table segments shift width) lines e
       ∙ ap₂ (λ (ks : List Hypothesis) (goals : List Row). tasksFrom (hypothesisRows ks) false goals) t (region-goals table location segments shift width h)
       ∙ ap (λ (b : Bool). tasksFrom (hypothesisRows hs) b (map (λ r. onNext shift (r .row)) (regionAt location))) (sym z)
       ∙ sym (row-tasks kind subject hs (onNext shift) 0 (regionAt location))
@@ -81,7 +81,7 @@ module _ (model index second regions : List ℕ) where
     present-here : present (componentsFrom model index) (perComponent index modes) ≡ modesIn m location
     present-here = present-there location modes stands
 
-    pub start-tasks : (table : List ℕ) (segments width : ℕ) → linesIn table segments ≡ startLines index (perComponent index modes) → every (λ mode. eqb (mode .start) 1) (present (componentsFrom model index) (perComponent index modes)) ≡ true → tasksOf model second (entry index 0) table (regionGroup regions location table segments 0 width) ≡ groupTasks m regionAt location 0
+    pub start-tasks : (table : List ℕ) (segments width : ℕ) → linesIn table segments ≡ startLines index (perComponent index modes) → every (λ mode. eqb (mode .start) 1) (present (componentsFrom model index) (perComponent index modes)) ≡ true → tasksOf model second (entry index 0) table (regionGroup (entry index 11) regions location table segments 0 width) ≡ groupTasks m regionAt location 0
     unfolding groupTasks startObligations zeroOnly onX onNext
     start-tasks table segments width e all =
         region-tasks table location segments 0 width _ (startHypotheses (modesIn m location)) atStart location (stands .below) refl e
@@ -99,19 +99,19 @@ module _ (model index second regions : List ℕ) where
         (λ (b : Bool). tasks (elim b [ true ↦ perRow atStart location (startHypotheses (modesIn m location)) onX 0 (regionAt location) | false ↦ [] ]))
         (ap (every (λ mode. eqb (mode .start) 1)) (sym present-here) ∙ not-all))
 
-    pub flow-tasks : (table : List ℕ) (segments width : ℕ) → linesIn table segments ≡ flowLines index regions location (perComponent index modes) → tasksOf model second (entry index 0) table (regionGroup regions location table segments (entry index 0) width) ≡ groupTasks m regionAt location 1
+    pub flow-tasks : (table : List ℕ) (segments width : ℕ) → linesIn table segments ≡ flowLines index regions location (perComponent index modes) → tasksOf model second (entry index 0) table (regionGroup (entry index 11) regions location table segments (entry index 0) width) ≡ groupTasks m regionAt location 1
     unfolding groupTasks flowObligations zeroOnly modelFrom
     flow-tasks table segments width e =
         region-tasks table location segments (entry index 0) width _ (flowHypotheses (entry index 0) (regionAt location) (modesIn m location)) afterFlow location (stands .below) refl e
         (flow-told model second index regions modes location long (stands .known) ∙ ap₂ (flowHypotheses (entry index 0)) (sym (region-at model index second regions location (stands .below))) present-here)
 
     -- unsafe conditions
-    condition-at : (u : ℕ) → u < entry index 2 → groupTasks m regionAt location (2 + u) ≡ tasks (unsafeObligations m regionAt location 0 (unsafeFrom model (entry index 0) (entry index 1) index (unsafePlace u) ∷ []))
+    condition-at : (u : ℕ) → u < entry index 2 → groupTasks m regionAt location (2 + u) ≡ tasks (unsafeObligations m regionAt location 0 (unsafeFrom model (entry index 11) (entry index 0) (entry index 1) index (unsafePlace u) ∷ []))
     unfolding groupTasks modelFrom
     condition-at u h =
         ap (groupTasks m regionAt location) (two-more u)
         ∙ ap (λ (x : Unsafe). tasks (unsafeObligations m regionAt location 0 (x ∷ [])))
-        (counted-at (λ u. unsafeFrom model (entry index 0) (entry index 1) index (unsafePlace u)) (entry index 2) u noUnsafe h)
+        (counted-at (λ u. unsafeFrom model (entry index 11) (entry index 0) (entry index 1) index (unsafePlace u)) (entry index 2) u noUnsafe h)
       where
         two-more : (u : ℕ) → 2 + u ≡ suc (suc u)
         two-more u = omega arith
@@ -125,25 +125,25 @@ module _ (model index second regions : List ℕ) where
     one-unsafe x true e = ap (λ (b : Bool). tasks (elim b [ true ↦ record { kind = clearOfUnsafe; subject = location; line = 0; hypotheses = unsafeHypotheses (regionAt location) (modesIn m location) (x .rows); goal = zeroRow } ∷ [] | false ↦ [] ])) (sym (fits-here x) ∙ e)
     one-unsafe x false e = ap (λ (b : Bool). tasks (elim b [ true ↦ record { kind = clearOfUnsafe; subject = location; line = 0; hypotheses = unsafeHypotheses (regionAt location) (modesIn m location) (x .rows); goal = zeroRow } ∷ [] | false ↦ [] ])) (sym (fits-here x) ∙ e)
 
-    pub unsafe-tasks : (table : List ℕ) (segments width u : ℕ) → u < entry index 2 → linesIn table segments ≡ unsafeLines index regions location (perComponent index modes) u → modesFit (unsafeFrom model (entry index 0) (entry index 1) index (unsafePlace u) .modes) (perComponent index modes) ≡ true → tasksOf model second (entry index 0) table (unsafeGroup table segments width) ≡ groupTasks m regionAt location (2 + u)
+    pub unsafe-tasks : (table : List ℕ) (segments width u : ℕ) → u < entry index 2 → linesIn table segments ≡ unsafeLines index regions location (perComponent index modes) u → modesFit (unsafeFrom model (entry index 11) (entry index 0) (entry index 1) index (unsafePlace u) .modes) (perComponent index modes) ≡ true → tasksOf model second (entry index 0) table (unsafeGroup (entry index 11) table segments width) ≡ groupTasks m regionAt location (2 + u)
     unfolding unsafeGroup goalsOf unsafeFrom
     unsafe-tasks table segments width u h e fit =
-        line-tasks table (unsafeGroup table segments width) _ e
+        line-tasks table (unsafeGroup (entry index 11) table segments width) _ e
         ∙ ap (λ (hs : List Hypothesis). tasksFrom (hypothesisRows hs) true (zeroRow ∷ []))
         (unsafe-told model second index regions modes location long (stands .known) u
-        ∙ ap₂ (λ (r : Condition) (ms : List Mode). unsafeHypotheses r ms (spanRows model (entry index 0) index (unsafePlace u + 4))) (sym (region-at model index second regions location (stands .below))) present-here)
-        ∙ sym (one-unsafe (unsafeFrom model (entry index 0) (entry index 1) index (unsafePlace u)) true fit)
+        ∙ ap₂ (λ (r : Condition) (ms : List Mode). unsafeHypotheses r ms (spanRows model (entry index 11) (entry index 0) index (unsafePlace u + 4))) (sym (region-at model index second regions location (stands .below))) present-here)
+        ∙ sym (one-unsafe (unsafeFrom model (entry index 11) (entry index 0) (entry index 1) index (unsafePlace u)) true fit)
         ∙ sym (condition-at u h)
 
-    pub unsafe-none : (table : List ℕ) (u : ℕ) → u < entry index 2 → modesFit (unsafeFrom model (entry index 0) (entry index 1) index (unsafePlace u) .modes) (perComponent index modes) ≡ false → tasksOf model second (entry index 0) table emptyGroup ≡ groupTasks m regionAt location (2 + u)
+    pub unsafe-none : (table : List ℕ) (u : ℕ) → u < entry index 2 → modesFit (unsafeFrom model (entry index 11) (entry index 0) (entry index 1) index (unsafePlace u) .modes) (perComponent index modes) ≡ false → tasksOf model second (entry index 0) table emptyGroup ≡ groupTasks m regionAt location (2 + u)
     unfolding emptyGroup tasksOf goalsOf tasksFrom rowsFrom
-    unsafe-none table u h fit = sym (one-unsafe (unsafeFrom model (entry index 0) (entry index 1) index (unsafePlace u)) false fit) ∙ sym (condition-at u h)
+    unsafe-none table u h fit = sym (one-unsafe (unsafeFrom model (entry index 11) (entry index 0) (entry index 1) index (unsafePlace u)) false fit) ∙ sym (condition-at u h)
 
     -- joint switches
     pub jump-tasks :
         (table : List ℕ) (segments width target : ℕ) (targets switches : List ℕ) → entry index 1 ≤ length targets → Stands model index target targets → entry index 1 ≤ length switches → KnownSwitches index switches → GoodIndex model index
         → linesIn table segments ≡ jumpLines index regions location (perComponent index modes) (perComponent index targets) switches
-        → tasksOf model second (entry index 0) table (regionGroup regions target table segments (entry index 0) width) ≡ jumpTasks m regionAt location (perComponent index switches) target
+        → tasksOf model second (entry index 0) table (regionGroup (entry index 11) regions target table segments (entry index 0) width) ≡ jumpTasks m regionAt location (perComponent index switches) target
     unfolding jumpTasks jumpObligations zeroOnly modelFrom
     jump-tasks table segments width target targets switches l there w known g e =
         region-tasks table target segments (entry index 0) width _ (jumpHypotheses (entry index 0) (regionAt location) (modesIn m location) (modesIn m target) (movers (m .components) (perComponent index switches)) (stayingVariables m (perComponent index switches))) afterJump 0 (there .below) refl e
@@ -176,15 +176,15 @@ empty-good model second n table few s =
 
 pub region-good :
     (model index second regions table : List ℕ) (location segments shift width : ℕ) (lines : List TableLine) → GoodPaper model index second regions → location < locationCount (componentsFrom model index)
-    → Stacked table segments → segments ≤ 23 → linesIn table segments ≡ lines → All (GoodLine model second (entry index 0) width) lines → shift + entry index 0 ≤ width → width ≤ 17
-    → GoodGroup model second (entry index 0) table (regionGroup regions location table segments shift width)
+    → Stacked table segments → segments ≤ 23 → linesIn table segments ≡ lines → All (GoodLine model second (entry index 11) (entry index 0) width) lines → shift + entry index 0 ≤ width → width ≤ 17
+    → GoodGroup model second (entry index 0) table (regionGroup (entry index 11) regions location table segments shift width)
 unfolding regionGroup
 region-good model index second regions table location segments shift width lines paper h s few e fine wide most =
     record {
       stacked = s;
       segments = few;
       hypotheses = refl;
-      lines = subst (All (GoodLine model second (entry index 0) width)) (sym e) fine;
+      lines = subst (All (GoodLine model second (entry index 11) (entry index 0) width)) (sym e) fine;
       goals = λ z j l. paper .placed .within location h j l;
       none = λ z. absurd (true-false (sym z));
       shift = wide;
@@ -194,15 +194,15 @@ region-good model index second regions table location segments shift width lines
 
 pub unsafe-good :
     (model index second table : List ℕ) (segments width : ℕ) (lines : List TableLine)
-    → Stacked table segments → segments ≤ 23 → linesIn table segments ≡ lines → All (GoodLine model second (entry index 0) width) lines → entry index 0 ≤ width → width ≤ 17
-    → GoodGroup model second (entry index 0) table (unsafeGroup table segments width)
+    → Stacked table segments → segments ≤ 23 → linesIn table segments ≡ lines → All (GoodLine model second (entry index 11) (entry index 0) width) lines → entry index 0 ≤ width → width ≤ 17
+    → GoodGroup model second (entry index 0) table (unsafeGroup (entry index 11) table segments width)
 unfolding unsafeGroup
 unsafe-good model index second table segments width lines s few e fine wide most =
     record {
       stacked = s;
       segments = few;
       hypotheses = refl;
-      lines = subst (All (GoodLine model second (entry index 0) width)) (sym e) fine;
+      lines = subst (All (GoodLine model second (entry index 11) (entry index 0) width)) (sym e) fine;
       goals = λ z j l. absurd (true-false z);
       none = λ z. (refl, omega arith);
       shift = omega arith;

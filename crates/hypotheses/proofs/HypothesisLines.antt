@@ -9,6 +9,7 @@ use lib.Dec.{eqb}
 use lib.ListN.{length, getD, drop}
 use lib.Seq.{getD-take}
 use Rattle.farkas.specs.Rows.{Row}
+use Rattle.formats.specs.Versions.{rowBytes}
 use Rattle.formats.specs.Rows.{SheetRow, Condition}
 use Rattle.fields.specs.Places.{rowAt, rowsFrom}
 use Rattle.formats.specs.Model.{Mode, Switch, Component}
@@ -26,56 +27,57 @@ use Rattle.rules.proofs.ListFacts.{joined-told}
 use Rattle.hypotheses.proofs.ModeLines.{modesOn, modes-next, modes-end, switchesOn, switches-next, switches-end, switch-stays, switch-moves, variable-stays, variable-moves}
 use Rattle.papers.proofs.StandingLaws.{presentOn, present-end, present-next}
 
-module _ (model second : List ℕ) (n : ℕ) where
+module _ (model second : List ℕ) (version n : ℕ) where
   abbrev pub told : List TableLine → List Hypothesis
-  told lines = map (hypothesisOf model second n) lines
+  told lines = map (hypothesisOf model second version n) lines
 
   -- rows that stand one after the other
   told-from :
-      (s : List ℕ) (m form : ℕ) (f : SheetRow → Hypothesis) → ((place row : ℕ) → hypothesisIn model second n form place row ≡ f (rowAt s m (rowPlace m place row)))
-      → (place owner first count from : ℕ) → from ≡ rowPlace m place first → told (map (line form place owner) (countUp first count)) ≡ map f (rowsFrom s m from count)
+      (s : List ℕ) (m form : ℕ) (f : SheetRow → Hypothesis) → ((place row : ℕ) → hypothesisIn model second version n form place row ≡ f (rowAt s version m (rowPlace version m place row)))
+      → (place owner first count from : ℕ) → from ≡ rowPlace version m place first → told (map (line form place owner) (countUp first count)) ≡ map f (rowsFrom s version m from count)
   unfolding line hypothesisOf rowsFrom countUp rowPlace
   told-from s m form f e place owner first zero from h = refl
   told-from s m form f e place owner first (suc count) from h =
-      ap₂ (λ (x : Hypothesis) (rest : List Hypothesis). x ∷ rest) (e place first ∙ ap (λ (p : ℕ). f (rowAt s m p)) (sym h))
-      (told-from s m form f e place owner (suc first) count (from + 4 * (m + 1)) (next m place first from h))
+      ap₂ (λ (x : Hypothesis) (rest : List Hypothesis). x ∷ rest) (e place first ∙ ap (λ (p : ℕ). f (rowAt s version m p)) (sym h))
+      (told-from s m form f e place owner (suc first) count (from + rowBytes version m) (next m place first from h))
     where
-      next : (m place first from : ℕ) → from ≡ place + 4 * (m + 1) * first → from + 4 * (m + 1) ≡ place + 4 * (m + 1) * suc first
+      next : (m place first from : ℕ) → from ≡ place + rowBytes version m * first → from + rowBytes version m ≡ place + rowBytes version m * suc first
       next m place first from h = omega arith
 
   pub told-kept :
-      (s : List ℕ) (m form : ℕ) (f : SheetRow → Hypothesis) → ((place row : ℕ) → hypothesisIn model second n form place row ≡ f (rowAt s m (rowPlace m place row)))
-      → (owner : ℕ) (index : List ℕ) (i : ℕ) → told (keptLines form owner index i) ≡ map f (spanRows s m index i)
+      (s : List ℕ) (m form : ℕ) (f : SheetRow → Hypothesis) → ((place row : ℕ) → hypothesisIn model second version n form place row ≡ f (rowAt s version m (rowPlace version m place row)))
+      → (owner : ℕ) (index : List ℕ) (i : ℕ) → told (keptLines form owner index i) ≡ map f (spanRows s version m index i)
   unfolding keptLines spanRows segment rowPlace
   told-kept s m form f e owner index i = told-from s m form f e (entry index i) owner 0 (entry index (i + 1)) (entry index i) (none (entry index i) m)
     where
-      none : (p m : ℕ) → p ≡ p + 4 * (m + 1) * 0
+      none : (p m : ℕ) → p ≡ p + rowBytes version m * 0
       none p m = omega arith
 
 -- conditions of the present modes
 module _ (model second index modes : List ℕ) (long : entry index 1 ≤ length modes) (known : KnownModes index modes) where
   module _
       (form offset : ℕ) (of : Mode → Condition) (put : Row → Row)
-      (e : (place row : ℕ) → hypothesisIn model second (entry index 0) form place row ≡ standing 0 put (rowAt model (entry index 0) (rowPlace (entry index 0) place row)))
-      (o : (i : ℕ) → of (modeFrom model (entry index 0) index i) ≡ spanRows model (entry index 0) index (i + offset)) where
-    from : (d k : ℕ) → k + d ≡ entry index 1 → told model second (entry index 0) (modesOn form offset index modes k) ≡ modeRows of put (presentOn model index modes long k)
+      (e : (place row : ℕ) → hypothesisIn model second (entry index 11) (entry index 0) form place row ≡ standing 0 put (rowAt model (entry index 11) (entry index 0) (rowPlace (entry index 11) (entry index 0) place row)))
+      (o : (i : ℕ) → of (modeFrom model (entry index 11) (entry index 0) index i) ≡ spanRows model (entry index 11) (entry index 0) index (i + offset)) where
+    from : (d k : ℕ) → k + d ≡ entry index 1 → told model second (entry index 11) (entry index 0) (modesOn form offset index modes k) ≡ modeRows of put (presentOn model index modes long k)
     unfolding modeRows joinAll
     from zero k h =
-        ap (told model second (entry index 0)) (modes-end form offset index modes long k (omega (arith, h)))
+        ap (told model second (entry index 11) (entry index 0)) (modes-end form offset index modes long k (omega (arith, h)))
         ∙ sym (ap (modeRows of put) (present-end model index modes long k (omega (arith, h))))
     from (suc d) k h =
         let l : k < entry index 1 = omega (arith, h) in
         let n = entry index 0 in
+        let version = entry index 11 in
         let place = modePlace (componentPlace k) (getD modes k 0) in
         let kept = keptLines form k index (place + offset) in
-        ap (told model second n) (modes-next form offset index modes long k l)
-        ∙ map-append (hypothesisOf model second n) kept (modesOn form offset index modes (k + 1))
+        ap (told model second version n) (modes-next form offset index modes long k l)
+        ∙ map-append (hypothesisOf model second version n) kept (modesOn form offset index modes (k + 1))
         ∙ ap₂ (λ (xs ys : List Hypothesis). xs ++ ys)
-        (told-kept model second n model n form (standing 0 put) e k index (place + offset) ∙ ap (map (standing 0 put)) (sym (o place)))
+        (told-kept model second version n model n form (standing 0 put) e k index (place + offset) ∙ ap (map (standing 0 put)) (sym (o place)))
         (from d (k + 1) (omega (arith, h)))
         ∙ sym (ap (modeRows of put) (present-next model index modes long known k l))
 
-    pub told-modes : told model second (entry index 0) (modesOn form offset index modes 0) ≡ modeRows of put (presentOn model index modes long 0)
+    pub told-modes : told model second (entry index 11) (entry index 0) (modesOn form offset index modes 0) ≡ modeRows of put (presentOn model index modes long 0)
     told-modes = from (entry index 1) 0 (zero-add (entry index 1))
 
 -- rows of the switches by which components move
@@ -90,23 +92,23 @@ module _ (model second index switches : List ℕ) (long : entry index 1 ≤ leng
   unfolding movers
   movers-first k h = ap₂ movers (components-drop model index k h) (per-component-drop index switches long k h)
 
-  jump-told : (k i : ℕ) → i < entry index (componentPlace k + 2) → told model second (entry index 0) (keptLines 7 k index (switchPlace (componentPlace k) i + 3)) ≡ map (standing 0 onX) (switchOf (componentAt model index k) i .jump)
+  jump-told : (k i : ℕ) → i < entry index (componentPlace k + 2) → told model second (entry index 11) (entry index 0) (keptLines 7 k index (switchPlace (componentPlace k) i + 3)) ≡ map (standing 0 onX) (switchOf (componentAt model index k) i .jump)
   unfolding hypothesisIn switchFrom
   jump-told k i h =
-      told-kept model second (entry index 0) model (2 * entry index 0) 7 (standing 0 onX) (λ p r. refl) k index (switchPlace (componentPlace k) i + 3)
+      told-kept model second (entry index 11) (entry index 0) model (2 * entry index 0) 7 (standing 0 onX) (λ p r. refl) k index (switchPlace (componentPlace k) i + 3)
       ∙ sym (ap (λ (w : Switch). map (standing 0 onX) (w .jump)) (switch-at model index k i h))
 
-  switch-turn : (k : ℕ) → k < entry index 1 → (rest : List Hypothesis) → rest ≡ jumpsOf (moversOn (k + 1)) → told model second (entry index 0) (switchLine index k (getD switches k 0)) ++ rest ≡ jumpsOf (moversOn k)
+  switch-turn : (k : ℕ) → k < entry index 1 → (rest : List Hypothesis) → rest ≡ jumpsOf (moversOn (k + 1)) → told model second (entry index 11) (entry index 0) (switchLine index k (getD switches k 0)) ++ rest ≡ jumpsOf (moversOn k)
   unfolding joinAll
   switch-turn k h rest r = go (eqb (getD switches k 0) stays) refl
     where
-      go : (b : Bool) → eqb (getD switches k 0) stays ≡ b → told model second (entry index 0) (switchLine index k (getD switches k 0)) ++ rest ≡ jumpsOf (moversOn k)
+      go : (b : Bool) → eqb (getD switches k 0) stays ≡ b → told model second (entry index 11) (entry index 0) (switchLine index k (getD switches k 0)) ++ rest ≡ jumpsOf (moversOn k)
       go true e =
-          ap (λ (ls : List TableLine). told model second (entry index 0) ls ++ rest) (switch-stays index k (getD switches k 0) e)
+          ap (λ (ls : List TableLine). told model second (entry index 11) (entry index 0) ls ++ rest) (switch-stays index k (getD switches k 0) e)
           ∙ r
           ∙ sym (ap jumpsOf (movers-first k h ∙ ap (λ (b : Bool). elim b [ true ↦ moversOn (k + 1) | false ↦ switchOf (componentAt model index k) (getD switches k 0) ∷ moversOn (k + 1) ]) e))
       go false e =
-          ap (λ (ls : List TableLine). told model second (entry index 0) ls ++ rest) (switch-moves index k (getD switches k 0) e)
+          ap (λ (ls : List TableLine). told model second (entry index 11) (entry index 0) ls ++ rest) (switch-moves index k (getD switches k 0) e)
           ∙ ap₂ (λ (xs ys : List Hypothesis). xs ++ ys) (jump-told k (getD switches k 0) (known .known k h e)) r
           ∙ sym (ap jumpsOf (movers-first k h ∙ ap (λ (b : Bool). elim b [ true ↦ moversOn (k + 1) | false ↦ switchOf (componentAt model index k) (getD switches k 0) ∷ moversOn (k + 1) ]) e))
 
@@ -114,18 +116,18 @@ module _ (model second index switches : List ℕ) (long : entry index 1 ≤ leng
   unfolding movers
   movers-end k h = ap (λ (components : List Component). movers components (numbersOn index switches k)) (ap (λ (i : ℕ). drop i (componentsFrom model index)) h ∙ components-end model index)
 
-  from-switch : (d k : ℕ) → k + d ≡ entry index 1 → told model second (entry index 0) (switchesOn index switches k) ≡ jumpsOf (moversOn k)
+  from-switch : (d k : ℕ) → k + d ≡ entry index 1 → told model second (entry index 11) (entry index 0) (switchesOn index switches k) ≡ jumpsOf (moversOn k)
   unfolding joinAll
   from-switch zero k h =
-      ap (told model second (entry index 0)) (switches-end index switches long k (omega (arith, h)))
+      ap (told model second (entry index 11) (entry index 0)) (switches-end index switches long k (omega (arith, h)))
       ∙ sym (ap jumpsOf (movers-end k (omega (arith, h))))
   from-switch (suc d) k h =
       let l : k < entry index 1 = omega (arith, h) in
-      ap (told model second (entry index 0)) (switches-next index switches long k l)
-      ∙ map-append (hypothesisOf model second (entry index 0)) (switchLine index k (getD switches k 0)) (switchesOn index switches (k + 1))
-      ∙ switch-turn k l (told model second (entry index 0) (switchesOn index switches (k + 1))) (from-switch d (k + 1) (omega (arith, h)))
+      ap (told model second (entry index 11) (entry index 0)) (switches-next index switches long k l)
+      ∙ map-append (hypothesisOf model second (entry index 11) (entry index 0)) (switchLine index k (getD switches k 0)) (switchesOn index switches (k + 1))
+      ∙ switch-turn k l (told model second (entry index 11) (entry index 0) (switchesOn index switches (k + 1))) (from-switch d (k + 1) (omega (arith, h)))
 
-  pub told-switches : told model second (entry index 0) (switchesOn index switches 0) ≡ joinAll (λ w. map (standing 0 onX) (w .jump)) (movers (componentsFrom model index) (perComponent index switches))
+  pub told-switches : told model second (entry index 11) (entry index 0) (switchesOn index switches 0) ≡ joinAll (λ w. map (standing 0 onX) (w .jump)) (movers (componentsFrom model index) (perComponent index switches))
   told-switches = from-switch (entry index 1) 0 (zero-add (entry index 1))
 
 -- rows of staying variables
@@ -171,16 +173,16 @@ module _ (model index switches : List ℕ) (good : GoodIndex model index) where
         none n = omega arith
 
 module _ (model second index switches : List ℕ) (good : GoodIndex model index) where
-  stays-told : (v : ℕ) → eqb (getD switches (entry index (ownerPlace v)) stays) stays ≡ true → told model second (entry index 0) (stayingLine index switches v) ≡ map nowhere (stayingRows (entry index 0) v)
+  stays-told : (v : ℕ) → eqb (getD switches (entry index (ownerPlace v)) stays) stays ≡ true → told model second (entry index 11) (entry index 0) (stayingLine index switches v) ≡ map nowhere (stayingRows (entry index 0) v)
   unfolding hypothesisOf hypothesisIn line segment countUp stayingRows keeps keepsUp keepsDown
-  stays-told v e = ap (told model second (entry index 0)) (variable-stays index switches v e)
+  stays-told v e = ap (told model second (entry index 11) (entry index 0)) (variable-stays index switches v e)
 
-  pub told-staying : told model second (entry index 0) (stayingLines index switches) ≡ map nowhere (joinAll (stayingRows (entry index 0)) (stayingVariables (modelFrom model index) (perComponent index switches)))
+  pub told-staying : told model second (entry index 11) (entry index 0) (stayingLines index switches) ≡ map nowhere (joinAll (stayingRows (entry index 0)) (stayingVariables (modelFrom model index) (perComponent index switches)))
   unfolding stayingLines
   told-staying =
-      joined-told (hypothesisOf model second (entry index 0)) (stayingLine index switches) (countUp 0 (entry index 0))
-      ∙ staying-each model index switches good (λ v. told model second (entry index 0) (stayingLine index switches v)) (λ v. map nowhere (stayingRows (entry index 0) v))
-      stays-told (λ v e. ap (told model second (entry index 0)) (variable-moves index switches v e))
+      joined-told (hypothesisOf model second (entry index 11) (entry index 0)) (stayingLine index switches) (countUp 0 (entry index 0))
+      ∙ staying-each model index switches good (λ v. told model second (entry index 11) (entry index 0) (stayingLine index switches v)) (λ v. map nowhere (stayingRows (entry index 0) v))
+      stays-told (λ v e. ap (told model second (entry index 11) (entry index 0)) (variable-moves index switches v e))
       ∙ sym (joined-told nowhere (stayingRows (entry index 0)) (stayingVariables (modelFrom model index) (perComponent index switches)))
 
 -- The four tables. A location's modes, one per component, are those of the array
@@ -189,59 +191,59 @@ module _ (model second index regions modes : List ℕ) (location : ℕ) (long : 
   here = present (componentsFrom model index) (perComponent index modes)
 
   abbrev region : Condition
-  region = spanRows second (entry index 0) regions (2 * location)
+  region = spanRows second (entry index 11) (entry index 0) regions (2 * location)
 
-  initial-told : told model second (entry index 0) (modeLines 0 1 index 0 (perComponent index modes)) ≡ modeRows (λ mode. mode .initial) onX here
+  initial-told : told model second (entry index 11) (entry index 0) (modeLines 0 1 index 0 (perComponent index modes)) ≡ modeRows (λ mode. mode .initial) onX here
   unfolding hypothesisIn modeFrom
   initial-told = told-modes model second index modes long known 0 1 (λ mode. mode .initial) onX (λ p r. refl) (λ i. refl)
 
-  invariant-told : told model second (entry index 0) (modeLines 2 3 index 0 (perComponent index modes)) ≡ modeRows (λ mode. mode .invariant) onX here
+  invariant-told : told model second (entry index 11) (entry index 0) (modeLines 2 3 index 0 (perComponent index modes)) ≡ modeRows (λ mode. mode .invariant) onX here
   unfolding hypothesisIn modeFrom
   invariant-told = told-modes model second index modes long known 2 3 (λ mode. mode .invariant) onX (λ p r. refl) (λ i. refl)
 
-  pub next-told : told model second (entry index 0) (modeLines 4 3 index 0 (perComponent index modes)) ≡ modeRows (λ mode. mode .invariant) (onNext (entry index 0)) here
+  pub next-told : told model second (entry index 11) (entry index 0) (modeLines 4 3 index 0 (perComponent index modes)) ≡ modeRows (λ mode. mode .invariant) (onNext (entry index 0)) here
   unfolding hypothesisIn modeFrom
   next-told = told-modes model second index modes long known 4 3 (λ mode. mode .invariant) (onNext (entry index 0)) (λ p r. refl) (λ i. refl)
 
-  rates-told : told model second (entry index 0) (modeLines 5 5 index 0 (perComponent index modes)) ≡ modeRows (λ mode. mode .flow) onRates here
+  rates-told : told model second (entry index 11) (entry index 0) (modeLines 5 5 index 0 (perComponent index modes)) ≡ modeRows (λ mode. mode .flow) onRates here
   unfolding hypothesisIn modeFrom
   rates-told = told-modes model second index modes long known 5 5 (λ mode. mode .flow) onRates (λ p r. refl) (λ i. refl)
 
-  region-told : told model second (entry index 0) (keptLines 1 0 regions (2 * location)) ≡ map (standing 1 onX) region
+  region-told : told model second (entry index 11) (entry index 0) (keptLines 1 0 regions (2 * location)) ≡ map (standing 1 onX) region
   unfolding hypothesisIn
-  region-told = told-kept model second (entry index 0) second (entry index 0) 1 (standing 1 onX) (λ p r. refl) 0 regions (2 * location)
+  region-told = told-kept model second (entry index 11) (entry index 0) second (entry index 0) 1 (standing 1 onX) (λ p r. refl) 0 regions (2 * location)
 
-  both : (xs ys : List TableLine) {hs ks : List Hypothesis} → told model second (entry index 0) xs ≡ hs → told model second (entry index 0) ys ≡ ks → told model second (entry index 0) (xs ++ ys) ≡ hs ++ ks
-  both xs ys p q = map-append (hypothesisOf model second (entry index 0)) xs ys ∙ ap₂ (λ (us vs : List Hypothesis). us ++ vs) p q
+  both : (xs ys : List TableLine) {hs ks : List Hypothesis} → told model second (entry index 11) (entry index 0) xs ≡ hs → told model second (entry index 11) (entry index 0) ys ≡ ks → told model second (entry index 11) (entry index 0) (xs ++ ys) ≡ hs ++ ks
+  both xs ys p q = map-append (hypothesisOf model second (entry index 11) (entry index 0)) xs ys ∙ ap₂ (λ (us vs : List Hypothesis). us ++ vs) p q
 
-  pub start-told : told model second (entry index 0) (startLines index (perComponent index modes)) ≡ startHypotheses here
+  pub start-told : told model second (entry index 11) (entry index 0) (startLines index (perComponent index modes)) ≡ startHypotheses here
   unfolding startLines startHypotheses
   start-told = both (modeLines 0 1 index 0 (perComponent index modes)) (modeLines 2 3 index 0 (perComponent index modes)) initial-told invariant-told
 
   -- "region and invariants on x", then the rest
-  pub here-told : (rest : List TableLine) (hs : List Hypothesis) → told model second (entry index 0) rest ≡ hs → told model second (entry index 0) (hereLines index regions location (perComponent index modes) ++ rest) ≡ map (standing 1 onX) region ++ (modeRows (λ mode. mode .invariant) onX here ++ hs)
+  pub here-told : (rest : List TableLine) (hs : List Hypothesis) → told model second (entry index 11) (entry index 0) rest ≡ hs → told model second (entry index 11) (entry index 0) (hereLines index regions location (perComponent index modes) ++ rest) ≡ map (standing 1 onX) region ++ (modeRows (λ mode. mode .invariant) onX here ++ hs)
   unfolding hereLines
   here-told rest hs e =
       both (hereLines index regions location (perComponent index modes)) rest (both (keptLines 1 0 regions (2 * location)) (modeLines 2 3 index 0 (perComponent index modes)) region-told invariant-told) e
       ∙ append-assoc (map (standing 1 onX) region) (modeRows (λ mode. mode .invariant) onX here) hs
 
-  time-told : told model second (entry index 0) (segment 6 0 0 1) ≡ nowhere (timeRow (entry index 0)) ∷ []
+  time-told : told model second (entry index 11) (entry index 0) (segment 6 0 0 1) ≡ nowhere (timeRow (entry index 0)) ∷ []
   unfolding hypothesisOf hypothesisIn line segment countUp
   time-told = refl
 
-  pub flow-told : told model second (entry index 0) (flowLines index regions location (perComponent index modes)) ≡ flowHypotheses (entry index 0) region here
+  pub flow-told : told model second (entry index 11) (entry index 0) (flowLines index regions location (perComponent index modes)) ≡ flowHypotheses (entry index 0) region here
   unfolding flowLines flowHypotheses
   flow-told =
       here-told (modeLines 4 3 index 0 (perComponent index modes) ++ (modeLines 5 5 index 0 (perComponent index modes) ++ segment 6 0 0 1)) _
       (both (modeLines 4 3 index 0 (perComponent index modes)) _ next-told (both (modeLines 5 5 index 0 (perComponent index modes)) (segment 6 0 0 1) rates-told time-told))
 
-  pub unsafe-told : (u : ℕ) → told model second (entry index 0) (unsafeLines index regions location (perComponent index modes) u) ≡ unsafeHypotheses region here (spanRows model (entry index 0) index (unsafePlace u + 4))
+  pub unsafe-told : (u : ℕ) → told model second (entry index 11) (entry index 0) (unsafeLines index regions location (perComponent index modes) u) ≡ unsafeHypotheses region here (spanRows model (entry index 11) (entry index 0) index (unsafePlace u + 4))
   unfolding unsafeLines unsafeHypotheses hypothesisIn
-  unsafe-told u = here-told (keptLines 3 0 index (unsafePlace u + 4)) _ (told-kept model second (entry index 0) model (entry index 0) 3 (standing 0 onX) (λ p r. refl) 0 index (unsafePlace u + 4))
+  unsafe-told u = here-told (keptLines 3 0 index (unsafePlace u + 4)) _ (told-kept model second (entry index 11) (entry index 0) model (entry index 0) 3 (standing 0 onX) (λ p r. refl) 0 index (unsafePlace u + 4))
 
   pub jump-lines-told :
       (targets switches : List ℕ) → entry index 1 ≤ length targets → KnownModes index targets → entry index 1 ≤ length switches → KnownSwitches index switches → GoodIndex model index
-      → told model second (entry index 0) (jumpLines index regions location (perComponent index modes) (perComponent index targets) switches) ≡ jumpHypotheses (entry index 0) region here (present (componentsFrom model index) (perComponent index targets)) (movers (componentsFrom model index) (perComponent index switches)) (stayingVariables (modelFrom model index) (perComponent index switches))
+      → told model second (entry index 11) (entry index 0) (jumpLines index regions location (perComponent index modes) (perComponent index targets) switches) ≡ jumpHypotheses (entry index 0) region here (present (componentsFrom model index) (perComponent index targets)) (movers (componentsFrom model index) (perComponent index switches)) (stayingVariables (modelFrom model index) (perComponent index switches))
   unfolding jumpLines landingLines jumpHypotheses hypothesisIn modeFrom perComponent
   jump-lines-told targets switches l k w s g =
       let after = modeLines 4 3 index 0 (perComponent index targets) in

@@ -8,6 +8,7 @@ use native.Mathlib.Numerals.{add-one}
 use native.Mathlib.Omega.{arith}
 use lib.Dec.{eqb}
 use lib.ListN.{length, getD, drop}
+use Rattle.formats.specs.Versions.{rowBytes}
 use Rattle.formats.specs.Rows.{Condition}
 use Rattle.fields.specs.Places.{rowsFrom}
 use Rattle.formats.specs.Model.{Mode, Component, Switch}
@@ -30,22 +31,22 @@ abbrev pub roles : List TableLine → List Role
 roles lines = map roleOf lines
 
 -- rows that stand one after the other
-roles-from : (s : List ℕ) (m form place owner first count from : ℕ) → roles (map (line form place owner) (countUp first count)) ≡ rowRoles form owner (rowsFrom s m from count)
+roles-from : (s : List ℕ) (version m form place owner first count from : ℕ) → roles (map (line form place owner) (countUp first count)) ≡ rowRoles form owner (rowsFrom s version m from count)
 unfolding line roleOf rowsFrom countUp rowRoles
-roles-from s m form place owner first zero from = refl
-roles-from s m form place owner first (suc count) from =
-    ap (λ (rest : List Role). owned form owner ∷ rest) (roles-from s m form place owner (suc first) count (from + 4 * (m + 1)))
+roles-from s version m form place owner first zero from = refl
+roles-from s version m form place owner first (suc count) from =
+    ap (λ (rest : List Role). owned form owner ∷ rest) (roles-from s version m form place owner (suc first) count (from + rowBytes version m))
 
-roles-kept : (s : List ℕ) (m form owner : ℕ) (index : List ℕ) (i : ℕ) → roles (keptLines form owner index i) ≡ rowRoles form owner (spanRows s m index i)
+roles-kept : (s : List ℕ) (version m form owner : ℕ) (index : List ℕ) (i : ℕ) → roles (keptLines form owner index i) ≡ rowRoles form owner (spanRows s version m index i)
 unfolding keptLines spanRows segment
-roles-kept s m form owner index i = roles-from s m form (entry index i) owner 0 (entry index (i + 1)) (entry index i)
+roles-kept s version m form owner index i = roles-from s version m form (entry index i) owner 0 (entry index (i + 1)) (entry index i)
 
 both : (xs ys : List TableLine) {rs qs : List Role} → roles xs ≡ rs → roles ys ≡ qs → roles (xs ++ ys) ≡ rs ++ qs
 both xs ys p q = map-append roleOf xs ys ∙ ap₂ (λ (us vs : List Role). us ++ vs) p q
 
 -- conditions of the present modes
 module _ (model index modes : List ℕ) (long : entry index 1 ≤ length modes) (known : KnownModes index modes) where
-  module _ (form offset : ℕ) (of : Mode → Condition) (o : (i : ℕ) → of (modeFrom model (entry index 0) index i) ≡ spanRows model (entry index 0) index (i + offset)) where
+  module _ (form offset : ℕ) (of : Mode → Condition) (o : (i : ℕ) → of (modeFrom model (entry index 11) (entry index 0) index i) ≡ spanRows model (entry index 11) (entry index 0) index (i + offset)) where
     from : (d k : ℕ) → k + d ≡ entry index 1 → roles (modesOn form offset index modes k) ≡ modeRoles form of k (presentOn model index modes long k)
     unfolding modeRoles
     from zero k h =
@@ -57,7 +58,7 @@ module _ (model index modes : List ℕ) (long : entry index 1 ≤ length modes) 
         let rest = presentOn model index modes long (k + 1) in
         ap roles (modes-next form offset index modes long k l)
         ∙ both (keptLines form k index (place + offset)) (modesOn form offset index modes (k + 1))
-        (roles-kept model (entry index 0) form k index (place + offset) ∙ ap (rowRoles form k) (sym (o place)))
+        (roles-kept model (entry index 11) (entry index 0) form k index (place + offset) ∙ ap (rowRoles form k) (sym (o place)))
         (from d (k + 1) (omega (arith, h)) ∙ ap (λ (i : ℕ). modeRoles form of i rest) (add-one k))
         ∙ sym (ap (modeRoles form of k) (present-next model index modes long known k l))
 
@@ -81,7 +82,7 @@ module _ (model index switches : List ℕ) (long : entry index 1 ≤ length swit
   jump-roles : (k i : ℕ) → i < entry index (componentPlace k + 2) → roles (keptLines 7 k index (switchPlace (componentPlace k) i + 3)) ≡ rowRoles 7 k (switchOf (componentAt model index k) i .jump)
   unfolding switchFrom
   jump-roles k i h =
-      roles-kept model (2 * entry index 0) 7 k index (switchPlace (componentPlace k) i + 3)
+      roles-kept model (entry index 11) (2 * entry index 0) 7 k index (switchPlace (componentPlace k) i + 3)
       ∙ sym (ap (λ (w : Switch). rowRoles 7 k (w .jump)) (switch-at model index k i h))
 
   switch-turn : (k : ℕ) → k < entry index 1 → (b : Bool) → eqb (getD switches k 0) stays ≡ b → roles (switchLine index k (getD switches k 0)) ++ moversOn (k + 1) ≡ chosen k b
@@ -126,7 +127,7 @@ module _ (model second index regions modes : List ℕ) (location : ℕ) (long : 
   here = present (componentsFrom model index) (perComponent index modes)
 
   abbrev region : Condition
-  region = spanRows second (entry index 0) regions (2 * location)
+  region = spanRows second (entry index 11) (entry index 0) regions (2 * location)
 
   invariant-roles : (form : ℕ) → roles (modeLines form 3 index 0 (perComponent index modes)) ≡ modeRoles form (λ mode. mode .invariant) 0 here
   unfolding modeFrom
@@ -143,7 +144,7 @@ module _ (model second index regions modes : List ℕ) (location : ℕ) (long : 
   unfolding hereLines
   here-roles rest {rs} e =
       both (hereLines index regions location (perComponent index modes)) rest
-      (both (keptLines 1 0 regions (2 * location)) (modeLines 2 3 index 0 (perComponent index modes)) (roles-kept second (entry index 0) 1 0 regions (2 * location)) (invariant-roles 2)) e
+      (both (keptLines 1 0 regions (2 * location)) (modeLines 2 3 index 0 (perComponent index modes)) (roles-kept second (entry index 11) (entry index 0) 1 0 regions (2 * location)) (invariant-roles 2)) e
       ∙ append-assoc (rowRoles 1 0 region) (modeRoles 2 (λ mode. mode .invariant) 0 here) rs
 
   time-role : roles (segment 6 0 0 1) ≡ owned 6 0 ∷ []
@@ -157,9 +158,9 @@ module _ (model second index regions modes : List ℕ) (location : ℕ) (long : 
       (both (modeLines 4 3 index 0 (perComponent index modes)) _ (invariant-roles 4)
       (both (modeLines 5 5 index 0 (perComponent index modes)) (segment 6 0 0 1) (modes-roles model index modes long known 5 5 (λ mode. mode .flow) (λ i. refl)) time-role))
 
-  pub unsafe-roles : (u : ℕ) → roles (unsafeLines index regions location (perComponent index modes) u) ≡ unsafeRoles region here (spanRows model (entry index 0) index (unsafePlace u + 4))
+  pub unsafe-roles : (u : ℕ) → roles (unsafeLines index regions location (perComponent index modes) u) ≡ unsafeRoles region here (spanRows model (entry index 11) (entry index 0) index (unsafePlace u + 4))
   unfolding unsafeLines unsafeRoles
-  unsafe-roles u = here-roles (keptLines 3 0 index (unsafePlace u + 4)) (roles-kept model (entry index 0) 3 0 index (unsafePlace u + 4))
+  unsafe-roles u = here-roles (keptLines 3 0 index (unsafePlace u + 4)) (roles-kept model (entry index 11) (entry index 0) 3 0 index (unsafePlace u + 4))
 
   pub jump-lines-roles :
       (targets switches : List ℕ) → entry index 1 ≤ length targets → KnownModes index targets → entry index 1 ≤ length switches → KnownSwitches index switches → GoodIndex model index

@@ -22,6 +22,7 @@ unfoldable pub use Rattle.rules.specs.Roles.{noUnsafe}
 use Rattle.rules.specs.Marking.{Marked, passed, stopped}
 use Rattle.hypotheses.specs.Tables.{TableLine, segment, endOf, linesIn, Stacked, hypothesesFrom, hypothesisRows, GoodLine, markWith}
 use Rattle.papers.specs.Paper.{regionsOf}
+use Rattle.formats.specs.Versions.{rowBytes}
 
 -- the rows that two numbers of an index tell, of one owner: the place of the first, and how many
 unfoldable pub keptLines : ℕ → ℕ → List ℕ → ℕ → List TableLine
@@ -124,16 +125,17 @@ unfoldable pub goalsOf : List ℕ → ℕ → Group → List Row
 goalsOf second n g =
     elim (g .zero) [
       | true ↦ replicate (g .goals) zeroRow
-      | false ↦ map (λ r. onNext (g .shift) (r .row)) (rowsFrom second n (g .from) (g .goals))
+      | false ↦ map (λ r. onNext (g .shift) (r .row)) (rowsFrom second (g .version) n (g .from) (g .goals))
     ]
 
 unfoldable pub emptyGroup : Group
-emptyGroup = record { segments = 0; hypotheses = 0; goals = 0; from = 0; shift = 0; width = 17; zero = false }
+emptyGroup = record { version = 0; segments = 0; hypotheses = 0; goals = 0; from = 0; shift = 0; width = 17; zero = false }
 
 -- the rows of a location's region, from the first segments of a table
-unfoldable pub regionGroup : List ℕ → ℕ → List ℕ → ℕ → ℕ → ℕ → Group
-regionGroup regions location table segments shift width =
+unfoldable pub regionGroup : ℕ → List ℕ → ℕ → List ℕ → ℕ → ℕ → ℕ → Group
+regionGroup version regions location table segments shift width =
     record {
+      version = version;
       segments = segments;
       hypotheses = endOf table segments;
       goals = entry regions (2 * location + 1);
@@ -143,24 +145,24 @@ regionGroup regions location table segments shift width =
       zero = false;
     }
 
-unfoldable pub unsafeGroup : List ℕ → ℕ → ℕ → Group
-unsafeGroup table segments width =
-    record { segments = segments; hypotheses = endOf table segments; goals = 1; from = 0; shift = 0; width = width; zero = true }
+unfoldable pub unsafeGroup : ℕ → List ℕ → ℕ → ℕ → Group
+unsafeGroup version table segments width =
+    record { version = version; segments = segments; hypotheses = endOf table segments; goals = 1; from = 0; shift = 0; width = width; zero = true }
 
 unfoldable pub tasksFrom : List Row → Bool → List Row → List Task
 tasksFrom rows zeroK goals = map (λ goal. record { rows = rows; zeroK = zeroK; goal = goal }) goals
 
 unfoldable pub tasksOf : List ℕ → List ℕ → ℕ → List ℕ → Group → List Task
 tasksOf model second n table g =
-    tasksFrom (hypothesisRows (hypothesesFrom model second n table (g .segments))) (g .zero) (goalsOf second n g)
+    tasksFrom (hypothesisRows (hypothesesFrom model second (g .version) n table (g .segments))) (g .zero) (goalsOf second n g)
 
 -- a group whose rows lie within their sheets and among its unknowns
 pub record GoodGroup (model second : List ℕ) (n : ℕ) (table : List ℕ) (g : Group) : Type 0 where
   pub stacked : Stacked table (g .segments)
   pub segments : g .segments ≤ 23
   pub hypotheses : g .hypotheses ≡ endOf table (g .segments)
-  pub lines : All (GoodLine model second n (g .width)) (linesIn table (g .segments))
-  pub goals : g .zero ≡ false → (j : ℕ) → j < g .goals → g .from + 4 * (n + 1) * (j + 1) ≤ length second
+  pub lines : All (GoodLine model second (g .version) n (g .width)) (linesIn table (g .segments))
+  pub goals : g .zero ≡ false → (j : ℕ) → j < g .goals → g .from + rowBytes (g .version) n * (j + 1) ≤ length second
   pub none : g .zero ≡ true → (g .from ≡ 0) × (g .goals ≤ 1)
   pub shift : g .shift + n ≤ g .width
   pub width : g .width ≤ 17

@@ -1,6 +1,6 @@
 -- How the code keeps hypotheses: a table of segments, each so many hypotheses of one form from one place on, in the listed order; what
 -- they stand for; and the proofs tested from them. Assumes nothing.
-use mathlib.Core.Bool.{Bool}
+use mathlib.Core.Bool.{Bool, false}
 use mathlib.Core.List.{List, [], _++_, map}
 use mathlib.Core.Path.{_≡_}
 use Prim.Native.Nat.{ℕ, zero, suc, _+_, _*_, _-_, _≤_, _<_}
@@ -15,6 +15,7 @@ use Rattle.models.specs.Index.{entry, Kept}
 use Rattle.formats.specs.Certificate.{readProof}
 use Rattle.rules.specs.Obligations.{Hypothesis, nowhere, standing, onX, onNext, onRates, timeRow, unit}
 use Rattle.rules.specs.Roles.{Role, owned}
+use Rattle.formats.specs.Versions.{rowBytes}
 
 -- a hypothesis by its form, the place and the owner of its segment, and its number there
 pub record TableLine : Type 0 where
@@ -66,37 +67,37 @@ pub record Onto (before : List ℕ) (at most : ℕ) (after : List ℕ) (r : ℕ)
 
 -- "x'−x ≤ 0" and "x−x' ≤ 0" of one variable
 unfoldable pub keepsUp : ℕ → ℕ → Row
-keepsUp n v = record { coefficients = unit n v (negsuc 0) ++ unit n v (pos 1); bound = pos 0 }
+keepsUp n v = record { coefficients = unit n v (negsuc 0) ++ unit n v (pos 1); bound = pos 0; strict = false }
 
 unfoldable pub keepsDown : ℕ → ℕ → Row
-keepsDown n v = record { coefficients = unit n v (pos 1) ++ unit n v (negsuc 0); bound = pos 0 }
+keepsDown n v = record { coefficients = unit n v (pos 1) ++ unit n v (negsuc 0); bound = pos 0; strict = false }
 
 unfoldable pub keeps : ℕ → ℕ → ℕ → Row
 keeps n v zero = keepsUp n v
 keeps n v (suc row) = keepsDown n v
 
 -- where a row stands that comes so many rows after the first
-unfoldable pub rowPlace : ℕ → ℕ → ℕ → ℕ
-rowPlace n place row = place + 4 * (n + 1) * row
+unfoldable pub rowPlace : ℕ → ℕ → ℕ → ℕ → ℕ
+rowPlace version n place row = place + rowBytes version n * row
 
 -- the forms: rows of the model on x: 0, initial; 2, an invariant; 3, an unsafe condition's; 1, a row of the certificate's region on x;
 -- 4, an invariant on x'; 5, a flow row; 6, −d ≤ 0; 7, a jump row; 8, the two rows of a staying variable, whose number is the place
-unfoldable pub hypothesisIn : List ℕ → List ℕ → ℕ → ℕ → ℕ → ℕ → Hypothesis
-hypothesisIn model second n zero place row = standing 0 onX (rowAt model n (rowPlace n place row))
-hypothesisIn model second n (suc zero) place row = standing 1 onX (rowAt second n (rowPlace n place row))
-hypothesisIn model second n (suc (suc zero)) place row = standing 0 onX (rowAt model n (rowPlace n place row))
-hypothesisIn model second n (suc (suc (suc zero))) place row = standing 0 onX (rowAt model n (rowPlace n place row))
-hypothesisIn model second n (suc (suc (suc (suc zero)))) place row = standing 0 (onNext n) (rowAt model n (rowPlace n place row))
-hypothesisIn model second n (suc (suc (suc (suc (suc zero))))) place row = standing 0 onRates (rowAt model n (rowPlace n place row))
-hypothesisIn model second n (suc (suc (suc (suc (suc (suc zero)))))) place row = nowhere (timeRow n)
-hypothesisIn model second n (suc (suc (suc (suc (suc (suc (suc zero))))))) place row = standing 0 onX (rowAt model (2 * n) (rowPlace (2 * n) place row))
-hypothesisIn model second n (suc (suc (suc (suc (suc (suc (suc (suc form)))))))) place row = nowhere (keeps n place row)
+unfoldable pub hypothesisIn : List ℕ → List ℕ → ℕ → ℕ → ℕ → ℕ → ℕ → Hypothesis
+hypothesisIn model second version n zero place row = standing 0 onX (rowAt model version n (rowPlace version n place row))
+hypothesisIn model second version n (suc zero) place row = standing 1 onX (rowAt second version n (rowPlace version n place row))
+hypothesisIn model second version n (suc (suc zero)) place row = standing 0 onX (rowAt model version n (rowPlace version n place row))
+hypothesisIn model second version n (suc (suc (suc zero))) place row = standing 0 onX (rowAt model version n (rowPlace version n place row))
+hypothesisIn model second version n (suc (suc (suc (suc zero)))) place row = standing 0 (onNext n) (rowAt model version n (rowPlace version n place row))
+hypothesisIn model second version n (suc (suc (suc (suc (suc zero))))) place row = standing 0 onRates (rowAt model version n (rowPlace version n place row))
+hypothesisIn model second version n (suc (suc (suc (suc (suc (suc zero)))))) place row = nowhere (timeRow n)
+hypothesisIn model second version n (suc (suc (suc (suc (suc (suc (suc zero))))))) place row = standing 0 onX (rowAt model version (2 * n) (rowPlace version (2 * n) place row))
+hypothesisIn model second version n (suc (suc (suc (suc (suc (suc (suc (suc form)))))))) place row = nowhere (keeps n place row)
 
-unfoldable pub hypothesisOf : List ℕ → List ℕ → ℕ → TableLine → Hypothesis
-hypothesisOf model second n l = hypothesisIn model second n (l .form) (l .place) (l .row)
+unfoldable pub hypothesisOf : List ℕ → List ℕ → ℕ → ℕ → TableLine → Hypothesis
+hypothesisOf model second version n l = hypothesisIn model second version n (l .form) (l .place) (l .row)
 
-unfoldable pub hypothesesFrom : List ℕ → List ℕ → ℕ → List ℕ → ℕ → List Hypothesis
-hypothesesFrom model second n table segments = map (hypothesisOf model second n) (linesIn table segments)
+unfoldable pub hypothesesFrom : List ℕ → List ℕ → ℕ → ℕ → List ℕ → ℕ → List Hypothesis
+hypothesesFrom model second version n table segments = map (hypothesisOf model second version n) (linesIn table segments)
 
 -- and their roles: a line's is its form, and its owner that of its segment
 unfoldable pub roleOf : TableLine → Role
@@ -109,10 +110,10 @@ unfoldable pub hypothesisRows : List Hypothesis → List Row
 hypothesisRows hypotheses = map (λ h. h .row) hypotheses
 
 -- a hypothesis whose row lies within its sheet, and its coefficients among so many unknowns
-pub record GoodLine (model second : List ℕ) (n width : ℕ) (l : TableLine) : Type 0 where
-  pub inModel : l .form < 6 → (l .form ≡ 1 → ⊥) → rowPlace n (l .place) (l .row) + 4 * (n + 1) ≤ length model
-  pub inSecond : l .form ≡ 1 → rowPlace n (l .place) (l .row) + 4 * (n + 1) ≤ length second
-  pub jump : l .form ≡ 7 → rowPlace (2 * n) (l .place) (l .row) + 4 * (2 * n + 1) ≤ length model
+pub record GoodLine (model second : List ℕ) (version n width : ℕ) (l : TableLine) : Type 0 where
+  pub inModel : l .form < 6 → (l .form ≡ 1 → ⊥) → rowPlace version n (l .place) (l .row) + rowBytes version n ≤ length model
+  pub inSecond : l .form ≡ 1 → rowPlace version n (l .place) (l .row) + rowBytes version n ≤ length second
+  pub jump : l .form ≡ 7 → rowPlace version (2 * n) (l .place) (l .row) + rowBytes version (2 * n) ≤ length model
   pub staying : 8 ≤ l .form → l .place < n
   pub before : n ≤ width
   pub after : 4 ≤ l .form → n + n ≤ width

@@ -16,6 +16,7 @@ use models::layout::Index;
 use models::layout::UNSAFE_LENGTH;
 use models::layout::UNSAFE_ROWS_AT;
 use models::layout::VARIABLES_AT;
+use papers::opening::version_of;
 use papers::regions::region_rows;
 use papers::standing::all_start;
 use papers::standing::modes_fit;
@@ -25,7 +26,7 @@ ghost use mathlib.Core.List.{_++_};
 ghost use Prim.Native.Nat.{_+_, _*_, _≤_, _<_};
 ghost use lib.ListN.{length};
 ghost use Rattle.formats.specs.Locations.{locationCount};
-ghost use Rattle.models.specs.Index.{entry, componentsFrom, conditionsIn, variablesIn, GoodIndex, Kept};
+ghost use Rattle.models.specs.Index.{entry, componentsFrom, conditionsIn, variablesIn, versionIn, GoodIndex, Kept};
 ghost use Rattle.models.specs.Counts.{perComponent, KnownSwitches};
 ghost use Rattle.hypotheses.specs.Tables.{Stacked, linesIn, Onto};
 ghost use Rattle.hypotheses.specs.Listing.{hereLines, startLines, flowLines, unsafeLines, landingLines, tasksOf, GoodGroup, emptyGroup, regionGroup, groupTasksFor, jumpTasksFor, HereIn};
@@ -162,6 +163,7 @@ fn no_group() -> Group
     ensures { λ r. ⌜ r ≡ emptyGroup ⌝ }
 {
     Group {
+        version: 0,
         segments: 0,
         hypotheses: 0,
         goals: 0,
@@ -174,6 +176,7 @@ fn no_group() -> Group
 
 // The rows of a location's region, to be proved from a table on the unknowns from `shift` on.
 fn region_group(
+    index: &Index,
     regions: &[u16],
     location: u32,
     table: &[u16],
@@ -183,12 +186,14 @@ fn region_group(
 ) -> Group
     requires { ⌜ (128 ≤ length (now regions)) × (location < 64) ⌝ }
     requires { ⌜ (96 ≤ length (now table)) × (segments ≤ 23) ⌝ }
-    ensures { λ r. ⌜ r ≡ regionGroup (now (regions .entry)) location (now (table .entry)) segments shift width ⌝ }
+    ensures { λ r. ⌜ r ≡ regionGroup (versionIn (now (index .entry))) (now (regions .entry)) location (now (table .entry)) segments shift width ⌝ }
 {
+    let version = version_of(index);
     let hypotheses = lines(table, segments);
     let goals = region_rows(regions, location);
     let from = regions[2 * (location as usize)] as usize;
     Group {
+        version,
         segments,
         hypotheses,
         goals,
@@ -223,6 +228,7 @@ fn start_group(
     }
     let segments = start_table(model, index, modes, table);
     region_group(
+        index,
         regions,
         location,
         table,
@@ -252,7 +258,7 @@ fn flow_group(
     }
     let segments = flow_table(model, index, second, regions, location, modes, table);
     let n = index[VARIABLES_AT] as usize;
-    region_group(regions, location, table, segments, n, n + n + 1)
+    region_group(index, regions, location, table, segments, n, n + n + 1)
 }
 
 // The proof that an unsafe condition is not met in a location, where the location's modes fit it.
@@ -276,7 +282,9 @@ fn unsafe_group(
     }
     let segments = unsafe_table(model, index, second, regions, location, modes, u, table);
     let hypotheses = lines(table, segments);
+    let version = version_of(index);
     Group {
+        version,
         segments,
         hypotheses,
         goals: 1,
@@ -344,5 +352,5 @@ pub fn jump_group(
     let switches = landing.switches;
     let segments = jump_table(model, index, targets, switches, here, table);
     let n = index[VARIABLES_AT] as usize;
-    region_group(regions, landing.target, table, segments, n, n + n)
+    region_group(index, regions, landing.target, table, segments, n, n + n)
 }

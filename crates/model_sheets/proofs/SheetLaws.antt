@@ -5,11 +5,12 @@ use mathlib.Core.List.{List}
 use Prim.Native.Nat.{ℕ, _+_, _≤_, _<_}
 use borrow.Author.Tests.{le-leb, lt-leb}
 use native.Mathlib.Omega.{arith}
-use lib.Dec.{T, leb, eqb, leb→le, eqb→eq}
+use lib.Dec.{T, leb, eqb, leb→le}
 use lib.ListN.{length, take}
 use Rattle.fields.specs.declared.Next.{Next}
 use Rattle.fields.specs.declared.Next.the-variants as next
-use Rattle.formats.specs.Reading.{Got, got, refused, Reader, andThen, _>>=_, _>>_, give, here, expect, bigEndian, field, u8, u16, must, lengthRight, sized, header, finished}
+use Rattle.formats.specs.Versions.{versionFits, kindFits}
+use Rattle.formats.specs.Reading.{Got, got, refused, Reader, andThen, _>>=_, _>>_, give, here, expect, bigEndian, u8, u16, must, lengthRight, sized, header, finished}
 use Rattle.formats.specs.Model.{Component, Model, readModelBody}
 use Rattle.formats.specs.Locations.{locationCount}
 use Rattle.formats.specs.Joint.{joints}
@@ -18,29 +19,30 @@ use Rattle.formats.specs.ModelSheet.{limitsTest, readModel}
 use Rattle.formats.proofs.ModelSheet.{in-a-chain}
 use Rattle.models.specs.Index.{modelFrom, GoodIndex}
 use Rattle.fields.specs.Answers.{gotAs}
-use Rattle.formats.proofs.FieldLaws.{field-read, byte-read}
-use Rattle.formats.proofs.Gives.{passes, tested, got-value, got-next, bind-got, then-got, and-left, and-right}
+use Rattle.formats.proofs.Gives.{passes, tested, got-value, bind-got, then-got, and-left, and-right}
 use Rattle.fields.proofs.Skipping.{bind-refused}
 use Rattle.formats.proofs.WellFormed.{body-gives}
 use Rattle.formats.proofs.RowPlaces.{body-within}
 use Rattle.models.proofs.GoodIndexLaws.{body-few, good-index}
 
 -- a body that was read into an index makes it a good one
-pub body-good : (s index : List ℕ) (at end : ℕ) → readModelBody 1 s at ≡ got (modelFrom s index) end → GoodIndex s index
-body-good s index at end e =
-    good-index s index (body-gives 1 .holds s at (modelFrom s index) end e) (body-within s 1 .holds at (modelFrom s index) end e) (body-few 1 .holds s at (modelFrom s index) end e)
+pub body-good : (version : ℕ) (s index : List ℕ) (at end : ℕ) → T (versionFits 1 version) → readModelBody version s at ≡ got (modelFrom s index) end → GoodIndex s index
+body-good version s index at end fits e =
+    good-index s index
+    (body-gives version fits .holds s at (modelFrom s index) end e)
+    (body-within s version .holds at (modelFrom s index) end e)
+    (body-few version .holds s at (modelFrom s index) end e)
 
 -- the header
-pub record HeaderRead (s : List ℕ) (version place : ℕ) : Type 0 where
-  pub one : version ≡ 1
-  pub four : place ≡ 4
+pub record HeaderRead (kind : ℕ) (s : List ℕ) (version : ℕ) : Type 0 where
+  pub fits : T (versionFits kind version)
   pub short : length s ≤ 32768
 
-sized-step : (s : List ℕ) (b : Bool) (p : ℕ) → lengthRight s ≡ b → _≡_ {A = Got (Unit {0})} (cond b (got tt 0) (refused 1 0)) (got tt p) → (T (lengthRight s)) × (p ≡ 0)
-sized-step s true p q e = (subst T (sym q) tt, sym (got-next e))
+sized-step : (s : List ℕ) (b : Bool) (p : ℕ) → lengthRight s ≡ b → _≡_ {A = Got (Unit {0})} (cond b (got tt 0) (refused 1 0)) (got tt p) → T (lengthRight s)
+sized-step s true p q e = subst T (sym q) tt
 sized-step s false p q e = let z : _≡_ {A = ℕ} 0 1 = cc in absurd (omega arith)
 
-sized-read : (s : List ℕ) (p : ℕ) → sized s 0 ≡ got tt p → (T (lengthRight s)) × (p ≡ 0)
+sized-read : (s : List ℕ) (p : ℕ) → sized s 0 ≡ got tt p → T (lengthRight s)
 unfolding sized
 sized-read s p e = sized-step s (lengthRight s) p refl e
 
@@ -52,23 +54,17 @@ short-right s t =
     let c = eqb (bigEndian (take 2 s) + 2) (length s) in
     leb→le (length s) 32768 (and-right a b (and-left (a && b) c t))
 
-pub header-read : (kind : ℕ) (s : List ℕ) (version place : ℕ) → header kind s 0 ≡ got version place → HeaderRead s version place
-unfolding header _>>_ _>>=_ give must u16
+pub header-read : (kind : ℕ) (s : List ℕ) (version place : ℕ) → header kind s 0 ≡ got version place → HeaderRead kind s version
+unfolding header _>>_ _>>=_ give must
 header-read kind s version place e =
-    let a = passes (sized s 0) (λ u. u16 >> (must (λ v. eqb v 1) 2 u8 >>= λ version. must (λ v. eqb v kind) 3 u8 >> give version)) s version place e in
-    let r = sized-read s (a .place) (a .first) in
-    let b = passes (field 2 s (a .place)) (λ u. must (λ v. eqb v 1) 2 u8 >>= λ version. must (λ v. eqb v kind) 3 u8 >> give version) s version place (a .second) in
-    let f = field-read 2 s (a .place) (b .value) (b .place) (b .first) in
-    let c = passes (must (λ v. eqb v 1) 2 u8 s (b .place)) (λ version. must (λ v. eqb v kind) 3 u8 >> give version) s version place (b .second) in
-    let t = tested (λ v. eqb v 1) 2 (b .place) (u8 s (b .place)) (c .value) (c .place) (c .first) in
-    let g = byte-read s (b .place) (c .value) (c .place) (t .read) in
-    let d = passes (must (λ v. eqb v kind) 3 u8 s (c .place)) (λ u. give (c .value)) s version place (c .second) in
-    let w = tested (λ v. eqb v kind) 3 (c .place) (u8 s (c .place)) (d .value) (d .place) (d .first) in
-    let h = byte-read s (c .place) (d .value) (d .place) (w .read) in
+    let a = passes (sized s 0) (λ u. u16 >> (must (versionFits kind) 2 u8 >>= λ version. must (kindFits kind) 3 u8 >> give version)) s version place e in
+    let b = passes (u16 s (a .place)) (λ u. must (versionFits kind) 2 u8 >>= λ version. must (kindFits kind) 3 u8 >> give version) s version place (a .second) in
+    let c = passes (must (versionFits kind) 2 u8 s (b .place)) (λ version. must (kindFits kind) 3 u8 >> give version) s version place (b .second) in
+    let t = tested (versionFits kind) 2 (b .place) (u8 s (b .place)) (c .value) (c .place) (c .first) in
+    let d = passes (must (kindFits kind) 3 u8 s (c .place)) (λ u. give (c .value)) s version place (c .second) in
     record {
-      one = sym (got-value (d .second)) ∙ eqb→eq (c .value) 1 (t .passed);
-      four = sym (got-next (d .second)) ∙ omega (arith, r .1, f .after, g .after, h .after);
-      short = short-right s (r .0);
+      fits = subst (λ (v : ℕ). T (versionFits kind v)) (got-value (d .second)) (t .passed);
+      short = short-right s (sized-read s (a .place) (a .first));
     }
 
 -- a test that is no field, and the place where a field begins
@@ -86,12 +82,12 @@ limits-then a r s p (next.At q) e = ap (λ g. andThen g (λ u. give a) s) e
 limits-then a r s p (next.Refused number q) e = ap (λ g. andThen g (λ u. give a) s) e
 
 -- the two limits, by the counts
-module _ (limits : Limits) (components : List Component) (s : List ℕ) (p : ℕ) where
-  pub limits-seven : limits .locations < locationCount components → limitsTest limits components 4 s p ≡ refused 7 4
+module _ (limits : Limits) (components : List Component) (body : ℕ) (s : List ℕ) (p : ℕ) where
+  pub limits-seven : limits .locations < locationCount components → limitsTest limits components body s p ≡ refused 7 body
   unfolding limitsTest expect _>>_ andThen
   limits-seven h = rw (lt-leb (locationCount components) (limits .locations) h) refl
 
-  pub limits-eight : locationCount components ≤ limits .locations → limits .joints < length (joints components) → limitsTest limits components 4 s p ≡ refused 8 4
+  pub limits-eight : locationCount components ≤ limits .locations → limits .joints < length (joints components) → limitsTest limits components body s p ≡ refused 8 body
   unfolding limitsTest expect _>>_ andThen
   limits-eight h k = rw (le-leb (locationCount components) (limits .locations) h, lt-leb (length (joints components)) (limits .joints) k) refl
 
@@ -100,17 +96,17 @@ module _ (limits : Limits) (s : List ℕ) where
   pub sheet-first : (number place : ℕ) → header 1 s 0 ≡ refused number place → readModel limits s ≡ refused number place
   sheet-first number place e = in-a-chain limits s ∙ bind-refused (header 1) _ s 0 e
 
-  module _ (one : header 1 s 0 ≡ got 1 4) where
-    pub sheet-second : (number place : ℕ) → readModelBody 1 s 4 ≡ refused number place → readModel limits s ≡ refused number place
-    sheet-second number place e = in-a-chain limits s ∙ bind-got (header 1) _ s 0 one (here-then _ s 4 (bind-refused (readModelBody 1) _ s 4 e))
+  module _ (version body : ℕ) (one : header 1 s 0 ≡ got version body) where
+    pub sheet-second : (number place : ℕ) → readModelBody version s body ≡ refused number place → readModel limits s ≡ refused number place
+    sheet-second number place e = in-a-chain limits s ∙ bind-got (header 1) _ s 0 one (here-then _ s body (bind-refused (readModelBody version) _ s body e))
 
-    module _ (m : Model) (end : ℕ) (two : readModelBody 1 s 4 ≡ got m end) where
+    module _ (m : Model) (end : ℕ) (two : readModelBody version s body ≡ got m end) where
       pub sheet-third : (number place : ℕ) → finished s end ≡ refused number place → readModel limits s ≡ refused number place
       sheet-third number place e =
           in-a-chain limits s
-          ∙ bind-got (header 1) _ s 0 one (here-then _ s 4 (bind-got (readModelBody 1) _ s 4 two (then-refused finished _ s end e)))
+          ∙ bind-got (header 1) _ s 0 one (here-then _ s body (bind-got (readModelBody version) _ s body two (then-refused finished _ s end e)))
 
-      pub sheet-limits : (next : ℕ) → finished s end ≡ got tt next → (x : Next) → gotAs tt x ≡ limitsTest limits (m .components) 4 s next → gotAs m x ≡ readModel limits s
+      pub sheet-limits : (next : ℕ) → finished s end ≡ got tt next → (x : Next) → gotAs tt x ≡ limitsTest limits (m .components) body s next → gotAs m x ≡ readModel limits s
       sheet-limits next three x e =
-          limits-then m (limitsTest limits (m .components) 4) s next x e
-          ∙ sym (in-a-chain limits s ∙ bind-got (header 1) _ s 0 one (here-then _ s 4 (bind-got (readModelBody 1) _ s 4 two (then-got finished _ s end three refl))))
+          limits-then m (limitsTest limits (m .components) body) s next x e
+          ∙ sym (in-a-chain limits s ∙ bind-got (header 1) _ s 0 one (here-then _ s body (bind-got (readModelBody version) _ s body two (then-got finished _ s end three refl))))

@@ -12,6 +12,7 @@ use models::layout::FIRST_TOTAL;
 use models::layout::Index;
 use models::layout::JOINTS_AT;
 use models::layout::LOCATIONS_AT;
+use models::layout::VERSION_AT;
 ghost use mathlib.Core.Path.{_≡_};
 ghost use Prim.Native.Nat.{_≤_};
 ghost use lib.Dec.{T};
@@ -36,21 +37,22 @@ fn keep_counts(totals: [u32; 16], joints: u32, locations: u32, index: &mut [u16]
     index[LOCATIONS_AT] = locations as u16;
 }
 
-// Whether the model is within the stated limits: 7 and 8, at the place of its first count. If it is, the counts are kept in its index.
-fn within_limits(s: &[u8], index: &mut Index, next: usize, limits: Limits) -> Next
+// Whether the model is within the stated limits: 7 and 8, at the place of its body, which is n's. If it is, the counts are kept in its
+// index.
+fn within_limits(s: &[u8], index: &mut Index, body: usize, next: usize, limits: Limits) -> Next
     requires { ⌜ GoodIndex (now s) (now index) ⌝ }
     requires { ⌜ T (limitsFit limits) ⌝ }
-    ensures { λ r. ⌜ gotAs tt r ≡ limitsTest limits (componentsFrom (now (s .entry)) (now (index .entry))) 4 (now (s .entry)) next ⌝ }
+    ensures { λ r. ⌜ gotAs tt r ≡ limitsTest limits (componentsFrom (now (s .entry)) (now (index .entry))) body (now (s .entry)) next ⌝ }
     ensures { λ r. ⌜ OnlyCounts (now (index .entry)) (now (index .exit)) × CountedAfter (now (s .entry)) (now (index .exit)) r ⌝ }
 {
     let locations = location_count(s, index);
     if limits.locations < locations {
-        return Next::Refused(7, 4);
+        return Next::Refused(7, body);
     }
     let totals = event_totals(s, index);
     let joints = joint_total(s, index, totals);
     if limits.joints < joints {
-        return Next::Refused(8, 4);
+        return Next::Refused(8, body);
     }
     keep_counts(totals, joints, locations, index);
     Next::At(next)
@@ -65,12 +67,15 @@ pub fn model_into(s: &[u8], index: &mut Index, limits: Limits) -> Next
 {
     match header(s, 1) {
         Field::Refused(number, place) => Next::Refused(number, place),
-        Field::Value(_, body) => match body_into(s, body, index) {
-            Next::Refused(number, place) => Next::Refused(number, place),
-            Next::At(end) => match finished(s, end) {
+        Field::Value(version, body) => {
+            index[VERSION_AT] = version as u16;
+            match body_into(s, body, version, index) {
                 Next::Refused(number, place) => Next::Refused(number, place),
-                Next::At(next) => within_limits(s, index, next, limits),
-            },
-        },
+                Next::At(end) => match finished(s, end) {
+                    Next::Refused(number, place) => Next::Refused(number, place),
+                    Next::At(next) => within_limits(s, index, body, next, limits),
+                },
+            }
+        }
     }
 }

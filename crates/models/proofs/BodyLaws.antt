@@ -73,26 +73,26 @@ totals-small s at t next e =
     subst SmallTotals (got-value (three .second)) (record { least = n .low; most = n .high; some = c .low; few = c .high; conditions = u .high })
 
 -- components and unsafe conditions
-module _ (n c conditions : ℕ) (s : List ℕ) (at : ℕ) where
-  pub parts-first : (number place : ℕ) → many c (readComponent n) s at ≡ refused number place → readParts n c conditions s at ≡ refused number place
+module _ (version n c conditions : ℕ) (s : List ℕ) (at : ℕ) where
+  pub parts-first : (number place : ℕ) → many c (readComponent version n) s at ≡ refused number place → readParts version n c conditions s at ≡ refused number place
   unfolding readParts
-  parts-first number place e = bind-refused (many c (readComponent n)) _ s at e
+  parts-first number place e = bind-refused (many c (readComponent version n)) _ s at e
 
-  pub parts-read : (components : List Component) (second : ℕ) → many c (readComponent n) s at ≡ got components second → (unsafe : List Unsafe) (x : Next) → gotAs unsafe x ≡ many conditions (readUnsafe n components) s second → gotAs (record { components = components; unsafe = unsafe }) x ≡ readParts n c conditions s at
+  pub parts-read : (components : List Component) (second : ℕ) → many c (readComponent version n) s at ≡ got components second → (unsafe : List Unsafe) (x : Next) → gotAs unsafe x ≡ many conditions (readUnsafe version n components) s second → gotAs (record { components = components; unsafe = unsafe }) x ≡ readParts version n c conditions s at
   unfolding readParts
   parts-read components second one unsafe x e =
-      last-got (many conditions (readUnsafe n components)) (λ v. record { components = components; unsafe = v }) s second unsafe x e
-      ∙ sym (bind-got (many c (readComponent n)) _ s at one refl)
+      last-got (many conditions (readUnsafe version n components)) (λ v. record { components = components; unsafe = v }) s second unsafe x e
+      ∙ sym (bind-got (many c (readComponent version n)) _ s at one refl)
 
 -- the whole body
-module _ (s : List ℕ) (at : ℕ) where
+module _ (version : ℕ) (s : List ℕ) (at : ℕ) where
   after : Totals → Reader Model
   after t =
       many (t .variables) (below (t .components) u8) >>= λ owners.
-      readParts (t .variables) (t .components) (t .conditions) >>= λ p.
-      give (record { version = 1; variables = t .variables; owners = owners; components = p .components; unsafe = p .unsafe })
+      readParts version (t .variables) (t .components) (t .conditions) >>= λ p.
+      give (record { version = version; variables = t .variables; owners = owners; components = p .components; unsafe = p .unsafe })
 
-  body-parts : readModelBody 1 s at ≡ (readTotals >>= after) s at
+  body-parts : readModelBody version s at ≡ (readTotals >>= after) s at
   unfolding readModelBody readTotals readParts after
   body-parts =
       sym
@@ -108,59 +108,63 @@ module _ (s : List ℕ) (at : ℕ) where
       give-bind (record { variables = n; components = c; conditions = u }) after s k
       ∙ bind-same (many n (below c u8)) _ _ s k
       (λ o l.
-      bind-assoc (many c (readComponent n)) _ (λ p. give (record { version = 1; variables = n; owners = o; components = p .components; unsafe = p .unsafe })) s l
-      ∙ bind-same (many c (readComponent n)) _ _ s l
+      bind-assoc (many c (readComponent version n)) _ (λ p. give (record { version = version; variables = n; owners = o; components = p .components; unsafe = p .unsafe })) s l
+      ∙ bind-same (many c (readComponent version n)) _ _ s l
       (λ cs i.
-      bind-assoc (many u (readUnsafe n cs)) _ (λ p. give (record { version = 1; variables = n; owners = o; components = p .components; unsafe = p .unsafe })) s i
-      ∙ bind-same (many u (readUnsafe n cs)) _ _ s i (λ us j. give-bind (record { components = cs; unsafe = us }) (λ p. give (record { version = 1; variables = n; owners = o; components = p .components; unsafe = p .unsafe })) s j)))))))
+      bind-assoc (many u (readUnsafe version n cs)) _ (λ p. give (record { version = version; variables = n; owners = o; components = p .components; unsafe = p .unsafe })) s i
+      ∙ bind-same (many u (readUnsafe version n cs)) _ _ s i (λ us j. give-bind (record { components = cs; unsafe = us }) (λ p. give (record { version = version; variables = n; owners = o; components = p .components; unsafe = p .unsafe })) s j)))))))
 
-  pub body-first : (number place : ℕ) → readTotals s at ≡ refused number place → readModelBody 1 s at ≡ refused number place
+  pub body-first : (number place : ℕ) → readTotals s at ≡ refused number place → readModelBody version s at ≡ refused number place
   body-first number place e = body-parts ∙ bind-refused readTotals after s at e
 
   module _ (t : Totals) (second : ℕ) (one : readTotals s at ≡ got t second) where
-    pub body-second : (number place : ℕ) → many (t .variables) (below (t .components) u8) s second ≡ refused number place → readModelBody 1 s at ≡ refused number place
+    pub body-second : (number place : ℕ) → many (t .variables) (below (t .components) u8) s second ≡ refused number place → readModelBody version s at ≡ refused number place
     unfolding after
     body-second number place e = body-parts ∙ bind-got readTotals after s at one (bind-refused (many (t .variables) (below (t .components) u8)) _ s second e)
 
-    pub body-read : (owners : List ℕ) (third : ℕ) → many (t .variables) (below (t .components) u8) s second ≡ got owners third → (p : BodyParts) (x : Next) → gotAs p x ≡ readParts (t .variables) (t .components) (t .conditions) s third → gotAs (record { version = 1; variables = t .variables; owners = owners; components = p .components; unsafe = p .unsafe }) x ≡ readModelBody 1 s at
+    pub body-read : (owners : List ℕ) (third : ℕ) → many (t .variables) (below (t .components) u8) s second ≡ got owners third → (p : BodyParts) (x : Next) → gotAs p x ≡ readParts version (t .variables) (t .components) (t .conditions) s third → gotAs (record { version = version; variables = t .variables; owners = owners; components = p .components; unsafe = p .unsafe }) x ≡ readModelBody version s at
     unfolding after
     body-read owners third two p x e =
-        last-got (readParts (t .variables) (t .components) (t .conditions)) (λ v. record { version = 1; variables = t .variables; owners = owners; components = v .components; unsafe = v .unsafe }) s third p x e
+        last-got (readParts version (t .variables) (t .components) (t .conditions)) (λ v. record { version = version; variables = t .variables; owners = owners; components = v .components; unsafe = v .unsafe }) s third p x e
         ∙ sym (body-parts ∙ bind-got readTotals after s at one (bind-got (many (t .variables) (below (t .components) u8)) _ s second two refl))
 
 -- components that were read have small counts
 pub all-list : {A : Type 0} {P : A → Type 0} (f : ℕ → A) (n : ℕ) → All P (map f (countUp 0 n)) → (i : ℕ) → i < n → P (f i)
 all-list f n h i b = all-in h (in-map f (in-count 0 n i (omega arith) (omega arith)))
 
-pub blocks-read : (s : List ℕ) (n c at : ℕ) (ys : List ℕ) (next : ℕ) → many c (readComponent n) s at ≡ got (map (λ k. componentFrom s n ys (componentPlace k)) (countUp 0 c)) next → (k : ℕ) → k < c → (entry ys (componentPlace k + 1) ≤ 8) × (entry ys (componentPlace k + 2) ≤ 32)
+pub blocks-read : (s : List ℕ) (version n c at : ℕ) (ys : List ℕ) (next : ℕ) → many c (readComponent version n) s at ≡ got (map (λ k. componentFrom s version n ys (componentPlace k)) (countUp 0 c)) next → (k : ℕ) → k < c → (entry ys (componentPlace k + 1) ≤ 8) × (entry ys (componentPlace k + 2) ≤ 32)
 unfolding componentFrom
-blocks-read s n c at ys next e k h =
+blocks-read s version n c at ys next e k h =
     let block = componentPlace k in
-    let g = all-list (λ k. componentFrom s n ys (componentPlace k)) c (gives-many c (component-gives n) .holds s at (map (λ k. componentFrom s n ys (componentPlace k)) (countUp 0 c)) next e .1) k h in (
-      subst (λ (x : ℕ). x ≤ 8) (length-list (λ j. modeFrom s n ys (modePlace block j)) 0 (entry ys (block + 1))) (g .most),
-      subst (λ (x : ℕ). x ≤ 32) (length-list (λ i. switchFrom s n ys (switchPlace block i)) 0 (entry ys (block + 2))) (g .few),
+    let g = all-list (λ k. componentFrom s version n ys (componentPlace k)) c (gives-many c (component-gives version n) .holds s at (map (λ k. componentFrom s version n ys (componentPlace k)) (countUp 0 c)) next e .1) k h in (
+      subst (λ (x : ℕ). x ≤ 8) (length-list (λ j. modeFrom s version n ys (modePlace block j)) 0 (entry ys (block + 1))) (g .most),
+      subst (λ (x : ℕ). x ≤ 32) (length-list (λ i. switchFrom s version n ys (switchPlace block i)) 0 (entry ys (block + 2))) (g .few),
     )
 
 -- components are the same where only later numbers have changed
-pub components-kept : (s : List ℕ) (n c : ℕ) (xs ys : List ℕ) → c ≤ 4 → ((k : ℕ) → k < c → (entry xs (componentPlace k + 1) ≤ 8) × (entry xs (componentPlace k + 2) ≤ 32)) → Kept 892 988 xs ys → map (λ k. componentFrom s n ys (componentPlace k)) (countUp 0 c) ≡ map (λ k. componentFrom s n xs (componentPlace k)) (countUp 0 c)
+pub components-kept : (s : List ℕ) (version n c : ℕ) (xs ys : List ℕ) → c ≤ 4 → ((k : ℕ) → k < c → (entry xs (componentPlace k + 1) ≤ 8) × (entry xs (componentPlace k + 2) ≤ 32)) → Kept 892 988 xs ys → map (λ k. componentFrom s version n ys (componentPlace k)) (countUp 0 c) ≡ map (λ k. componentFrom s version n xs (componentPlace k)) (countUp 0 c)
 unfolding upTo componentPlace
-components-kept s n c xs ys few small w =
-    up-to-same (λ k. componentFrom s n ys (componentPlace k)) (λ k. componentFrom s n xs (componentPlace k)) c
-    (λ k h. component-same s n xs ys (16 + 219 * k) (small k h .0) (small k h .1) (λ i p q. w .kept i (λ u v. omega arith)))
+components-kept s version n c xs ys few small w =
+    up-to-same (λ k. componentFrom s version n ys (componentPlace k)) (λ k. componentFrom s version n xs (componentPlace k)) c
+    (λ k h. component-same s version n xs ys (16 + 219 * k) (small k h .0) (small k h .1) (λ i p q. w .kept i (λ u v. omega arith)))
 
--- the whole model, where counts and owners were kept before
-pub model-whole : (s : List ℕ) (x y z : List ℕ) (owners : List ℕ) → owners ≡ map (λ v. entry y (ownerPlace v)) (countUp 0 (entry x 0)) → Kept 3 11 x y → Kept 16 988 y z → entry x 0 ≤ 8 → modelFrom s z ≡ record { version = 1; variables = entry x 0; owners = owners; components = partsFrom s (entry x 0) (entry x 1) (entry x 2) z .components; unsafe = partsFrom s (entry x 0) (entry x 1) (entry x 2) z .unsafe }
+-- the whole model, where version, counts and owners were kept before
+pub model-whole : (version : ℕ) (s : List ℕ) (x y z : List ℕ) (owners : List ℕ) → version ≡ entry x 11 → owners ≡ map (λ v. entry y (ownerPlace v)) (countUp 0 (entry x 0)) → Kept 3 11 x y → Kept 16 988 y z → entry x 0 ≤ 8 → modelFrom s z ≡ record { version = version; variables = entry x 0; owners = owners; components = partsFrom s version (entry x 0) (entry x 1) (entry x 2) z .components; unsafe = partsFrom s version (entry x 0) (entry x 1) (entry x 2) z .unsafe }
 unfolding modelFrom componentsFrom partsFrom ownerPlace upTo
-model-whole s x y z owners e k l most =
+model-whole version s x y z owners h e k l most =
+    let v : entry z 11 ≡ version = l .kept 11 (λ p q. omega arith) ∙ k .kept 11 (λ p q. omega arith) ∙ sym h in
     let n : entry z 0 ≡ entry x 0 = l .kept 0 (λ p q. omega arith) ∙ k .kept 0 (λ p q. omega arith) in
     let c : entry z 1 ≡ entry x 1 = l .kept 1 (λ p q. omega arith) ∙ k .kept 1 (λ p q. omega arith) in
     let u : entry z 2 ≡ entry x 2 = l .kept 2 (λ p q. omega arith) ∙ k .kept 2 (λ p q. omega arith) in
     let os : map (λ v. entry z (3 + v)) (countUp 0 (entry z 0)) ≡ owners =
     ap (λ (m : ℕ). map (λ v. entry z (3 + v)) (countUp 0 m)) n ∙ up-to-same (λ v. entry z (3 + v)) (λ v. entry y (3 + v)) (entry x 0) (λ v h. l .kept (3 + v) (λ p q. omega arith)) ∙ sym e in
-    let cs : map (λ k. componentFrom s (entry z 0) z (componentPlace k)) (countUp 0 (entry z 1)) ≡ map (λ k. componentFrom s (entry x 0) z (componentPlace k)) (countUp 0 (entry x 1)) =
-    ap (λ (m : ℕ). map (λ k. componentFrom s m z (componentPlace k)) (countUp 0 (entry z 1))) n ∙ ap (λ (m : ℕ). map (λ k. componentFrom s (entry x 0) z (componentPlace k)) (countUp 0 m)) c in
-    let us : map (λ i. unsafeFrom s (entry z 0) (entry z 1) z (unsafePlace i)) (countUp 0 (entry z 2)) ≡ map (λ i. unsafeFrom s (entry x 0) (entry x 1) z (unsafePlace i)) (countUp 0 (entry x 2)) =
-    ap (λ (m : ℕ). map (λ i. unsafeFrom s m (entry z 1) z (unsafePlace i)) (countUp 0 (entry z 2))) n
-    ∙ ap (λ (m : ℕ). map (λ i. unsafeFrom s (entry x 0) m z (unsafePlace i)) (countUp 0 (entry z 2))) c
-    ∙ ap (λ (m : ℕ). map (λ i. unsafeFrom s (entry x 0) (entry x 1) z (unsafePlace i)) (countUp 0 m)) u in
-    λ i. record { version = 1; variables = n i; owners = os i; components = cs i; unsafe = us i }
+    let cs : map (λ k. componentFrom s (entry z 11) (entry z 0) z (componentPlace k)) (countUp 0 (entry z 1)) ≡ map (λ k. componentFrom s version (entry x 0) z (componentPlace k)) (countUp 0 (entry x 1)) =
+    ap (λ (w : ℕ). map (λ k. componentFrom s w (entry z 0) z (componentPlace k)) (countUp 0 (entry z 1))) v
+    ∙ ap (λ (m : ℕ). map (λ k. componentFrom s version m z (componentPlace k)) (countUp 0 (entry z 1))) n
+    ∙ ap (λ (m : ℕ). map (λ k. componentFrom s version (entry x 0) z (componentPlace k)) (countUp 0 m)) c in
+    let us : map (λ i. unsafeFrom s (entry z 11) (entry z 0) (entry z 1) z (unsafePlace i)) (countUp 0 (entry z 2)) ≡ map (λ i. unsafeFrom s version (entry x 0) (entry x 1) z (unsafePlace i)) (countUp 0 (entry x 2)) =
+    ap (λ (w : ℕ). map (λ i. unsafeFrom s w (entry z 0) (entry z 1) z (unsafePlace i)) (countUp 0 (entry z 2))) v
+    ∙ ap (λ (m : ℕ). map (λ i. unsafeFrom s version m (entry z 1) z (unsafePlace i)) (countUp 0 (entry z 2))) n
+    ∙ ap (λ (m : ℕ). map (λ i. unsafeFrom s version (entry x 0) m z (unsafePlace i)) (countUp 0 (entry z 2))) c
+    ∙ ap (λ (m : ℕ). map (λ i. unsafeFrom s version (entry x 0) (entry x 1) z (unsafePlace i)) (countUp 0 m)) u in
+    λ i. record { version = v i; variables = n i; owners = os i; components = cs i; unsafe = us i }

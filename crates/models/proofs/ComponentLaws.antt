@@ -82,14 +82,14 @@ counts-small s at c next e =
     subst SmallCounts (got-value (three .second)) (record { least = m .low; most = m .high; few = w .high })
 
 -- a component
-module _ (n : ℕ) (s : List ℕ) (at : ℕ) where
+module _ (version n : ℕ) (s : List ℕ) (at : ℕ) where
   rest : Counts → Reader Component
   rest c =
-      many (c .modes) (readMode n) >>= λ modes.
-      many (c .switches) (readSwitch n (c .alphabet) (c .modes)) >>= λ switches.
+      many (c .modes) (readMode version n) >>= λ modes.
+      many (c .switches) (readSwitch version n (c .alphabet) (c .modes)) >>= λ switches.
       give (record { alphabet = c .alphabet; modes = modes; switches = switches })
 
-  component-parts : readComponent n s at ≡ (readCounts >>= rest) s at
+  component-parts : readComponent version n s at ≡ (readCounts >>= rest) s at
   unfolding readComponent readCounts readAlphabet rest
   component-parts =
       sym
@@ -100,37 +100,37 @@ module _ (n : ℕ) (s : List ℕ) (at : ℕ) where
       ∙ bind-same (within 1 8 u8) _ _ s p
       (λ m q. bind-assoc (within 0 32 u8) _ rest s q ∙ bind-same (within 0 32 u8) _ _ s q (λ w k. give-bind (record { alphabet = a; modes = m; switches = w }) rest s k))))
 
-  pub component-first : (number place : ℕ) → readCounts s at ≡ refused number place → readComponent n s at ≡ refused number place
+  pub component-first : (number place : ℕ) → readCounts s at ≡ refused number place → readComponent version n s at ≡ refused number place
   component-first number place e = component-parts ∙ bind-refused readCounts rest s at e
 
   module _ (c : Counts) (second : ℕ) (one : readCounts s at ≡ got c second) where
-    pub component-second : (number place : ℕ) → many (c .modes) (readMode n) s second ≡ refused number place → readComponent n s at ≡ refused number place
+    pub component-second : (number place : ℕ) → many (c .modes) (readMode version n) s second ≡ refused number place → readComponent version n s at ≡ refused number place
     unfolding rest
-    component-second number place e = component-parts ∙ bind-got readCounts rest s at one (bind-refused (many (c .modes) (readMode n)) _ s second e)
+    component-second number place e = component-parts ∙ bind-got readCounts rest s at one (bind-refused (many (c .modes) (readMode version n)) _ s second e)
 
-    pub component-read : (modes : List Mode) (third : ℕ) → many (c .modes) (readMode n) s second ≡ got modes third → (switches : List Switch) (x : Next) → gotAs switches x ≡ many (c .switches) (readSwitch n (c .alphabet) (c .modes)) s third → gotAs (record { alphabet = c .alphabet; modes = modes; switches = switches }) x ≡ readComponent n s at
+    pub component-read : (modes : List Mode) (third : ℕ) → many (c .modes) (readMode version n) s second ≡ got modes third → (switches : List Switch) (x : Next) → gotAs switches x ≡ many (c .switches) (readSwitch version n (c .alphabet) (c .modes)) s third → gotAs (record { alphabet = c .alphabet; modes = modes; switches = switches }) x ≡ readComponent version n s at
     unfolding rest
     component-read modes third two switches x e =
-        last-got (many (c .switches) (readSwitch n (c .alphabet) (c .modes))) (λ v. record { alphabet = c .alphabet; modes = modes; switches = v }) s third switches x e
-        ∙ sym (component-parts ∙ bind-got readCounts rest s at one (bind-got (many (c .modes) (readMode n)) _ s second two refl))
+        last-got (many (c .switches) (readSwitch version n (c .alphabet) (c .modes))) (λ v. record { alphabet = c .alphabet; modes = modes; switches = v }) s third switches x e
+        ∙ sym (component-parts ∙ bind-got readCounts rest s at one (bind-got (many (c .modes) (readMode version n)) _ s second two refl))
 
 same-list : {A : Type 0} (f g : ℕ → A) (n : ℕ) → ((j : ℕ) → j < n → f j ≡ g j) → map f (countUp 0 n) ≡ map g (countUp 0 n)
 unfolding upTo
 same-list f g n h = up-to-same f g n h
 
 -- a component depends on the numbers of its block alone
-pub component-same : (s : List ℕ) (n : ℕ) (xs ys : List ℕ) (block : ℕ) → entry xs (block + 1) ≤ 8 → entry xs (block + 2) ≤ 32 → AgreeOn block (block + 219) xs ys → componentFrom s n ys block ≡ componentFrom s n xs block
+pub component-same : (s : List ℕ) (version n : ℕ) (xs ys : List ℕ) (block : ℕ) → entry xs (block + 1) ≤ 8 → entry xs (block + 2) ≤ 32 → AgreeOn block (block + 219) xs ys → componentFrom s version n ys block ≡ componentFrom s version n xs block
 unfolding componentFrom modePlace switchPlace
-component-same s n xs ys block h k w =
+component-same s version n xs ys block h k w =
     let a : entry ys block ≡ entry xs block = w block (omega arith) (omega arith) in
     let m : entry ys (block + 1) ≡ entry xs (block + 1) = w (block + 1) (omega arith) (omega arith) in
     let c : entry ys (block + 2) ≡ entry xs (block + 2) = w (block + 2) (omega arith) (omega arith) in
-    let modes : map (λ j. modeFrom s n ys (block + 3 + 7 * j)) (countUp 0 (entry ys (block + 1))) ≡ map (λ j. modeFrom s n xs (block + 3 + 7 * j)) (countUp 0 (entry xs (block + 1))) =
-    ap (λ (z : ℕ). map (λ j. modeFrom s n ys (block + 3 + 7 * j)) (countUp 0 z)) m
-    ∙ same-list (λ j. modeFrom s n ys (block + 3 + 7 * j)) (λ j. modeFrom s n xs (block + 3 + 7 * j)) (entry xs (block + 1)) (λ j l. mode-same s n xs ys (block + 3 + 7 * j) (λ i p q. w i (omega arith) (omega arith))) in
-    let switches : map (λ j. switchFrom s n ys (block + 59 + 5 * j)) (countUp 0 (entry ys (block + 2))) ≡ map (λ j. switchFrom s n xs (block + 59 + 5 * j)) (countUp 0 (entry xs (block + 2))) =
-    ap (λ (z : ℕ). map (λ j. switchFrom s n ys (block + 59 + 5 * j)) (countUp 0 z)) c
-    ∙ same-list (λ j. switchFrom s n ys (block + 59 + 5 * j)) (λ j. switchFrom s n xs (block + 59 + 5 * j)) (entry xs (block + 2)) (λ j l. switch-same s n xs ys (block + 59 + 5 * j) (λ i p q. w i (omega arith) (omega arith))) in
+    let modes : map (λ j. modeFrom s version n ys (block + 3 + 7 * j)) (countUp 0 (entry ys (block + 1))) ≡ map (λ j. modeFrom s version n xs (block + 3 + 7 * j)) (countUp 0 (entry xs (block + 1))) =
+    ap (λ (z : ℕ). map (λ j. modeFrom s version n ys (block + 3 + 7 * j)) (countUp 0 z)) m
+    ∙ same-list (λ j. modeFrom s version n ys (block + 3 + 7 * j)) (λ j. modeFrom s version n xs (block + 3 + 7 * j)) (entry xs (block + 1)) (λ j l. mode-same s version n xs ys (block + 3 + 7 * j) (λ i p q. w i (omega arith) (omega arith))) in
+    let switches : map (λ j. switchFrom s version n ys (block + 59 + 5 * j)) (countUp 0 (entry ys (block + 2))) ≡ map (λ j. switchFrom s version n xs (block + 59 + 5 * j)) (countUp 0 (entry xs (block + 2))) =
+    ap (λ (z : ℕ). map (λ j. switchFrom s version n ys (block + 59 + 5 * j)) (countUp 0 z)) c
+    ∙ same-list (λ j. switchFrom s version n ys (block + 59 + 5 * j)) (λ j. switchFrom s version n xs (block + 59 + 5 * j)) (entry xs (block + 2)) (λ j l. switch-same s version n xs ys (block + 59 + 5 * j) (λ i p q. w i (omega arith) (omega arith))) in
     λ i. record { alphabet = a i; modes = modes i; switches = switches i }
 
 -- alphabet and counts that were put
@@ -149,17 +149,17 @@ counts-put xs b u v w h =
     )
 
 -- a component that was kept in three turns: its counts, then its modes, then its switches
-pub component-whole : (s : List ℕ) (n : ℕ) (x y z : List ℕ) (block : ℕ) → SmallCounts (countsFrom x block) → Kept (block + 3) (block + 59) x y → Kept (block + 59) (block + 219) y z → componentFrom s n z block ≡ record { alphabet = entry x block; modes = map (λ j. modeFrom s n y (modePlace block j)) (countUp 0 (entry x (block + 1))); switches = map (λ i. switchFrom s n z (switchPlace block i)) (countUp 0 (entry x (block + 2))) }
+pub component-whole : (s : List ℕ) (version n : ℕ) (x y z : List ℕ) (block : ℕ) → SmallCounts (countsFrom x block) → Kept (block + 3) (block + 59) x y → Kept (block + 59) (block + 219) y z → componentFrom s version n z block ≡ record { alphabet = entry x block; modes = map (λ j. modeFrom s version n y (modePlace block j)) (countUp 0 (entry x (block + 1))); switches = map (λ i. switchFrom s version n z (switchPlace block i)) (countUp 0 (entry x (block + 2))) }
 unfolding componentFrom countsFrom modePlace
-component-whole s n x y z block small k l =
+component-whole s version n x y z block small k l =
     let a : entry z block ≡ entry x block = l .kept block (λ p q. omega arith) ∙ k .kept block (λ p q. omega arith) in
     let m : entry z (block + 1) ≡ entry x (block + 1) = l .kept (block + 1) (λ p q. omega arith) ∙ k .kept (block + 1) (λ p q. omega arith) in
     let w : entry z (block + 2) ≡ entry x (block + 2) = l .kept (block + 2) (λ p q. omega arith) ∙ k .kept (block + 2) (λ p q. omega arith) in
-    let modes : map (λ j. modeFrom s n z (block + 3 + 7 * j)) (countUp 0 (entry z (block + 1))) ≡ map (λ j. modeFrom s n y (block + 3 + 7 * j)) (countUp 0 (entry x (block + 1))) =
-    ap (λ (v : ℕ). map (λ j. modeFrom s n z (block + 3 + 7 * j)) (countUp 0 v)) m
-    ∙ same-list (λ j. modeFrom s n z (block + 3 + 7 * j)) (λ j. modeFrom s n y (block + 3 + 7 * j)) (entry x (block + 1)) (λ j h. mode-same s n y z (block + 3 + 7 * j) (λ i p q. l .kept i (λ u v. omega (arith, small .most)))) in
-    let switches : map (λ j. switchFrom s n z (switchPlace block j)) (countUp 0 (entry z (block + 2))) ≡ map (λ j. switchFrom s n z (switchPlace block j)) (countUp 0 (entry x (block + 2))) =
-    ap (λ (v : ℕ). map (λ j. switchFrom s n z (switchPlace block j)) (countUp 0 v)) w in
+    let modes : map (λ j. modeFrom s version n z (block + 3 + 7 * j)) (countUp 0 (entry z (block + 1))) ≡ map (λ j. modeFrom s version n y (block + 3 + 7 * j)) (countUp 0 (entry x (block + 1))) =
+    ap (λ (v : ℕ). map (λ j. modeFrom s version n z (block + 3 + 7 * j)) (countUp 0 v)) m
+    ∙ same-list (λ j. modeFrom s version n z (block + 3 + 7 * j)) (λ j. modeFrom s version n y (block + 3 + 7 * j)) (entry x (block + 1)) (λ j h. mode-same s version n y z (block + 3 + 7 * j) (λ i p q. l .kept i (λ u v. omega (arith, small .most)))) in
+    let switches : map (λ j. switchFrom s version n z (switchPlace block j)) (countUp 0 (entry z (block + 2))) ≡ map (λ j. switchFrom s version n z (switchPlace block j)) (countUp 0 (entry x (block + 2))) =
+    ap (λ (v : ℕ). map (λ j. switchFrom s version n z (switchPlace block j)) (countUp 0 v)) w in
     λ i. record { alphabet = a i; modes = modes i; switches = switches i }
 
 -- the counts of the components that were read stay small
@@ -171,23 +171,23 @@ unfolding countUp
 length-list f k zero = refl
 length-list f k (suc n) = ap suc (length-list f (suc k) n)
 
-block-small : (s : List ℕ) (n : ℕ) (ys : List ℕ) (block place next : ℕ) → readComponent n s place ≡ got (componentFrom s n ys block) next → (entry ys (block + 1) ≤ 8) × (entry ys (block + 2) ≤ 32)
+block-small : (s : List ℕ) (version n : ℕ) (ys : List ℕ) (block place next : ℕ) → readComponent version n s place ≡ got (componentFrom s version n ys block) next → (entry ys (block + 1) ≤ 8) × (entry ys (block + 2) ≤ 32)
 unfolding componentFrom
-block-small s n ys block place next e =
-    let g = component-gives n .holds s place (componentFrom s n ys block) next e in (
-      subst (λ (x : ℕ). x ≤ 8) (length-list (λ j. modeFrom s n ys (modePlace block j)) 0 (entry ys (block + 1))) (g .most),
-      subst (λ (x : ℕ). x ≤ 32) (length-list (λ i. switchFrom s n ys (switchPlace block i)) 0 (entry ys (block + 2))) (g .few),
+block-small s version n ys block place next e =
+    let g = component-gives version n .holds s place (componentFrom s version n ys block) next e in (
+      subst (λ (x : ℕ). x ≤ 8) (length-list (λ j. modeFrom s version n ys (modePlace block j)) 0 (entry ys (block + 1))) (g .most),
+      subst (λ (x : ℕ). x ≤ 32) (length-list (λ i. switchFrom s version n ys (switchPlace block i)) 0 (entry ys (block + 2))) (g .few),
     )
 
-pub blocks-next : (s : List ℕ) (n : ℕ) (xs ys : List ℕ) (k place next : ℕ) → Blocks xs k → Kept (16 + 219 * k) (16 + 219 * k + 219) xs ys → readComponent n s place ≡ got (componentFrom s n ys (16 + 219 * k)) next → Blocks ys (k + 1)
+pub blocks-next : (s : List ℕ) (version n : ℕ) (xs ys : List ℕ) (k place next : ℕ) → Blocks xs k → Kept (16 + 219 * k) (16 + 219 * k + 219) xs ys → readComponent version n s place ≡ got (componentFrom s version n ys (16 + 219 * k)) next → Blocks ys (k + 1)
 unfolding componentPlace
-blocks-next s n xs ys k place next old w e i h = go (eq-or-lt-of-le (le-before i k h))
+blocks-next s version n xs ys k place next old w e i h = go (eq-or-lt-of-le (le-before i k h))
   where
     le-before : (i k : ℕ) → i < k + 1 → i ≤ k
     le-before i k h = omega arith
 
     go : (i ≡ k) ⊎ (i < k) → (entry ys (16 + 219 * i + 1) ≤ 8) × (entry ys (16 + 219 * i + 2) ≤ 32)
-    go (inl q) = subst (λ (j : ℕ). (entry ys (16 + 219 * j + 1) ≤ 8) × (entry ys (16 + 219 * j + 2) ≤ 32)) (sym q) (block-small s n ys (16 + 219 * k) place next e)
+    go (inl q) = subst (λ (j : ℕ). (entry ys (16 + 219 * j + 1) ≤ 8) × (entry ys (16 + 219 * j + 2) ≤ 32)) (sym q) (block-small s version n ys (16 + 219 * k) place next e)
     go (inr l) = (
       subst (λ (x : ℕ). x ≤ 8) (sym (w .kept (16 + 219 * i + 1) (λ p q. omega arith))) (old i l .0),
       subst (λ (x : ℕ). x ≤ 32) (sym (w .kept (16 + 219 * i + 2) (λ p q. omega arith))) (old i l .1),

@@ -42,36 +42,36 @@ AgreeOn from until xs ys = (i : ℕ) → from ≤ i → i < until → entry ys i
 pub agree-low : {from until a b : ℕ} {xs ys : List ℕ} → Kept from until xs ys → b ≤ from → AgreeOn a b xs ys
 agree-low w h i p q = w .kept i (λ x y. omega arith)
 
-pub span-same : (s : List ℕ) (n : ℕ) (xs ys : List ℕ) (i : ℕ) → AgreeOn i (i + 2) xs ys → spanRows s n ys i ≡ spanRows s n xs i
+pub span-same : (s : List ℕ) (version n : ℕ) (xs ys : List ℕ) (i : ℕ) → AgreeOn i (i + 2) xs ys → spanRows s version n ys i ≡ spanRows s version n xs i
 unfolding spanRows
-span-same s n xs ys i h = rw (h i (omega arith) (omega arith), h (i + 1) (omega arith) (omega arith)) refl
+span-same s version n xs ys i h = rw (h i (omega arith) (omega arith), h (i + 1) (omega arith) (omega arith)) refl
 
-pub mode-same : (s : List ℕ) (n : ℕ) (xs ys : List ℕ) (i : ℕ) → AgreeOn i (i + 7) xs ys → modeFrom s n ys i ≡ modeFrom s n xs i
+pub mode-same : (s : List ℕ) (version n : ℕ) (xs ys : List ℕ) (i : ℕ) → AgreeOn i (i + 7) xs ys → modeFrom s version n ys i ≡ modeFrom s version n xs i
 unfolding modeFrom
-mode-same s n xs ys i h =
+mode-same s version n xs ys i h =
     let a : entry ys i ≡ entry xs i = h i (omega arith) (omega arith) in
-    let b : spanRows s n ys (i + 1) ≡ spanRows s n xs (i + 1) = span-same s n xs ys (i + 1) (λ j p q. h j (omega arith) (omega arith)) in
-    let c : spanRows s n ys (i + 3) ≡ spanRows s n xs (i + 3) = span-same s n xs ys (i + 3) (λ j p q. h j (omega arith) (omega arith)) in
-    let d : spanRows s n ys (i + 5) ≡ spanRows s n xs (i + 5) = span-same s n xs ys (i + 5) (λ j p q. h j (omega arith) (omega arith)) in
+    let b : spanRows s version n ys (i + 1) ≡ spanRows s version n xs (i + 1) = span-same s version n xs ys (i + 1) (λ j p q. h j (omega arith) (omega arith)) in
+    let c : spanRows s version n ys (i + 3) ≡ spanRows s version n xs (i + 3) = span-same s version n xs ys (i + 3) (λ j p q. h j (omega arith) (omega arith)) in
+    let d : spanRows s version n ys (i + 5) ≡ spanRows s version n xs (i + 5) = span-same s version n xs ys (i + 5) (λ j p q. h j (omega arith) (omega arith)) in
     λ k. record { start = a k; initial = b k; invariant = c k; flow = d k }
 
-pub switch-same : (s : List ℕ) (n : ℕ) (xs ys : List ℕ) (i : ℕ) → AgreeOn i (i + 5) xs ys → switchFrom s n ys i ≡ switchFrom s n xs i
+pub switch-same : (s : List ℕ) (version n : ℕ) (xs ys : List ℕ) (i : ℕ) → AgreeOn i (i + 5) xs ys → switchFrom s version n ys i ≡ switchFrom s version n xs i
 unfolding switchFrom
-switch-same s n xs ys i h =
+switch-same s version n xs ys i h =
     let a : entry ys i ≡ entry xs i = h i (omega arith) (omega arith) in
     let b : entry ys (i + 1) ≡ entry xs (i + 1) = h (i + 1) (omega arith) (omega arith) in
     let c : entry ys (i + 2) ≡ entry xs (i + 2) = h (i + 2) (omega arith) (omega arith) in
-    let d : spanRows s (2 * n) ys (i + 3) ≡ spanRows s (2 * n) xs (i + 3) = span-same s (2 * n) xs ys (i + 3) (λ j p q. h j (omega arith) (omega arith)) in
+    let d : spanRows s version (2 * n) ys (i + 3) ≡ spanRows s version (2 * n) xs (i + 3) = span-same s version (2 * n) xs ys (i + 3) (λ j p q. h j (omega arith) (omega arith)) in
     λ k. record { source = a k; target = b k; label = c k; jump = d k }
 
 -- a span that was put
-pub span-put : (s : List ℕ) (n : ℕ) (xs ys : List ℕ) (i from count : ℕ) → i + 1 < length xs → ys ≡ set (set xs i from) (i + 1) count → (spanRows s n ys i ≡ rowsFrom s n from count) × Kept i (i + 2) xs ys
+pub span-put : (s : List ℕ) (version n : ℕ) (xs ys : List ℕ) (i from count : ℕ) → i + 1 < length xs → ys ≡ set (set xs i from) (i + 1) count → (spanRows s version n ys i ≡ rowsFrom s version n from count) × Kept i (i + 2) xs ys
 unfolding spanRows
-span-put s n xs ys i from count h e =
+span-put s version n xs ys i from count h e =
     let put = set (set xs i from) (i + 1) count in
     let long : i + 1 < length (set xs i from) = simp length-set h in
     let first : entry put i ≡ from = entry-other (set xs i from) (i + 1) i count (λ q. omega arith) ∙ entry-same xs i from (omega arith) in
     let second : entry put (i + 1) ≡ count = entry-same (set xs i from) (i + 1) count long in
-    let rows : rowsFrom s n (entry put i) (entry put (i + 1)) ≡ rowsFrom s n from count = rw (first, second) refl in
-    subst (λ zs. (rowsFrom s n (entry zs i) (entry zs (i + 1)) ≡ rowsFrom s n from count) × Kept i (i + 2) xs zs) (sym e)
+    let rows : rowsFrom s version n (entry put i) (entry put (i + 1)) ≡ rowsFrom s version n from count = rw (first, second) refl in
+    subst (λ zs. (rowsFrom s version n (entry zs i) (entry zs (i + 1)) ≡ rowsFrom s version n from count) × Kept i (i + 2) xs zs) (sym e)
     (rows, kept-then (kept-set i (i + 2) xs i from (omega arith) (omega arith)) (kept-set i (i + 2) (set xs i from) (i + 1) count (omega arith) (omega arith)))

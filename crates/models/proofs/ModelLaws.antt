@@ -18,41 +18,41 @@ use Rattle.fields.proofs.Skipping.{bind-refused}
 use Rattle.fields.proofs.ChainLaws.{last-got, bind-assoc, bind-same, give-bind}
 
 -- three conditions
-module _ (s : List ℕ) (most n at : ℕ) where
-  pub three-first : (number place : ℕ) → readCondition most n s at ≡ refused number place → readThree most n s at ≡ refused number place
+module _ (s : List ℕ) (most version n at : ℕ) where
+  pub three-first : (number place : ℕ) → readCondition version most n s at ≡ refused number place → readThree version most n s at ≡ refused number place
   unfolding readThree
-  three-first number place e = bind-refused (readCondition most n) _ s at e
+  three-first number place e = bind-refused (readCondition version most n) _ s at e
 
-  module _ (initial : Condition) (second : ℕ) (one : readCondition most n s at ≡ got initial second) where
-    pub three-second : (number place : ℕ) → readCondition 8 n s second ≡ refused number place → readThree most n s at ≡ refused number place
+  module _ (initial : Condition) (second : ℕ) (one : readCondition version most n s at ≡ got initial second) where
+    pub three-second : (number place : ℕ) → readCondition version 8 n s second ≡ refused number place → readThree version most n s at ≡ refused number place
     unfolding readThree
-    three-second number place e = bind-got (readCondition most n) _ s at one (bind-refused (readCondition 8 n) _ s second e)
+    three-second number place e = bind-got (readCondition version most n) _ s at one (bind-refused (readCondition version 8 n) _ s second e)
 
-    pub three-third : (invariant : Condition) (third : ℕ) → readCondition 8 n s second ≡ got invariant third → (flow : Condition) (x : Next) → gotAs flow x ≡ readCondition 8 n s third → gotAs (record { initial = initial; invariant = invariant; flow = flow }) x ≡ readThree most n s at
+    pub three-third : (invariant : Condition) (third : ℕ) → readCondition version 8 n s second ≡ got invariant third → (flow : Condition) (x : Next) → gotAs flow x ≡ readCondition version 8 n s third → gotAs (record { initial = initial; invariant = invariant; flow = flow }) x ≡ readThree version most n s at
     unfolding readThree
     three-third invariant third two flow x e =
-        last-got (readCondition 8 n) (λ v. record { initial = initial; invariant = invariant; flow = v }) s third flow x e
-        ∙ sym (bind-got (readCondition most n) _ s at one (bind-got (readCondition 8 n) _ s second two refl))
+        last-got (readCondition version 8 n) (λ v. record { initial = initial; invariant = invariant; flow = v }) s third flow x e
+        ∙ sym (bind-got (readCondition version most n) _ s at one (bind-got (readCondition version 8 n) _ s second two refl))
 
 -- the three conditions of a mode, then the mode
-three-then : {B : Type 0} (most n : ℕ) (f : Three → B) (s : List ℕ) (p : ℕ) → (readThree most n >>= λ t. give (f t)) s p ≡ (readCondition most n >>= λ i. readCondition 8 n >>= λ v. readCondition 8 n >>= λ w. give (f (record { initial = i; invariant = v; flow = w }))) s p
+three-then : {B : Type 0} (most version n : ℕ) (f : Three → B) (s : List ℕ) (p : ℕ) → (readThree version most n >>= λ t. give (f t)) s p ≡ (readCondition version most n >>= λ i. readCondition version 8 n >>= λ v. readCondition version 8 n >>= λ w. give (f (record { initial = i; invariant = v; flow = w }))) s p
 unfolding readThree
-three-then most n f s p =
-    bind-assoc (readCondition most n) _ (λ t. give (f t)) s p
-    ∙ bind-same (readCondition most n) _ _ s p
+three-then most version n f s p =
+    bind-assoc (readCondition version most n) _ (λ t. give (f t)) s p
+    ∙ bind-same (readCondition version most n) _ _ s p
     (λ i q.
-    bind-assoc (readCondition 8 n) _ (λ t. give (f t)) s q
-    ∙ bind-same (readCondition 8 n) _ _ s q (λ v k. bind-assoc (readCondition 8 n) _ (λ t. give (f t)) s k ∙ bind-same (readCondition 8 n) _ _ s k (λ w l. give-bind (record { initial = i; invariant = v; flow = w }) (λ t. give (f t)) s l)))
+    bind-assoc (readCondition version 8 n) _ (λ t. give (f t)) s q
+    ∙ bind-same (readCondition version 8 n) _ _ s q (λ v k. bind-assoc (readCondition version 8 n) _ (λ t. give (f t)) s k ∙ bind-same (readCondition version 8 n) _ _ s k (λ w l. give-bind (record { initial = i; invariant = v; flow = w }) (λ t. give (f t)) s l)))
 
-pub mode-refused : (n : ℕ) (s : List ℕ) (at number place : ℕ) → within 0 1 u8 s at ≡ refused number place → readMode n s at ≡ refused number place
+pub mode-refused : (version n : ℕ) (s : List ℕ) (at number place : ℕ) → within 0 1 u8 s at ≡ refused number place → readMode version n s at ≡ refused number place
 unfolding readMode
-mode-refused n s at number place e = bind-refused (within 0 1 u8) _ s at e
+mode-refused version n s at number place e = bind-refused (within 0 1 u8) _ s at e
 
-pub mode-read : (n : ℕ) (s : List ℕ) (at start next : ℕ) → within 0 1 u8 s at ≡ got start next → (t : Three) (x : Next) → gotAs t x ≡ readThree (cond (eqb start 0) 0 8) n s next → gotAs (record { start = start; initial = t .initial; invariant = t .invariant; flow = t .flow }) x ≡ readMode n s at
+pub mode-read : (version n : ℕ) (s : List ℕ) (at start next : ℕ) → within 0 1 u8 s at ≡ got start next → (t : Three) (x : Next) → gotAs t x ≡ readThree version (cond (eqb start 0) 0 8) n s next → gotAs (record { start = start; initial = t .initial; invariant = t .invariant; flow = t .flow }) x ≡ readMode version n s at
 unfolding readMode
-mode-read n s at start next one t x e =
-    last-got (readThree (cond (eqb start 0) 0 8) n) (λ v. record { start = start; initial = v .initial; invariant = v .invariant; flow = v .flow }) s next t x e
-    ∙ three-then (cond (eqb start 0) 0 8) n (λ v. record { start = start; initial = v .initial; invariant = v .invariant; flow = v .flow }) s next
+mode-read version n s at start next one t x e =
+    last-got (readThree version (cond (eqb start 0) 0 8) n) (λ v. record { start = start; initial = v .initial; invariant = v .invariant; flow = v .flow }) s next t x e
+    ∙ three-then (cond (eqb start 0) 0 8) version n (λ v. record { start = start; initial = v .initial; invariant = v .invariant; flow = v .flow }) s next
     ∙ sym (bind-got (within 0 1 u8) _ s at one refl)
 
 pub initial-small : (b : Bool) (r : ℕ) → r ≡ cond b 0 8 → r ≤ 255
@@ -89,35 +89,35 @@ unfolding readLabel must
 label-small alphabet s at v next e =
     range-read u8 0 15 s at v next (tested (λ v. eqb v 0 || hasEvent alphabet v) 6 at (within 0 15 u8 s at) v next e .read) .high
 
-pub labelled-refused : (n alphabet : ℕ) (s : List ℕ) (at number place : ℕ) → readLabel alphabet s at ≡ refused number place → readLabelled n alphabet s at ≡ refused number place
+pub labelled-refused : (version n alphabet : ℕ) (s : List ℕ) (at number place : ℕ) → readLabel alphabet s at ≡ refused number place → readLabelled version n alphabet s at ≡ refused number place
 unfolding readLabelled
-labelled-refused n alphabet s at number place e = bind-refused (readLabel alphabet) _ s at e
+labelled-refused version n alphabet s at number place e = bind-refused (readLabel alphabet) _ s at e
 
-pub labelled-read : (n alphabet : ℕ) (s : List ℕ) (at label next : ℕ) → readLabel alphabet s at ≡ got label next → (jump : Condition) (x : Next) → gotAs jump x ≡ readCondition 8 (2 * n) s next → gotAs (record { label = label; jump = jump }) x ≡ readLabelled n alphabet s at
+pub labelled-read : (version n alphabet : ℕ) (s : List ℕ) (at label next : ℕ) → readLabel alphabet s at ≡ got label next → (jump : Condition) (x : Next) → gotAs jump x ≡ readCondition version 8 (2 * n) s next → gotAs (record { label = label; jump = jump }) x ≡ readLabelled version n alphabet s at
 unfolding readLabelled
-labelled-read n alphabet s at label next one jump x e =
-    last-got (readCondition 8 (2 * n)) (λ v. record { label = label; jump = v }) s next jump x e ∙ sym (bind-got (readLabel alphabet) _ s at one refl)
+labelled-read version n alphabet s at label next one jump x e =
+    last-got (readCondition version 8 (2 * n)) (λ v. record { label = label; jump = v }) s next jump x e ∙ sym (bind-got (readLabel alphabet) _ s at one refl)
 
 -- a switch
-module _ (n alphabet modes : ℕ) (s : List ℕ) (at : ℕ) where
-  pub switch-first : (number place : ℕ) → below modes u8 s at ≡ refused number place → readSwitch n alphabet modes s at ≡ refused number place
+module _ (version n alphabet modes : ℕ) (s : List ℕ) (at : ℕ) where
+  pub switch-first : (number place : ℕ) → below modes u8 s at ≡ refused number place → readSwitch version n alphabet modes s at ≡ refused number place
   unfolding readSwitch
   switch-first number place e = bind-refused (below modes u8) _ s at e
 
   module _ (source second : ℕ) (one : below modes u8 s at ≡ got source second) where
-    pub switch-second : (number place : ℕ) → below modes u8 s second ≡ refused number place → readSwitch n alphabet modes s at ≡ refused number place
+    pub switch-second : (number place : ℕ) → below modes u8 s second ≡ refused number place → readSwitch version n alphabet modes s at ≡ refused number place
     unfolding readSwitch
     switch-second number place e = bind-got (below modes u8) _ s at one (bind-refused (below modes u8) _ s second e)
 
-    pub switch-read : (target third : ℕ) → below modes u8 s second ≡ got target third → (t : Labelled) (x : Next) → gotAs t x ≡ readLabelled n alphabet s third → gotAs (record { source = source; target = target; label = t .label; jump = t .jump }) x ≡ readSwitch n alphabet modes s at
+    pub switch-read : (target third : ℕ) → below modes u8 s second ≡ got target third → (t : Labelled) (x : Next) → gotAs t x ≡ readLabelled version n alphabet s third → gotAs (record { source = source; target = target; label = t .label; jump = t .jump }) x ≡ readSwitch version n alphabet modes s at
     unfolding readSwitch readLabelled readLabel
     switch-read target third two t x e =
-        last-got (readLabelled n alphabet) (λ v. record { source = source; target = target; label = v .label; jump = v .jump }) s third t x e
+        last-got (readLabelled version n alphabet) (λ v. record { source = source; target = target; label = v .label; jump = v .jump }) s third t x e
         ∙ (bind-assoc (readLabel alphabet) _ (λ v. give (record { source = source; target = target; label = v .label; jump = v .jump })) s third
         ∙ bind-same (readLabel alphabet) _ _ s third
         (λ l q.
-        bind-assoc (readCondition 8 (2 * n)) _ (λ v. give (record { source = source; target = target; label = v .label; jump = v .jump })) s q
-        ∙ bind-same (readCondition 8 (2 * n)) _ _ s q (λ j k. give-bind (record { label = l; jump = j }) (λ v. give (record { source = source; target = target; label = v .label; jump = v .jump })) s k)))
+        bind-assoc (readCondition version 8 (2 * n)) _ (λ v. give (record { source = source; target = target; label = v .label; jump = v .jump })) s q
+        ∙ bind-same (readCondition version 8 (2 * n)) _ _ s q (λ j k. give-bind (record { label = l; jump = j }) (λ v. give (record { source = source; target = target; label = v .label; jump = v .jump })) s k)))
         ∙ sym (bind-got (below modes u8) _ s at one (bind-got (below modes u8) _ s second two refl))
 
 pub three-more : (i : ℕ) → i + 3 ≡ i + 2 + 1

@@ -94,15 +94,15 @@ up-to-next f k n h =
 module _ (s index : List ℕ) where
   pub components-length : length (componentsFrom s index) ≡ entry index 1
   unfolding componentsFrom upTo
-  components-length = length-up-to (λ k. componentFrom s (entry index 0) index (componentPlace k)) (entry index 1)
+  components-length = length-up-to (λ k. componentFrom s (entry index 11) (entry index 0) index (componentPlace k)) (entry index 1)
 
-  pub component-next : (k : ℕ) → k < entry index 1 → drop k (componentsFrom s index) ≡ componentFrom s (entry index 0) index (componentPlace k) ∷ drop (k + 1) (componentsFrom s index)
+  pub component-next : (k : ℕ) → k < entry index 1 → drop k (componentsFrom s index) ≡ componentFrom s (entry index 11) (entry index 0) index (componentPlace k) ∷ drop (k + 1) (componentsFrom s index)
   unfolding componentsFrom upTo
-  component-next k h = up-to-next (λ k. componentFrom s (entry index 0) index (componentPlace k)) k (entry index 1) h
+  component-next k h = up-to-next (λ k. componentFrom s (entry index 11) (entry index 0) index (componentPlace k)) k (entry index 1) h
 
-  pub modes-length : (n block : ℕ) → length (componentFrom s n index block .modes) ≡ entry index (block + 1)
+  pub modes-length : (version n block : ℕ) → length (componentFrom s version n index block .modes) ≡ entry index (block + 1)
   unfolding componentFrom upTo
-  modes-length n block = length-up-to (λ j. modeFrom s n index (modePlace block j)) (entry index (block + 1))
+  modes-length version n block = length-up-to (λ j. modeFrom s version n index (modePlace block j)) (entry index (block + 1))
 
 named-small : (modes v : ℕ) (a b : Bool) → ltb v modes ≡ a → eqb v 255 ≡ b → T (a || b) → modes ≤ 8 → v ≤ 255
 named-small modes v true b p q t h = let l : v < modes = ltb→lt v modes (subst T (sym p) tt) in omega arith
@@ -118,8 +118,8 @@ mode-small modes s p v next h e =
 abbrev pub readModeByte : Component → Reader ℕ
 readModeByte m = must (numbered (length (m .modes))) 5 u8
 
-pub mode-of : (s index : List ℕ) (n block modes p : ℕ) {g : Got ℕ} → modes ≡ entry index (block + 1) → must (numbered modes) 5 u8 s p ≡ g → readModeByte (componentFrom s n index block) s p ≡ g
-mode-of s index n block modes p e h = ap (λ (k : ℕ). must (numbered k) 5 u8 s p) (modes-length s index n block ∙ sym e) ∙ h
+pub mode-of : (s index : List ℕ) (version n block modes p : ℕ) {g : Got ℕ} → modes ≡ entry index (block + 1) → must (numbered modes) 5 u8 s p ≡ g → readModeByte (componentFrom s version n index block) s p ≡ g
+mode-of s index version n block modes p e h = ap (λ (k : ℕ). must (numbered k) 5 u8 s p) (modes-length s index version n block ∙ sym e) ∙ h
 
 -- the number that says it, while only numbers after the blocks change
 pub modes-kept : {from until : ℕ} {xs ys : List ℕ} → Kept from until xs ys → (k : ℕ) → 892 ≤ from → k < 4 → entry ys (17 + 219 * k) ≡ entry xs (componentPlace k + 1)
@@ -130,26 +130,26 @@ modes-kept {xs = xs} w k h l = w .kept (17 + 219 * k) (λ p q. omega arith) ∙ 
     one-on b = omega arith
 
 -- modes, then rows
-module _ (n : ℕ) (components : List Component) (s : List ℕ) (at : ℕ) where
-  pub unsafe-refused : (number place : ℕ) → each readModeByte components s at ≡ refused number place → readUnsafe n components s at ≡ refused number place
+module _ (version n : ℕ) (components : List Component) (s : List ℕ) (at : ℕ) where
+  pub unsafe-refused : (number place : ℕ) → each readModeByte components s at ≡ refused number place → readUnsafe version n components s at ≡ refused number place
   unfolding readUnsafe
   unsafe-refused number place e = bind-refused (each readModeByte components) _ s at e
 
-  pub unsafe-read : (modes : List ℕ) (next : ℕ) → each readModeByte components s at ≡ got modes next → (rows : Condition) (x : Next) → gotAs rows x ≡ readCondition 8 n s next → gotAs (record { modes = modes; rows = rows }) x ≡ readUnsafe n components s at
+  pub unsafe-read : (modes : List ℕ) (next : ℕ) → each readModeByte components s at ≡ got modes next → (rows : Condition) (x : Next) → gotAs rows x ≡ readCondition version 8 n s next → gotAs (record { modes = modes; rows = rows }) x ≡ readUnsafe version n components s at
   unfolding readUnsafe
   unsafe-read modes next one rows x e =
-      last-got (readCondition 8 n) (λ v. record { modes = modes; rows = v }) s next rows x e
+      last-got (readCondition version 8 n) (λ v. record { modes = modes; rows = v }) s next rows x e
       ∙ sym (bind-got (each readModeByte components) _ s at one refl)
 
 -- what is read back depends on its numbers alone
 pub bytes-same : (c : ℕ) (xs ys : List ℕ) (i : ℕ) → c ≤ 4 → AgreeOn i (i + 4) xs ys → upTo (λ k. entry ys (i + k)) c ≡ upTo (λ k. entry xs (i + k)) c
 bytes-same c xs ys i few h = up-to-same (λ k. entry ys (i + k)) (λ k. entry xs (i + k)) c (λ k l. h (i + k) (omega arith) (omega arith))
 
-pub unsafe-same : (s : List ℕ) (n c : ℕ) (xs ys : List ℕ) (i : ℕ) → c ≤ 4 → AgreeOn i (i + 6) xs ys → unsafeFrom s n c ys i ≡ unsafeFrom s n c xs i
+pub unsafe-same : (s : List ℕ) (version n c : ℕ) (xs ys : List ℕ) (i : ℕ) → c ≤ 4 → AgreeOn i (i + 6) xs ys → unsafeFrom s version n c ys i ≡ unsafeFrom s version n c xs i
 unfolding unsafeFrom upTo
-unsafe-same s n c xs ys i few h =
+unsafe-same s version n c xs ys i few h =
     let a : upTo (λ k. entry ys (i + k)) c ≡ upTo (λ k. entry xs (i + k)) c = bytes-same c xs ys i few (λ j p q. h j (omega arith) (omega arith)) in
-    let b : spanRows s n ys (i + 4) ≡ spanRows s n xs (i + 4) = span-same s n xs ys (i + 4) (λ j p q. h j (omega arith) (omega arith)) in
+    let b : spanRows s version n ys (i + 4) ≡ spanRows s version n xs (i + 4) = span-same s version n xs ys (i + 4) (λ j p q. h j (omega arith) (omega arith)) in
     λ k. record { modes = a k; rows = b k }
 
 -- counts so small that each component's numbers stay in its block
@@ -159,8 +159,9 @@ AllBlocks xs = (k : ℕ) → k < entry xs 1 → (entry xs (componentPlace k + 1)
 pub components-same : (s xs ys : List ℕ) → entry xs 1 ≤ 4 → AllBlocks xs → AgreeOn 0 892 xs ys → componentsFrom s ys ≡ componentsFrom s xs
 unfolding componentsFrom upTo componentPlace
 components-same s xs ys few small h =
-    let f : ℕ → ℕ → Component = λ n k. componentFrom s n ys (componentPlace k) in
-    ap (λ (c : ℕ). upTo (f (entry ys 0)) c) (h 1 (omega arith) (omega arith))
-    ∙ ap (λ (n : ℕ). upTo (f n) (entry xs 1)) (h 0 (omega arith) (omega arith))
-    ∙ up-to-same (f (entry xs 0)) (λ k. componentFrom s (entry xs 0) xs (componentPlace k)) (entry xs 1)
-    (λ k l. component-same s (entry xs 0) xs ys (16 + 219 * k) (small k l .0) (small k l .1) (λ i p q. h i (omega arith) (omega arith)))
+    let f : ℕ → ℕ → ℕ → Component = λ version n k. componentFrom s version n ys (componentPlace k) in
+    ap (λ (c : ℕ). upTo (f (entry ys 11) (entry ys 0)) c) (h 1 (omega arith) (omega arith))
+    ∙ ap (λ (version : ℕ). upTo (f version (entry ys 0)) (entry xs 1)) (h 11 (omega arith) (omega arith))
+    ∙ ap (λ (n : ℕ). upTo (f (entry xs 11) n) (entry xs 1)) (h 0 (omega arith) (omega arith))
+    ∙ up-to-same (f (entry xs 11) (entry xs 0)) (λ k. componentFrom s (entry xs 11) (entry xs 0) xs (componentPlace k)) (entry xs 1)
+    (λ k l. component-same s (entry xs 11) (entry xs 0) xs ys (16 + 219 * k) (small k l .0) (small k l .1) (λ i p q. h i (omega arith) (omega arith)))

@@ -8,15 +8,15 @@ use lib.Dec.{eqb}
 use lib.ListN.{getD, take}
 use Rattle.formats.specs.Model.{Component, Unsafe}
 use Rattle.formats.specs.Joint.{stays}
-use Rattle.models.specs.Index.{entry, componentPlace, componentFrom, unsafePlace, unsafeFrom}
+use Rattle.models.specs.Index.{entry, versionIn, componentPlace, componentFrom, unsafePlace, unsafeFrom}
 
 -- the k-th component of an index
 unfoldable pub componentAt : List ℕ → List ℕ → ℕ → Component
-componentAt s index k = componentFrom s (entry index 0) index (componentPlace k)
+componentAt s index k = componentFrom s (versionIn index) (entry index 0) index (componentPlace k)
 
 -- the u-th unsafe condition of an index
 abbrev pub conditionAt : List ℕ → List ℕ → ℕ → Unsafe
-conditionAt s index u = unsafeFrom s (entry index 0) (entry index 1) index (unsafePlace u)
+conditionAt s index u = unsafeFrom s (versionIn index) (entry index 0) (entry index 1) index (unsafePlace u)
 
 -- an array has four numbers: the first of them, one per component
 unfoldable pub perComponent : List ℕ → List ℕ → List ℕ

@@ -4,13 +4,14 @@ use mathlib.Core.Bool.{_||_}
 use mathlib.Core.List.{List, map}
 use mathlib.Core.Path.{_≡_}
 use Prim.Native.Nat.{ℕ, _+_, _*_, _%_, _≤_, _<_}
-use lib.Dec.{eqb, ltb}
+use lib.Dec.{T, eqb, ltb}
 use lib.ListN.{length, getD}
 use Rattle.formats.specs.Reading.{Reader, _>>=_, give, u8, u16, must, within, many, each}
 use Rattle.formats.specs.Rows.{Condition, readCondition}
 use Rattle.formats.specs.Model.{Mode, Switch, Component, Unsafe, Model, hasEvent, readComponent, readUnsafe}
 use Rattle.formats.specs.Joint.{countUp}
 use Rattle.fields.specs.Places.{rowsFrom}
+use Rattle.formats.specs.Versions.{versionFits, rowBytes}
 
 -- the i-th number of an index
 unfoldable pub entry : List ℕ → ℕ → ℕ
@@ -36,6 +37,13 @@ firstOwner = 3
 
 unfoldable pub ownerPlace : ℕ → ℕ
 ownerPlace v = firstOwner + v
+
+-- then the sheet's version
+abbrev pub versionAt : ℕ
+versionAt = 11
+
+abbrev pub versionIn : List ℕ → ℕ
+versionIn index = entry index versionAt
 
 -- then, once they are counted, how many joint switches and locations there are
 abbrev pub jointsAt : ℕ
@@ -110,8 +118,8 @@ abbrev pub unsafeRowsAt : ℕ
 unsafeRowsAt = 4
 
 -- rows are kept as the place of the first and how many there are
-unfoldable pub spanRows : List ℕ → ℕ → List ℕ → ℕ → Condition
-spanRows s n index i = rowsFrom s n (entry index i) (entry index (i + 1))
+unfoldable pub spanRows : List ℕ → ℕ → ℕ → List ℕ → ℕ → Condition
+spanRows s version n index i = rowsFrom s version n (entry index i) (entry index (i + 1))
 
 -- the three conditions of a mode: how they are read, and where they are kept
 pub record Three : Type 0 where
@@ -119,24 +127,24 @@ pub record Three : Type 0 where
   pub invariant : Condition
   pub flow : Condition
 
-unfoldable pub readThree : ℕ → ℕ → Reader Three
-readThree most n = do
-  initial ← readCondition most n
-  invariant ← readCondition 8 n
-  flow ← readCondition 8 n
+unfoldable pub readThree : ℕ → ℕ → ℕ → Reader Three
+readThree version most n = do
+  initial ← readCondition version most n
+  invariant ← readCondition version 8 n
+  flow ← readCondition version 8 n
   give (record { initial = initial; invariant = invariant; flow = flow })
 
-unfoldable pub threeFrom : List ℕ → ℕ → List ℕ → ℕ → Three
-threeFrom s n index i =
-    record { initial = spanRows s n index i; invariant = spanRows s n index (i + 2); flow = spanRows s n index (i + 4) }
+unfoldable pub threeFrom : List ℕ → ℕ → ℕ → List ℕ → ℕ → Three
+threeFrom s version n index i =
+    record { initial = spanRows s version n index i; invariant = spanRows s version n index (i + 2); flow = spanRows s version n index (i + 4) }
 
-unfoldable pub modeFrom : List ℕ → ℕ → List ℕ → ℕ → Mode
-modeFrom s n index i =
+unfoldable pub modeFrom : List ℕ → ℕ → ℕ → List ℕ → ℕ → Mode
+modeFrom s version n index i =
     record {
       start = entry index i;
-      initial = spanRows s n index (i + initialAt);
-      invariant = spanRows s n index (i + invariantAt);
-      flow = spanRows s n index (i + flowAt);
+      initial = spanRows s version n index (i + initialAt);
+      invariant = spanRows s version n index (i + invariantAt);
+      flow = spanRows s version n index (i + flowAt);
     }
 
 -- a switch's label and jump condition: how they are read, and where they are kept
@@ -147,22 +155,22 @@ pub record Labelled : Type 0 where
 unfoldable pub readLabel : ℕ → Reader ℕ
 readLabel alphabet = must (λ v. eqb v 0 || hasEvent alphabet v) 6 (within 0 15 u8)
 
-unfoldable pub readLabelled : ℕ → ℕ → Reader Labelled
-readLabelled n alphabet = do
+unfoldable pub readLabelled : ℕ → ℕ → ℕ → Reader Labelled
+readLabelled version n alphabet = do
   label ← readLabel alphabet
-  jump ← readCondition 8 (2 * n)
+  jump ← readCondition version 8 (2 * n)
   give (record { label = label; jump = jump })
 
-unfoldable pub labelledFrom : List ℕ → ℕ → List ℕ → ℕ → Labelled
-labelledFrom s n index i = record { label = entry index i; jump = spanRows s (2 * n) index (i + 1) }
+unfoldable pub labelledFrom : List ℕ → ℕ → ℕ → List ℕ → ℕ → Labelled
+labelledFrom s version n index i = record { label = entry index i; jump = spanRows s version (2 * n) index (i + 1) }
 
-unfoldable pub switchFrom : List ℕ → ℕ → List ℕ → ℕ → Switch
-switchFrom s n index i =
+unfoldable pub switchFrom : List ℕ → ℕ → ℕ → List ℕ → ℕ → Switch
+switchFrom s version n index i =
     record {
       source = entry index i;
       target = entry index (i + 1);
       label = entry index (i + 2);
-      jump = spanRows s (2 * n) index (i + jumpAt);
+      jump = spanRows s version (2 * n) index (i + jumpAt);
     }
 
 -- a component's alphabet and counts: how they are read, and where they are kept
@@ -184,12 +192,12 @@ readCounts = do
 unfoldable pub countsFrom : List ℕ → ℕ → Counts
 countsFrom index block = record { alphabet = entry index block; modes = entry index (block + 1); switches = entry index (block + 2) }
 
-unfoldable pub componentFrom : List ℕ → ℕ → List ℕ → ℕ → Component
-componentFrom s n index block =
+unfoldable pub componentFrom : List ℕ → ℕ → ℕ → List ℕ → ℕ → Component
+componentFrom s version n index block =
     record {
       alphabet = entry index block;
-      modes = map (λ j. modeFrom s n index (modePlace block j)) (countUp 0 (entry index (block + 1)));
-      switches = map (λ i. switchFrom s n index (switchPlace block i)) (countUp 0 (entry index (block + 2)));
+      modes = map (λ j. modeFrom s version n index (modePlace block j)) (countUp 0 (entry index (block + 1)));
+      switches = map (λ i. switchFrom s version n index (switchPlace block i)) (countUp 0 (entry index (block + 2)));
     }
 
 -- an unsafe condition's modes, one of a component's or 255: how they are read, and where they are kept
@@ -199,29 +207,29 @@ readUnsafeModes = each (λ (c : Component). must (λ v. ltb v (length (c .modes)
 abbrev pub unsafeModesFrom : ℕ → List ℕ → ℕ → List ℕ
 unsafeModesFrom c index i = map (λ k. entry index (i + k)) (countUp 0 c)
 
-unfoldable pub unsafeFrom : List ℕ → ℕ → ℕ → List ℕ → ℕ → Unsafe
-unsafeFrom s n c index i =
+unfoldable pub unsafeFrom : List ℕ → ℕ → ℕ → ℕ → List ℕ → ℕ → Unsafe
+unsafeFrom s version n c index i =
     record {
       modes = unsafeModesFrom c index i;
-      rows = spanRows s n index (i + unsafeRowsAt);
+      rows = spanRows s version n index (i + unsafeRowsAt);
     }
 
 -- so many unsafe conditions
-abbrev pub unsafesFrom : List ℕ → ℕ → ℕ → ℕ → List ℕ → List Unsafe
-unsafesFrom s n c conditions index = map (λ u. unsafeFrom s n c index (unsafePlace u)) (countUp 0 conditions)
+abbrev pub unsafesFrom : List ℕ → ℕ → ℕ → ℕ → ℕ → List ℕ → List Unsafe
+unsafesFrom s version n c conditions index = map (λ u. unsafeFrom s version n c index (unsafePlace u)) (countUp 0 conditions)
 
 -- the components of an index, and its model
 unfoldable pub componentsFrom : List ℕ → List ℕ → List Component
-componentsFrom s index = map (λ k. componentFrom s (entry index 0) index (componentPlace k)) (countUp 0 (entry index 1))
+componentsFrom s index = map (λ k. componentFrom s (versionIn index) (entry index 0) index (componentPlace k)) (countUp 0 (entry index 1))
 
 unfoldable pub modelFrom : List ℕ → List ℕ → Model
 modelFrom s index =
     record {
-      version = 1;
+      version = versionIn index;
       variables = entry index 0;
       owners = map (λ v. entry index (ownerPlace v)) (countUp 0 (entry index 0));
       components = componentsFrom s index;
-      unsafe = unsafesFrom s (entry index 0) (entry index 1) (entry index 2) index;
+      unsafe = unsafesFrom s (versionIn index) (entry index 0) (entry index 1) (entry index 2) index;
     }
 
 -- a model's three counts, and its components with its unsafe conditions: how they are read, and where they are kept
@@ -244,17 +252,17 @@ pub record BodyParts : Type 0 where
   pub components : List Component
   pub unsafe : List Unsafe
 
-unfoldable pub readParts : ℕ → ℕ → ℕ → Reader BodyParts
-readParts n c conditions = do
-  components ← many c (readComponent n)
-  unsafe ← many conditions (readUnsafe n components)
+unfoldable pub readParts : ℕ → ℕ → ℕ → ℕ → Reader BodyParts
+readParts version n c conditions = do
+  components ← many c (readComponent version n)
+  unsafe ← many conditions (readUnsafe version n components)
   give (record { components = components; unsafe = unsafe })
 
-unfoldable pub partsFrom : List ℕ → ℕ → ℕ → ℕ → List ℕ → BodyParts
-partsFrom s n c conditions index =
+unfoldable pub partsFrom : List ℕ → ℕ → ℕ → ℕ → ℕ → List ℕ → BodyParts
+partsFrom s version n c conditions index =
     record {
-      components = map (λ k. componentFrom s n index (componentPlace k)) (countUp 0 c);
-      unsafe = unsafesFrom s n c conditions index;
+      components = map (λ k. componentFrom s version n index (componentPlace k)) (countUp 0 c);
+      unsafe = unsafesFrom s version n c conditions index;
     }
 
 -- nothing outside a range of numbers has changed
@@ -263,7 +271,7 @@ pub record Kept (from until : ℕ) (before after : List ℕ) : Type 0 where
 
 -- two indices say the same of a sheet: all but what is counted is equal
 pub record SameSheet (before after : List ℕ) : Type 0 where
-  pub front : (i : ℕ) → i < firstOwner + 8 → entry after i ≡ entry before i
+  pub front : (i : ℕ) → i ≤ versionAt → entry after i ≡ entry before i
   pub body : (i : ℕ) → firstBlock ≤ i → i < firstTotal → entry after i ≡ entry before i
 
 -- a sheet of a right length, and an index with all its numbers
@@ -272,34 +280,35 @@ pub record Sized (s index : List ℕ) : Type 0 where
   pub long : indexLength ≤ length index
 
 -- What holds of the index of every model that reads well: counts and numbers in their ranges, rows within the sheet
-pub record GoodSpan (s : List ℕ) (n : ℕ) (index : List ℕ) (i : ℕ) : Type 0 where
+pub record GoodSpan (s : List ℕ) (version n : ℕ) (index : List ℕ) (i : ℕ) : Type 0 where
   pub few : entry index (i + 1) ≤ 8
-  pub within : (j : ℕ) → j < entry index (i + 1) → entry index i + 4 * (n + 1) * (j + 1) ≤ length s
+  pub within : (j : ℕ) → j < entry index (i + 1) → entry index i + rowBytes version n * (j + 1) ≤ length s
 
-pub record GoodModeAt (s : List ℕ) (n : ℕ) (index : List ℕ) (i : ℕ) : Type 0 where
-  pub initial : GoodSpan s n index (i + initialAt)
-  pub invariant : GoodSpan s n index (i + invariantAt)
-  pub flow : GoodSpan s n index (i + flowAt)
+pub record GoodModeAt (s : List ℕ) (version n : ℕ) (index : List ℕ) (i : ℕ) : Type 0 where
+  pub initial : GoodSpan s version n index (i + initialAt)
+  pub invariant : GoodSpan s version n index (i + invariantAt)
+  pub flow : GoodSpan s version n index (i + flowAt)
 
-pub record GoodSwitchAt (s : List ℕ) (n modes : ℕ) (index : List ℕ) (i : ℕ) : Type 0 where
+pub record GoodSwitchAt (s : List ℕ) (version n modes : ℕ) (index : List ℕ) (i : ℕ) : Type 0 where
   pub source : entry index i < modes
   pub target : entry index (i + 1) < modes
   pub label : entry index (i + 2) ≤ 15
-  pub jump : GoodSpan s (2 * n) index (i + jumpAt)
+  pub jump : GoodSpan s version (2 * n) index (i + jumpAt)
 
-pub record GoodBlock (s : List ℕ) (n : ℕ) (index : List ℕ) (block : ℕ) : Type 0 where
+pub record GoodBlock (s : List ℕ) (version n : ℕ) (index : List ℕ) (block : ℕ) : Type 0 where
   pub least : 1 ≤ entry index (block + 1)
   pub most : entry index (block + 1) ≤ 8
   pub few : entry index (block + 2) ≤ 32
-  pub modes : (j : ℕ) → j < entry index (block + 1) → GoodModeAt s n index (modePlace block j)
-  pub switches : (i : ℕ) → i < entry index (block + 2) → GoodSwitchAt s n (entry index (block + 1)) index (switchPlace block i)
+  pub modes : (j : ℕ) → j < entry index (block + 1) → GoodModeAt s version n index (modePlace block j)
+  pub switches : (i : ℕ) → i < entry index (block + 2) → GoodSwitchAt s version n (entry index (block + 1)) index (switchPlace block i)
 
 pub record GoodIndex (s index : List ℕ) : Type 0 where
+  pub version : T (versionFits 1 (versionIn index))
   pub least : 1 ≤ entry index 0
   pub most : entry index 0 ≤ 8
   pub some : 1 ≤ entry index 1
   pub few : entry index 1 ≤ 4
   pub conditions : entry index 2 ≤ 16
   pub owners : (v : ℕ) → v < entry index 0 → entry index (ownerPlace v) < entry index 1
-  pub blocks : (k : ℕ) → k < entry index 1 → GoodBlock s (entry index 0) index (componentPlace k)
-  pub unsafe : (u : ℕ) → u < entry index 2 → GoodSpan s (entry index 0) index (unsafePlace u + unsafeRowsAt)
+  pub blocks : (k : ℕ) → k < entry index 1 → GoodBlock s (versionIn index) (entry index 0) index (componentPlace k)
+  pub unsafe : (u : ℕ) → u < entry index 2 → GoodSpan s (versionIn index) (entry index 0) index (unsafePlace u + unsafeRowsAt)

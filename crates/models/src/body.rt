@@ -12,7 +12,7 @@ ghost use mathlib.Core.Path.{_≡_};
 ghost use Prim.Native.Nat.{_≤_};
 ghost use lib.ListN.{length};
 ghost use Rattle.formats.specs.Model.{readModelBody};
-ghost use Rattle.models.specs.Index.{Sized, entry, readTotals, totalsFrom, readParts, partsFrom, modelFrom, Kept, componentsIn, firstBlock, firstTotal, indexLength, variablesIn, firstOwner};
+ghost use Rattle.models.specs.Index.{Sized, entry, readTotals, totalsFrom, readParts, partsFrom, modelFrom, Kept, componentsIn, firstBlock, firstTotal, indexLength, variablesIn, versionIn, firstOwner};
 ghost use Rattle.fields.specs.Answers.{gotAs};
 
 // How many variables, components and unsafe conditions there are, kept at the first three numbers of the index.
@@ -39,23 +39,32 @@ fn totals_into(s: &[u8], at: usize, index: &mut [u16]) -> Next
 }
 
 // The components, then the unsafe conditions.
-fn parts_into(s: &[u8], at: usize, n: usize, c: usize, count: usize, index: &mut [u16]) -> Next
+fn parts_into(
+    s: &[u8],
+    at: usize,
+    version: u32,
+    n: usize,
+    c: usize,
+    count: usize,
+    index: &mut [u16],
+) -> Next
     requires { ⌜ Sized (now s) (now index) ⌝ }
     requires { ⌜ (n ≤ 8) × ((c ≤ 4) × (count ≤ 16)) ⌝ }
-    requires { ⌜ (n ≡ variablesIn (now index)) × (c ≡ componentsIn (now index)) ⌝ }
-    ensures { λ r. ⌜ gotAs (partsFrom (now (s .entry)) n c count (now (index .exit))) r ≡ readParts n c count (now (s .entry)) at ⌝ }
+    requires { ⌜ (n ≡ variablesIn (now index)) × ((c ≡ componentsIn (now index)) × (version ≡ versionIn (now index))) ⌝ }
+    ensures { λ r. ⌜ gotAs (partsFrom (now (s .entry)) version n c count (now (index .exit))) r ≡ readParts version n c count (now (s .entry)) at ⌝ }
     ensures { λ _. ⌜ Kept firstBlock firstTotal (now (index .entry)) (now (index .exit)) ⌝ }
 {
-    match components_into(s, at, n, index, c) {
+    match components_into(s, at, version, n, index, c) {
         Next::Refused(number, place) => Next::Refused(number, place),
-        Next::At(next) => unsafes_into(s, next, n, c, count, index),
+        Next::At(next) => unsafes_into(s, next, version, n, c, count, index),
     }
 }
 
-// The body from this place on. After a refusal the numbers of the index are free; what a longer array holds past them stays.
-pub fn body_into(s: &[u8], at: usize, index: &mut [u16]) -> Next
+// The body from this place on; the index has the version already. After a refusal the numbers of the index are free; what a longer array holds past them stays.
+pub fn body_into(s: &[u8], at: usize, version: u32, index: &mut [u16]) -> Next
     requires { ⌜ Sized (now s) (now index) ⌝ }
-    ensures { λ r. ⌜ gotAs (modelFrom (now (s .entry)) (now (index .exit))) r ≡ readModelBody 1 (now (s .entry)) at ⌝ }
+    requires { ⌜ version ≡ versionIn (now index) ⌝ }
+    ensures { λ r. ⌜ gotAs (modelFrom (now (s .entry)) (now (index .exit))) r ≡ readModelBody version (now (s .entry)) at ⌝ }
     ensures { λ _. ⌜ Kept 0 firstTotal (now (index .entry)) (now (index .exit)) ⌝ }
 {
     match totals_into(s, at, index) {
@@ -66,7 +75,7 @@ pub fn body_into(s: &[u8], at: usize, index: &mut [u16]) -> Next
             let count = index[CONDITIONS_AT] as usize;
             match owners_into(s, second, n, c, index) {
                 Next::Refused(number, place) => Next::Refused(number, place),
-                Next::At(third) => parts_into(s, third, n, c as usize, count, index),
+                Next::At(third) => parts_into(s, third, version, n, c as usize, count, index),
             }
         }
     }

@@ -15,6 +15,9 @@ pub const CONDITIONS_AT: usize = 2;
 
 pub const FIRST_OWNER: usize = 3;
 
+// Then the sheet's version.
+pub const VERSION_AT: usize = 11;
+
 // Then, once they are counted, how many joint switches and locations there are.
 pub const JOINTS_AT: usize = 14;
 

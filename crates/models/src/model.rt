@@ -43,13 +43,21 @@ fn put_span(index: &mut [u16], i: usize, from: usize, count: u32)
 }
 
 // A condition, kept at two numbers of the index.
-pub fn condition_into(s: &[u8], at: usize, most: u32, n: usize, index: &mut [u16], i: usize) -> Next
+pub fn condition_into(
+    s: &[u8],
+    at: usize,
+    most: u32,
+    version: u32,
+    n: usize,
+    index: &mut [u16],
+    i: usize,
+) -> Next
     requires { ⌜ Sized (now s) (now index) ⌝ }
     requires { ⌜ (most ≤ 255) × ((n ≤ 16) × (i + 1 < indexLength)) ⌝ }
-    ensures { λ r. ⌜ gotAs (spanRows (now (s .entry)) n (now (index .exit)) i) r ≡ readCondition most n (now (s .entry)) at ⌝ }
+    ensures { λ r. ⌜ gotAs (spanRows (now (s .entry)) version n (now (index .exit)) i) r ≡ readCondition version most n (now (s .entry)) at ⌝ }
     ensures { λ _. ⌜ Kept i (i + 2) (now (index .entry)) (now (index .exit)) ⌝ }
 {
-    match condition(s, at, most, n) {
+    match condition(s, at, version, most, n) {
         Field::Refused(number, place) => Next::Refused(number, place),
         Field::Value(count, next) => {
             put_span(index, i, at + 1, count);
@@ -59,17 +67,25 @@ pub fn condition_into(s: &[u8], at: usize, most: u32, n: usize, index: &mut [u16
 }
 
 // A mode's three conditions, initial with at most so many rows, invariant and flow, kept at six numbers of the index.
-fn conditions_into(s: &[u8], at: usize, most: u32, n: usize, index: &mut [u16], i: usize) -> Next
+fn conditions_into(
+    s: &[u8],
+    at: usize,
+    most: u32,
+    version: u32,
+    n: usize,
+    index: &mut [u16],
+    i: usize,
+) -> Next
     requires { ⌜ Sized (now s) (now index) ⌝ }
     requires { ⌜ (most ≤ 255) × ((n ≤ 16) × (i + 5 < indexLength)) ⌝ }
-    ensures { λ r. ⌜ gotAs (threeFrom (now (s .entry)) n (now (index .exit)) i) r ≡ readThree most n (now (s .entry)) at ⌝ }
+    ensures { λ r. ⌜ gotAs (threeFrom (now (s .entry)) version n (now (index .exit)) i) r ≡ readThree version most n (now (s .entry)) at ⌝ }
     ensures { λ _. ⌜ Kept i (i + 6) (now (index .entry)) (now (index .exit)) ⌝ }
 {
-    match condition_into(s, at, most, n, index, i) {
+    match condition_into(s, at, most, version, n, index, i) {
         Next::Refused(number, place) => Next::Refused(number, place),
-        Next::At(second) => match condition_into(s, second, 8, n, index, i + SECOND_SPAN) {
+        Next::At(second) => match condition_into(s, second, 8, version, n, index, i + SECOND_SPAN) {
             Next::Refused(number, place) => Next::Refused(number, place),
-            Next::At(third) => condition_into(s, third, 8, n, index, i + THIRD_SPAN),
+            Next::At(third) => condition_into(s, third, 8, version, n, index, i + THIRD_SPAN),
         },
     }
 }
@@ -85,32 +101,55 @@ fn most_initial(start: u32) -> u32
 }
 
 // A mode, kept at seven numbers of the index.
-fn mode_into(s: &[u8], at: usize, n: usize, index: &mut [u16], i: usize) -> Next
+fn mode_into(s: &[u8], at: usize, version: u32, n: usize, index: &mut [u16], i: usize) -> Next
     requires { ⌜ Sized (now s) (now index) ⌝ }
     requires { ⌜ (n ≤ 16) × (i + 6 < indexLength) ⌝ }
-    ensures { λ r. ⌜ gotAs (modeFrom (now (s .entry)) n (now (index .exit)) i) r ≡ readMode n (now (s .entry)) at ⌝ }
+    ensures { λ r. ⌜ gotAs (modeFrom (now (s .entry)) version n (now (index .exit)) i) r ≡ readMode version n (now (s .entry)) at ⌝ }
     ensures { λ _. ⌜ Kept i (i + 7) (now (index .entry)) (now (index .exit)) ⌝ }
 {
     match byte_within(s, at, 0, 1) {
         Field::Refused(number, place) => Next::Refused(number, place),
         Field::Value(start, next) => {
             index[i] = start as u16;
-            conditions_into(s, next, most_initial(start), n, index, i + INITIAL_AT)
+            conditions_into(
+                s,
+                next,
+                most_initial(start),
+                version,
+                n,
+                index,
+                i + INITIAL_AT,
+            )
         }
     }
 }
 
 // So many modes of the component whose block begins here.
-fn modes_into(s: &[u8], at: usize, n: usize, index: &mut [u16], block: usize, count: usize) -> Next
+fn modes_into(
+    s: &[u8],
+    at: usize,
+    version: u32,
+    n: usize,
+    index: &mut [u16],
+    block: usize,
+    count: usize,
+) -> Next
     requires { ⌜ Sized (now s) (now index) ⌝ }
     requires { ⌜ (n ≤ 16) × ((block ≤ 673) × (count ≤ 8)) ⌝ }
-    ensures { λ r. ⌜ gotAs (map (λ j. modeFrom (now (s .entry)) n (now (index .exit)) (modePlace block j)) (countUp 0 count)) r ≡ many count (readMode n) (now (s .entry)) at ⌝ }
+    ensures { λ r. ⌜ gotAs (map (λ j. modeFrom (now (s .entry)) version n (now (index .exit)) (modePlace block j)) (countUp 0 count)) r ≡ many count (readMode version n) (now (s .entry)) at ⌝ }
     ensures { λ _. ⌜ Kept (block + firstMode) (block + firstSwitch) (now (index .entry)) (now (index .exit)) ⌝ }
 {
     let mut place = at;
     let mut j: usize = 0;
     while j < count {
-        match mode_into(s, place, n, index, block + FIRST_MODE + MODE_LENGTH * j) {
+        match mode_into(
+            s,
+            place,
+            version,
+            n,
+            index,
+            block + FIRST_MODE + MODE_LENGTH * j,
+        ) {
             Next::Refused(number, cut) => return Next::Refused(number, cut),
             Next::At(next) => place = next,
         }
@@ -146,17 +185,25 @@ fn label(s: &[u8], at: usize, alphabet: u32) -> Field
 }
 
 // A switch's label and jump condition, kept at three numbers of the index.
-fn labelled_into(s: &[u8], at: usize, n: usize, alphabet: u32, index: &mut [u16], i: usize) -> Next
+fn labelled_into(
+    s: &[u8],
+    at: usize,
+    version: u32,
+    n: usize,
+    alphabet: u32,
+    index: &mut [u16],
+    i: usize,
+) -> Next
     requires { ⌜ Sized (now s) (now index) ⌝ }
     requires { ⌜ (n ≤ 8) × (i + 2 < indexLength) ⌝ }
-    ensures { λ r. ⌜ gotAs (labelledFrom (now (s .entry)) n (now (index .exit)) i) r ≡ readLabelled n alphabet (now (s .entry)) at ⌝ }
+    ensures { λ r. ⌜ gotAs (labelledFrom (now (s .entry)) version n (now (index .exit)) i) r ≡ readLabelled version n alphabet (now (s .entry)) at ⌝ }
     ensures { λ _. ⌜ Kept i (i + 3) (now (index .entry)) (now (index .exit)) ⌝ }
 {
     match label(s, at, alphabet) {
         Field::Refused(number, place) => Next::Refused(number, place),
         Field::Value(value, next) => {
             index[i] = value as u16;
-            condition_into(s, next, 8, 2 * n, index, i + LABEL_LENGTH)
+            condition_into(s, next, 8, version, 2 * n, index, i + LABEL_LENGTH)
         }
     }
 }
@@ -165,6 +212,7 @@ fn labelled_into(s: &[u8], at: usize, n: usize, alphabet: u32, index: &mut [u16]
 fn switch_into(
     s: &[u8],
     at: usize,
+    version: u32,
     n: usize,
     alphabet: u32,
     modes: u32,
@@ -173,7 +221,7 @@ fn switch_into(
 ) -> Next
     requires { ⌜ Sized (now s) (now index) ⌝ }
     requires { ⌜ (n ≤ 8) × ((modes ≤ 8) × (i + 4 < indexLength)) ⌝ }
-    ensures { λ r. ⌜ gotAs (switchFrom (now (s .entry)) n (now (index .exit)) i) r ≡ readSwitch n alphabet modes (now (s .entry)) at ⌝ }
+    ensures { λ r. ⌜ gotAs (switchFrom (now (s .entry)) version n (now (index .exit)) i) r ≡ readSwitch version n alphabet modes (now (s .entry)) at ⌝ }
     ensures { λ _. ⌜ Kept i (i + 5) (now (index .entry)) (now (index .exit)) ⌝ }
 {
     match byte_below(s, at, modes) {
@@ -183,7 +231,7 @@ fn switch_into(
             Field::Value(target, third) => {
                 index[i] = source as u16;
                 index[i + TARGET_AT] = target as u16;
-                labelled_into(s, third, n, alphabet, index, i + LABEL_AT)
+                labelled_into(s, third, version, n, alphabet, index, i + LABEL_AT)
             }
         },
     }
@@ -193,6 +241,7 @@ fn switch_into(
 fn switches_into(
     s: &[u8],
     at: usize,
+    version: u32,
     n: usize,
     alphabet: u32,
     modes: u32,
@@ -202,7 +251,7 @@ fn switches_into(
 ) -> Next
     requires { ⌜ Sized (now s) (now index) ⌝ }
     requires { ⌜ (n ≤ 8) × ((modes ≤ 8) × ((block ≤ 673) × (count ≤ 32))) ⌝ }
-    ensures { λ r. ⌜ gotAs (map (λ i. switchFrom (now (s .entry)) n (now (index .exit)) (switchPlace block i)) (countUp 0 count)) r ≡ many count (readSwitch n alphabet modes) (now (s .entry)) at ⌝ }
+    ensures { λ r. ⌜ gotAs (map (λ i. switchFrom (now (s .entry)) version n (now (index .exit)) (switchPlace block i)) (countUp 0 count)) r ≡ many count (readSwitch version n alphabet modes) (now (s .entry)) at ⌝ }
     ensures { λ _. ⌜ Kept (block + firstSwitch) (block + blockLength) (now (index .entry)) (now (index .exit)) ⌝ }
 {
     let mut place = at;
@@ -211,6 +260,7 @@ fn switches_into(
         match switch_into(
             s,
             place,
+            version,
             n,
             alphabet,
             modes,
@@ -264,10 +314,17 @@ fn counts_into(s: &[u8], at: usize, index: &mut [u16], block: usize) -> Next
 }
 
 // A component, kept at the block that begins here.
-fn component_into(s: &[u8], at: usize, n: usize, index: &mut [u16], block: usize) -> Next
+fn component_into(
+    s: &[u8],
+    at: usize,
+    version: u32,
+    n: usize,
+    index: &mut [u16],
+    block: usize,
+) -> Next
     requires { ⌜ Sized (now s) (now index) ⌝ }
     requires { ⌜ (n ≤ 8) × (block ≤ 673) ⌝ }
-    ensures { λ r. ⌜ gotAs (componentFrom (now (s .entry)) n (now (index .exit)) block) r ≡ readComponent n (now (s .entry)) at ⌝ }
+    ensures { λ r. ⌜ gotAs (componentFrom (now (s .entry)) version n (now (index .exit)) block) r ≡ readComponent version n (now (s .entry)) at ⌝ }
     ensures { λ _. ⌜ Kept block (block + blockLength) (now (index .entry)) (now (index .exit)) ⌝ }
 {
     match counts_into(s, at, index, block) {
@@ -276,11 +333,12 @@ fn component_into(s: &[u8], at: usize, n: usize, index: &mut [u16], block: usize
             let events = index[block] as u32;
             let modes = index[block + MODE_COUNT_AT] as u32;
             let switches = index[block + SWITCH_COUNT_AT] as usize;
-            match modes_into(s, second, n, index, block, modes as usize) {
+            match modes_into(s, second, version, n, index, block, modes as usize) {
                 Next::Refused(number, place) => Next::Refused(number, place),
                 Next::At(third) => switches_into(
                     s,
                     third,
+                    version,
                     n,
                     events,
                     modes,
@@ -294,16 +352,23 @@ fn component_into(s: &[u8], at: usize, n: usize, index: &mut [u16], block: usize
 }
 
 // So many components.
-pub fn components_into(s: &[u8], at: usize, n: usize, index: &mut [u16], count: usize) -> Next
+pub fn components_into(
+    s: &[u8],
+    at: usize,
+    version: u32,
+    n: usize,
+    index: &mut [u16],
+    count: usize,
+) -> Next
     requires { ⌜ Sized (now s) (now index) ⌝ }
     requires { ⌜ (n ≤ 8) × (count ≤ 4) ⌝ }
-    ensures { λ r. ⌜ gotAs (map (λ k. componentFrom (now (s .entry)) n (now (index .exit)) (componentPlace k)) (countUp 0 count)) r ≡ many count (readComponent n) (now (s .entry)) at ⌝ }
+    ensures { λ r. ⌜ gotAs (map (λ k. componentFrom (now (s .entry)) version n (now (index .exit)) (componentPlace k)) (countUp 0 count)) r ≡ many count (readComponent version n) (now (s .entry)) at ⌝ }
     ensures { λ _. ⌜ Kept firstBlock firstUnsafe (now (index .entry)) (now (index .exit)) ⌝ }
 {
     let mut place = at;
     let mut k: usize = 0;
     while k < count {
-        match component_into(s, place, n, index, FIRST_BLOCK + BLOCK_LENGTH * k) {
+        match component_into(s, place, version, n, index, FIRST_BLOCK + BLOCK_LENGTH * k) {
             Next::Refused(number, cut) => return Next::Refused(number, cut),
             Next::At(next) => place = next,
         }

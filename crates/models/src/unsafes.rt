@@ -67,16 +67,24 @@ fn unsafe_modes_into(s: &[u8], at: usize, c: usize, index: &mut [u16], i: usize)
 }
 
 // An unsafe condition, kept at six numbers of the index: its modes, and its rows at the last two.
-fn unsafe_into(s: &[u8], at: usize, n: usize, c: usize, index: &mut [u16], i: usize) -> Next
+fn unsafe_into(
+    s: &[u8],
+    at: usize,
+    version: u32,
+    n: usize,
+    c: usize,
+    index: &mut [u16],
+    i: usize,
+) -> Next
     requires { ⌜ Sized (now s) (now index) ⌝ }
     requires { ⌜ (n ≤ 8) × ((c ≡ componentsIn (now index)) × ((c ≤ 4) × ((firstUnsafe ≤ i) × (i + 5 < indexLength)))) ⌝ }
     requires { ⌜ ((k : ℕ) → k < c → modeCountIn (now index) k ≤ 8) ⌝ }
-    ensures { λ r. ⌜ gotAs (unsafeFrom (now (s .entry)) n c (now (index .exit)) i) r ≡ readUnsafe n (componentsFrom (now (s .entry)) (now (index .entry))) (now (s .entry)) at ⌝ }
+    ensures { λ r. ⌜ gotAs (unsafeFrom (now (s .entry)) version n c (now (index .exit)) i) r ≡ readUnsafe version n (componentsFrom (now (s .entry)) (now (index .entry))) (now (s .entry)) at ⌝ }
     ensures { λ _. ⌜ Kept i (i + 6) (now (index .entry)) (now (index .exit)) ⌝ }
 {
     match unsafe_modes_into(s, at, c, index, i) {
         Next::Refused(number, place) => Next::Refused(number, place),
-        Next::At(next) => condition_into(s, next, 8, n, index, i + UNSAFE_ROWS_AT),
+        Next::At(next) => condition_into(s, next, 8, version, n, index, i + UNSAFE_ROWS_AT),
     }
 }
 
@@ -84,6 +92,7 @@ fn unsafe_into(s: &[u8], at: usize, n: usize, c: usize, index: &mut [u16], i: us
 pub fn unsafes_into(
     s: &[u8],
     at: usize,
+    version: u32,
     n: usize,
     c: usize,
     count: usize,
@@ -92,13 +101,21 @@ pub fn unsafes_into(
     requires { ⌜ Sized (now s) (now index) ⌝ }
     requires { ⌜ (n ≤ 8) × ((c ≡ componentsIn (now index)) × ((c ≤ 4) × (count ≤ 16))) ⌝ }
     requires { ⌜ ((k : ℕ) → k < c → (modeCountIn (now index) k ≤ 8) × (switchCountIn (now index) k ≤ 32)) ⌝ }
-    ensures { λ r. ⌜ gotAs (unsafesFrom (now (s .entry)) n c count (now (index .exit))) r ≡ many count (readUnsafe n (componentsFrom (now (s .entry)) (now (index .entry)))) (now (s .entry)) at ⌝ }
+    ensures { λ r. ⌜ gotAs (unsafesFrom (now (s .entry)) version n c count (now (index .exit))) r ≡ many count (readUnsafe version n (componentsFrom (now (s .entry)) (now (index .entry)))) (now (s .entry)) at ⌝ }
     ensures { λ _. ⌜ Kept firstUnsafe firstTotal (now (index .entry)) (now (index .exit)) ⌝ }
 {
     let mut place = at;
     let mut u: usize = 0;
     while u < count {
-        match unsafe_into(s, place, n, c, index, FIRST_UNSAFE + UNSAFE_LENGTH * u) {
+        match unsafe_into(
+            s,
+            place,
+            version,
+            n,
+            c,
+            index,
+            FIRST_UNSAFE + UNSAFE_LENGTH * u,
+        ) {
             Next::Refused(number, cut) => return Next::Refused(number, cut),
             Next::At(next) => place = next,
         }

@@ -1,5 +1,6 @@
 pub mod StandingLaws
 pub mod PaperLaws
+pub mod SecondLaws
 pub mod OpenLaws
 pub mod JoinedLaws
 pub mod RegionLaws

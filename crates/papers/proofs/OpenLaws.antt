@@ -1,30 +1,35 @@
 -- How a paper opens: what each sheet's reading makes of the answer; and one law for every call on two sheets, which is refused as the paper
--- is, or goes on at byte 4 of the second sheet. Assumes nothing.
-use mathlib.Core.Path.{_≡_, refl, sym, ap, ap₂, _∙_, subst}
+-- is, or goes on at the body of the second sheet. Assumes nothing.
+use mathlib.Core.Path.{_≡_, refl, sym, ap, _∙_, subst}
 use mathlib.Core.Bool.{false}
 use mathlib.Core.List.{List}
 use Prim.Native.Nat.{ℕ, _≤_}
 use native.Mathlib.Omega.{arith}
 use lib.Dec.{T}
-use Rattle.formats.specs.Reading.{Got, got, refused, Reader, _>>_, header}
+use Rattle.formats.specs.Reading.{Got, got, refused, Reader, _>>_}
 use Rattle.formats.specs.Model.{Model}
 use Rattle.formats.specs.declared.Limits.{Limits}
 use Rattle.formats.specs.ModelSheet.{limitsFit, readModel}
-use Rattle.formats.proofs.Placed.{Fine, placed-header, model-fine}
+use Rattle.formats.proofs.Placed.{Fine, model-fine}
 use Rattle.models.specs.Index.{modelFrom}
 use Rattle.joint_switches.specs.Counted.{Counted}
-use Rattle.model_sheets.proofs.SheetLaws.{header-read}
 use Rattle.rules.specs.declared.Answer.{Answer}
 use Rattle.rules.specs.Marking.{answer, withModel}
-use Rattle.rules.specs.Opening.{ModelOpened, opens, shut, openModel}
+use Rattle.rules.specs.Opening.{ModelOpened, opens, shut, openModel, openSecond}
 use Rattle.rules.proofs.Opening.{unfit-shut, unread-shut, read-opens}
 use Rattle.papers.specs.Opening.{openedModel, ModelOpen, openedSecond, opened, Open}
-use Rattle.papers.proofs.PaperLaws.{accepted, header-body, header-stops, after-header}
+use Rattle.papers.proofs.PaperLaws.{accepted}
+use Rattle.papers.proofs.SecondLaws.{second-stops, second-body, second-goes-on}
 
 -- an answer that refuses has a number
 pub refuses : {a : Answer} (number sheet place done score : ℕ) → a ≡ answer number sheet place done score → 1 ≤ number → a .number ≡ 0 → ⊥
 unfolding answer
 refuses number sheet place done score e h z = omega (arith, ap (λ (x : Answer). x .number) e)
+
+-- an answer's place
+pub answer-place : {a : Answer} (number sheet place done score : ℕ) → a ≡ answer number sheet place done score → a .place ≡ place
+unfolding answer
+answer-place number sheet place done score e = ap (λ (x : Answer). x .place) e
 
 -- the model's answer: number 0, or the refusal
 module _ (limits : Limits) (model : List ℕ) where
@@ -65,44 +70,33 @@ module _ (limits : Limits) (model : List ℕ) where
   pub model-number : (number at : ℕ) → readModel limits model ≡ refused number at → 1 ≤ number
   model-number number at e = subst (Fine model 0) e (model-fine limits model) .0
 
--- the answer, by what the model and the second sheet give
-abbrev openedBy : ModelOpened → Got ℕ → Answer
-openedBy g h = withModel g (λ m. openedSecond h)
-
+-- the answer, by what the model gives and then the second sheet
 module _ (limits : Limits) (kind : ℕ) (model second : List ℕ) where
-  opened-so : (g : ModelOpened) (h : Got ℕ) → openModel limits model ≡ g → header kind second 0 ≡ h → opened limits kind model second ≡ openedBy g h
-  unfolding opened
-  opened-so g h e d = ap₂ openedBy e d
+  abbrev openedBy : ModelOpened → Answer
+  openedBy g = withModel g (λ m. openedSecond (openSecond kind m second 0))
 
   -- a model that is refused
   pub opened-model : (openedModel limits model .number ≡ 0 → ⊥) → openedModel limits model ≡ opened limits kind model second
   unfolding opened withModel
-  opened-model f = model-refused limits model (λ g. openedBy g (header kind second 0)) (λ number sheet at. refl) f
+  opened-model f = model-refused limits model openedBy (λ number sheet at. refl) f
 
-  pub opened-second : (m : Model) (number at : ℕ) → openModel limits model ≡ opens m → header kind second 0 ≡ refused number at → answer number 1 at 0 0 ≡ opened limits kind model second
-  unfolding withModel openedSecond
-  opened-second m number at e d = sym (opened-so (opens m) (refused number at) e d)
+  -- a model that opens
+  opened-so : (m : Model) → openModel limits model ≡ opens m → (g : Got ℕ) → openSecond kind m second 0 ≡ g → openedSecond g ≡ opened limits kind model second
+  unfolding opened withModel
+  opened-so m e g d = sym (ap openedBy e ∙ ap openedSecond d)
 
-  pub opened-both : (m : Model) (version body : ℕ) → openModel limits model ≡ opens m → header kind second 0 ≡ got version body → answer 0 1 body 0 0 ≡ opened limits kind model second
-  unfolding withModel openedSecond
-  opened-both m version body e d = sym (opened-so (opens m) (got version body) e d)
+  pub opened-second : (m : Model) (number at : ℕ) → openModel limits model ≡ opens m → openSecond kind m second 0 ≡ refused number at → answer number 1 at 0 0 ≡ opened limits kind model second
+  unfolding openedSecond
+  opened-second m number at e d = opened-so m e (refused number at) d
 
-pub header-number : (kind : ℕ) (s : List ℕ) (number at : ℕ) → header kind s 0 ≡ refused number at → 1 ≤ number
-header-number kind s number at e = subst (λ x. Fine s 0 x) e (placed-header {least = 0} kind .fine s 0 (omega arith) (omega arith)) .0
+  pub opened-both : (m : Model) (version body : ℕ) → openModel limits model ≡ opens m → openSecond kind m second 0 ≡ got version body → answer 0 1 body 0 0 ≡ opened limits kind model second
+  unfolding openedSecond
+  opened-both m version body e d = opened-so m e (got version body) d
 
-pub header-four : (kind : ℕ) (s : List ℕ) (version body : ℕ) → header kind s 0 ≡ got version body → body ≡ 4
-header-four kind s version body e = header-read kind s version body e .four
-
-pub is-open : (limits : Limits) (kind : ℕ) (model index second : List ℕ) (version body : ℕ) → ModelOpen limits model index → header kind second 0 ≡ got version body → Open limits kind model index second
-is-open limits kind model index second version body w d =
-    let b = header-body kind second version body d in
-    record {
-      first = w;
-      version = version;
-      headed = d ∙ ap (λ (p : ℕ). got version p) (header-four kind second version body d);
-      bodied = b .0;
-      brief = b .1;
-    }
+  pub is-open : (index : List ℕ) (version body : ℕ) → ModelOpen limits model index → openSecond kind (modelFrom model index) second 0 ≡ got version body → Open limits kind model index second body
+  is-open index version body w d =
+      let b = second-body kind (modelFrom model index) second version body d in
+      record { first = w; version = version; headed = d; bodied = b .0; brief = b .1 }
 
 -- A call on two sheets, by how its model opens: it reads the second one by r, and answers by what that gives; a refusal is told by number,
 -- sheet and place
@@ -110,30 +104,44 @@ module _
     {A B : Type 0} (limits : Limits) (kind : ℕ) (model second : List ℕ) (refuse : ℕ → ℕ → ℕ → B) (r : Model → Reader A) (mark : Model → Got A → B) (call : ModelOpened → B)
     (stops : (m : Model) (number at : ℕ) → refuse number 1 at ≡ mark m (refused number at))
     (first : (number sheet at : ℕ) → refuse number sheet at ≡ call (shut number sheet at))
-    (then : (m : Model) → mark m ((header kind >> r m) second 0) ≡ call (opens m)) where
-  by-parts : (g : ModelOpened) (h : Got ℕ) → header kind second 0 ≡ h → (openedBy g h .number ≡ 0 → ⊥) → refuse (openedBy g h .number) (openedBy g h .sheet) (openedBy g h .place) ≡ call g
-  unfolding withModel openedSecond answer
-  by-parts (shut number sheet at) h d f = first number sheet at
-  by-parts (opens m) (refused number at) d f = stops m number at ∙ ap (mark m) (sym (header-stops kind (r m) second number at d)) ∙ then m
-  by-parts (opens m) (got version body) d f = absurd (f refl)
+    (then : (m : Model) → mark m ((openSecond kind m >> r m) second 0) ≡ call (opens m)) where
+  abbrev toldAs : Answer → B
+  toldAs a = refuse (a .number) (a .sheet) (a .place)
+
+  by-second : (m : Model) (g : Got ℕ) → openSecond kind m second 0 ≡ g → (openedSecond g .number ≡ 0 → ⊥) → toldAs (openedSecond g) ≡ call (opens m)
+  unfolding openedSecond answer
+  by-second m (refused number at) d f = stops m number at ∙ ap (mark m) (sym (second-stops kind m second (r m) number at d)) ∙ then m
+  by-second m (got version body) d f = absurd (f refl)
+
+  by-parts : (g : ModelOpened) → (openedBy limits kind model second g .number ≡ 0 → ⊥) → toldAs (openedBy limits kind model second g) ≡ call g
+  unfolding withModel answer
+  by-parts (shut number sheet at) f = first number sheet at
+  by-parts (opens m) f = by-second m (openSecond kind m second 0) refl f
 
   pub open-refused : (opened limits kind model second .number ≡ 0 → ⊥) → refuse (opened limits kind model second .number) (opened limits kind model second .sheet) (opened limits kind model second .place) ≡ call (openModel limits model)
   unfolding opened
-  open-refused f = by-parts (openModel limits model) (header kind second 0) refl f
+  open-refused f = by-parts (openModel limits model) f
 
-  pub open-goes-on : {index : List ℕ} → Open limits kind model index second → mark (modelFrom model index) (r (modelFrom model index) second 4) ≡ call (openModel limits model)
-  open-goes-on {index} w =
+  pub open-goes-on : {index : List ℕ} {body : ℕ} → Open limits kind model index second body → mark (modelFrom model index) (r (modelFrom model index) second body) ≡ call (openModel limits model)
+  open-goes-on {index} {body} w =
       let m = modelFrom model index in
-      ap (mark m) (sym (after-header kind (r m) second (w .version) 4 (w .headed))) ∙ then m ∙ ap call (sym (w .first .opened))
+      ap (mark m) (sym (second-goes-on kind m second (r m) (w .version) body (w .headed))) ∙ then m ∙ ap call (sym (w .first .opened))
 
 -- nothing of it but number, sheet and place is other than 0
 module _ (limits : Limits) (kind : ℕ) (model second : List ℕ) where
-  only-refuses : (g : ModelOpened) (h : Got ℕ) → openedBy g h ≡ answer (openedBy g h .number) (openedBy g h .sheet) (openedBy g h .place) 0 0
-  unfolding withModel openedSecond answer
-  only-refuses (shut number sheet at) h = refl
-  only-refuses (opens m) (refused number at) = refl
-  only-refuses (opens m) (got version body) = refl
+  abbrev OnlyRefuses : Answer → Type 0
+  OnlyRefuses a = a ≡ answer (a .number) (a .sheet) (a .place) 0 0
+
+  second-refuses : (g : Got ℕ) → OnlyRefuses (openedSecond g)
+  unfolding openedSecond answer
+  second-refuses (refused number at) = refl
+  second-refuses (got version body) = refl
+
+  only-refuses : (g : ModelOpened) → OnlyRefuses (openedBy limits kind model second g)
+  unfolding withModel answer
+  only-refuses (shut number sheet at) = refl
+  only-refuses (opens m) = second-refuses (openSecond kind m second 0)
 
   pub opened-answer : opened limits kind model second ≡ answer (opened limits kind model second .number) (opened limits kind model second .sheet) (opened limits kind model second .place) 0 0
   unfolding opened
-  opened-answer = only-refuses (openModel limits model) (header kind second 0)
+  opened-answer = only-refuses (openModel limits model)

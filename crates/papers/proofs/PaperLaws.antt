@@ -1,4 +1,4 @@
--- A paper once its sheets are read: limits, headers, regions, and where a location stands. Assumes nothing.
+-- A paper once its sheets are read: limits, lengths, regions, and where a location stands. Assumes nothing.
 use Rattle.fields.specs.declared.Next.the-variants as next
 use mathlib.Core.Path.{_≡_, refl, sym, ap, _∙_, subst}
 use mathlib.Core.Bool.{Bool, true, false, _&&_}
@@ -7,7 +7,7 @@ use Prim.Native.Nat.{ℕ, _≤_, _+_}
 use native.Mathlib.Omega.{arith}
 use lib.Dec.{leb, T, eqb, leb→le}
 use lib.ListN.{length, take}
-use Rattle.formats.specs.Reading.{Got, got, refused, Reader, andThen, _>>=_, _>>_, header, bigEndian, lengthRight}
+use Rattle.formats.specs.Reading.{Got, got, refused, _>>=_, header, bigEndian, lengthRight}
 use Rattle.formats.specs.Rows.{Condition}
 use Rattle.formats.specs.Model.{Model}
 use Rattle.formats.specs.Locations.{locationCount}
@@ -19,9 +19,9 @@ use Rattle.formats.specs.ModelSheet.{limitsFit, readModel}
 use Rattle.formats.proofs.ModelSheet.{in-a-chain, read-whole, fit-low}
 use Rattle.formats.specs.Certificate.{readRegions}
 use Rattle.second_sheets.specs.CertificateAnswers.{regionsFrom, regionsFor, GoodRegions}
-use Rattle.formats.proofs.Gives.{passes, then-got, and-left, and-right}
+use Rattle.formats.proofs.Gives.{passes, and-left, and-right}
 use Rattle.model_sheets.proofs.SheetLaws.{header-read, sheet-first}
-use Rattle.formats.proofs.Placed.{Fine, placed-regions, placed-header, model-fine}
+use Rattle.formats.proofs.Placed.{Fine, placed-regions, model-fine}
 use Rattle.models.proofs.GoodIndexLaws.{index-good}
 use Rattle.second_sheets.proofs.CertificateLaws.{regions-of, good-regions}
 use Rattle.papers.specs.Paper.{GoodPaper, Accepted}
@@ -49,11 +49,11 @@ accepted limits model index next t e counted =
     }
 
 -- a paper is good once its regions are read
-pub good-paper : {model index second regions : List ℕ} (locations at next : ℕ) → Accepted model index → length second ≤ 32768 → locations ≡ locationCount (componentsFrom model index) → regionsFor locations (entry index 0) second at ≡ got (regionsFrom second (entry index 0) regions locations) next → GoodPaper model index second regions
+pub good-paper : {model index second regions : List ℕ} (locations at next : ℕ) → Accepted model index → length second ≤ 32768 → locations ≡ locationCount (componentsFrom model index) → regionsFor locations (entry index 11) (entry index 0) second at ≡ got (regionsFrom second (entry index 11) (entry index 0) regions locations) next → GoodPaper model index second regions
 good-paper {model} {index} {second} {regions} locations at next a h l e =
     record {
       good = a .good;
-      placed = subst (λ (n : ℕ). GoodRegions second (entry index 0) n regions) l (good-regions second (entry index 0) locations at regions next e);
+      placed = subst (λ (n : ℕ). GoodRegions second (entry index 11) (entry index 0) n regions) l (good-regions second (entry index 11) (entry index 0) locations at regions next e);
       short = a .short;
       brief = h;
       few = a .few;
@@ -61,10 +61,10 @@ good-paper {model} {index} {second} {regions} locations at next a h l e =
     }
 
 -- The regions: those that the model wants are those for its numbers
-pub regions-for : (model index second : List ℕ) (locations at : ℕ) → locations ≡ locationCount (componentsFrom model index) → regionsFor locations (entry index 0) second at ≡ readRegions (modelFrom model index) second at
+pub regions-for : (model index second : List ℕ) (locations at : ℕ) → locations ≡ locationCount (componentsFrom model index) → regionsFor locations (entry index 11) (entry index 0) second at ≡ readRegions (modelFrom model index) second at
 unfolding modelFrom
 regions-for model index second locations at l =
-    ap (λ (n : ℕ). regionsFor n (entry index 0) second at) l ∙ sym (ap (λ r. r second at) (regions-of (modelFrom model index)))
+    ap (λ (n : ℕ). regionsFor n (entry index 11) (entry index 0) second at) l ∙ sym (ap (λ r. r second at) (regions-of (modelFrom model index)))
 
 pub regions-refused-at : (m : Model) (s : List ℕ) (at number place : ℕ) → at ≤ length s → readRegions m s at ≡ refused number place → place ≤ length s
 regions-refused-at m s at number place l e = subst (λ x. Fine s at x) e (placed-regions {least = 0} m .fine s at (omega arith) l) .2
@@ -72,7 +72,7 @@ regions-refused-at m s at number place l e = subst (λ x. Fine s at x) e (placed
 pub regions-end-at : (m : Model) (s : List ℕ) (at : ℕ) (regions : List Condition) (place : ℕ) → at ≤ length s → readRegions m s at ≡ got regions place → place ≤ length s
 regions-end-at m s at regions place l e = subst (λ x. Fine s at x) e (placed-regions {least = 0} m .fine s at (omega arith) l) .1
 
--- The header. A place of a refusal on a sheet of any length is at most 32,768
+-- The length. A place of a refusal on a sheet of any length is at most 32,768
 right-short : (s : List ℕ) → lengthRight s ≡ true → length s ≤ 32768
 unfolding lengthRight
 right-short s e =
@@ -81,7 +81,7 @@ right-short s e =
     let c = eqb (bigEndian (take 2 s) + 2) (length s) in
     leb→le (length s) 32768 (and-right a b (and-left (a && b) c (subst T (sym e) tt)))
 
-refused-placed : {A : Type 0} (s : List ℕ) (g : Got A) (number place : ℕ) → Fine s 0 g → (lengthRight s ≡ false → g ≡ refused 1 0) → g ≡ refused number place → place ≤ 32768
+pub refused-placed : {A : Type 0} (s : List ℕ) (g : Got A) (number place : ℕ) → Fine s 0 g → (lengthRight s ≡ false → g ≡ refused 1 0) → g ≡ refused number place → place ≤ 32768
 refused-placed s g number place w unsized e = go (lengthRight s) refl
   where
     go : (b : Bool) → lengthRight s ≡ b → place ≤ 32768
@@ -91,25 +91,6 @@ refused-placed s g number place w unsized e = go (lengthRight s) refl
         let z : 0 ≡ place = cc in
         omega arith
 
-pub header-placed : (kind : ℕ) (s : List ℕ) (number place : ℕ) → header kind s 0 ≡ refused number place → place ≤ 32768
-header-placed kind s number place e =
-    refused-placed s (header kind s 0) number place (placed-header {least = 0} kind .fine s 0 (omega arith) (omega arith)) (header-unsized s kind) e
-
 pub model-placed : (limits : Limits) (s : List ℕ) (number place : ℕ) → readModel limits s ≡ refused number place → place ≤ 32768
 model-placed limits s number place e =
     refused-placed s (readModel limits s) number place (model-fine limits s) (λ q. sheet-first limits s 1 0 (header-unsized s 1 q)) e
-
--- a header that was read leaves its body from byte 4 on, in a sheet of a right length
-pub header-body : (kind : ℕ) (s : List ℕ) (version place : ℕ) → header kind s 0 ≡ got version place → (4 ≤ length s) × (length s ≤ 32768)
-header-body kind s version place e =
-    let r = header-read kind s version place e in
-    let w = subst (λ x. Fine s 0 x) e (placed-header {least = 0} kind .fine s 0 (omega arith) (omega arith)) in
-    (omega (arith, w .1, r .four), r .short)
-
-pub after-header : {A : Type 0} (kind : ℕ) (r : Reader A) (s : List ℕ) (version place : ℕ) → header kind s 0 ≡ got version place → (header kind >> r) s 0 ≡ r s 4
-after-header kind r s version place e =
-    then-got (header kind) r s 0 e (ap (λ (p : ℕ). r s p) (header-read kind s version place e .four))
-
-pub header-stops : {A : Type 0} (kind : ℕ) (r : Reader A) (s : List ℕ) (number place : ℕ) → header kind s 0 ≡ refused number place → (header kind >> r) s 0 ≡ refused number place
-unfolding _>>_ andThen
-header-stops kind r s number place e = ap (λ g. andThen g (λ a. r) s) e

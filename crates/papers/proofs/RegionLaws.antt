@@ -17,20 +17,20 @@ use Rattle.papers.specs.Paper.{GoodPaper, regionsOf}
 
 -- the rows of a region
 module _ (model index second regions : List ℕ) where
-  pub region-at : (location : ℕ) → location < locationCount (componentsFrom model index) → regionsOf model index second regions location ≡ spanRows second (entry index 0) regions (2 * location)
+  pub region-at : (location : ℕ) → location < locationCount (componentsFrom model index) → regionsOf model index second regions location ≡ spanRows second (entry index 11) (entry index 0) regions (2 * location)
   unfolding regionsOf regionOf regionsFrom
-  region-at location h = counted-at (λ l. spanRows second (entry index 0) regions (2 * l)) (locationCount (componentsFrom model index)) location [] h
+  region-at location h = counted-at (λ l. spanRows second (entry index 11) (entry index 0) regions (2 * l)) (locationCount (componentsFrom model index)) location [] h
 
   pub region-length : (location : ℕ) → location < locationCount (componentsFrom model index) → length (regionsOf model index second regions location) ≡ entry regions (2 * location + 1)
   unfolding spanRows
   region-length location h =
       ap (λ (c : Condition). length c) (region-at location h)
-      ∙ length-rows second (entry index 0) (entry regions (2 * location)) (entry regions (2 * location + 1))
+      ∙ length-rows second (entry index 11) (entry index 0) (entry regions (2 * location)) (entry regions (2 * location + 1))
 
   region-past : (location : ℕ) → locationCount (componentsFrom model index) ≤ location → length (regionsOf model index second regions location) ≡ 0
   unfolding regionsOf regionOf regionsFrom
   region-past location h =
-      let kept : ℕ → Condition = λ l. spanRows second (entry index 0) regions (2 * l) in
+      let kept : ℕ → Condition = λ l. spanRows second (entry index 11) (entry index 0) regions (2 * l) in
       let count = locationCount (componentsFrom model index) in
       ap (λ (c : Condition). length c) (List·getD-eq-default (map kept (countUp 0 count)) [] {n = location} (omega (arith, counted-length kept 0 count)))
 

@@ -21,15 +21,15 @@ use Rattle.farkas.specs.Lists.{every}
 use Rattle.formats.specs.RunSheet.{flow}
 
 -- the present modes, by the numbers of an index
-pub mode-at : (s index : List ℕ) (k mode : ℕ) → mode < entry index (componentPlace k + 1) → modeOf (componentAt s index k) mode ≡ modeFrom s (entry index 0) index (modePlace (componentPlace k) mode)
+pub mode-at : (s index : List ℕ) (k mode : ℕ) → mode < entry index (componentPlace k + 1) → modeOf (componentAt s index k) mode ≡ modeFrom s (entry index 11) (entry index 0) index (modePlace (componentPlace k) mode)
 unfolding modeOf componentAt componentFrom
-mode-at s index k mode h = counted-at (λ j. modeFrom s (entry index 0) index (modePlace (componentPlace k) j)) (entry index (componentPlace k + 1)) mode _ h
+mode-at s index k mode h = counted-at (λ j. modeFrom s (entry index 11) (entry index 0) index (modePlace (componentPlace k) j)) (entry index (componentPlace k + 1)) mode _ h
 
 module _ (s index modes : List ℕ) (long : entry index 1 ≤ length modes) where
   abbrev pub presentOn : ℕ → List Mode
   presentOn k = present (componentsOn s index k) (numbersOn index modes k)
 
-  pub present-next : KnownModes index modes → (k : ℕ) → k < entry index 1 → presentOn k ≡ modeFrom s (entry index 0) index (modePlace (componentPlace k) (getD modes k 0)) ∷ presentOn (k + 1)
+  pub present-next : KnownModes index modes → (k : ℕ) → k < entry index 1 → presentOn k ≡ modeFrom s (entry index 11) (entry index 0) index (modePlace (componentPlace k) (getD modes k 0)) ∷ presentOn (k + 1)
   unfolding present
   present-next known k h =
       ap₂ present (components-drop s index k h) (per-component-drop index modes long k h)
@@ -89,7 +89,7 @@ module _ (index modes : List ℕ) (long : entry index 1 ≤ length modes) (place
       (drop-of-length-le asked {i = k} (omega (arith, counted-length (λ i. entry index (place + i)) 0 (entry index 1))))
       (drop-of-length-le (perComponent index modes) {i = k} (omega (arith, per-component-length index modes long))))
 
-pub fit-starts : (model index modes : List ℕ) (u : ℕ) → fitOn index modes (unsafePlace u) 0 ≡ modesFit (unsafeFrom model (entry index 0) (entry index 1) index (unsafePlace u) .modes) (perComponent index modes)
+pub fit-starts : (model index modes : List ℕ) (u : ℕ) → fitOn index modes (unsafePlace u) 0 ≡ modesFit (unsafeFrom model (entry index 11) (entry index 0) (entry index 1) index (unsafePlace u) .modes) (perComponent index modes)
 unfolding unsafeFrom
 fit-starts model index modes u = refl
 

@@ -7,7 +7,7 @@ use Rattle.formats.specs.Reading.{got, refused, Got}
 use Rattle.formats.specs.Rows.{Condition}
 use Rattle.formats.specs.Locations.{locationCount}
 use Rattle.formats.specs.Joint.{joints, JointSwitch}
-use Rattle.models.specs.Index.{entry, componentsFrom, GoodIndex, modelFrom}
+use Rattle.models.specs.Index.{versionIn, entry, componentsFrom, GoodIndex, modelFrom}
 use Rattle.joint_switches.specs.Counted.{Counted}
 use Rattle.second_sheets.specs.CertificateAnswers.{regionsFrom, GoodRegions}
 use Rattle.rules.specs.Obligations.{regionOf, Obligation, obligations, locationObligations, jumpsObligations}
@@ -26,7 +26,7 @@ pub record Accepted (model index : List ℕ) : Type 0 where
 -- a model and a certificate's regions that were read, and their places
 pub record GoodPaper (model index second regions : List ℕ) : Type 0 where
   pub good : GoodIndex model index
-  pub placed : GoodRegions second (entry index 0) (locationCount (componentsFrom model index)) regions
+  pub placed : GoodRegions second (versionIn index) (entry index 0) (locationCount (componentsFrom model index)) regions
   pub short : length model ≤ 32768
   pub brief : length second ≤ 32768
   pub few : locationCount (componentsFrom model index) ≤ 64
@@ -34,11 +34,11 @@ pub record GoodPaper (model index second regions : List ℕ) : Type 0 where
 
 -- the regions of a certificate, by the places that the code keeps
 unfoldable pub regionsOf : List ℕ → List ℕ → List ℕ → List ℕ → ℕ → Condition
-regionsOf model index second regions = regionOf (regionsFrom second (entry index 0) regions (locationCount (componentsFrom model index)))
+regionsOf model index second regions = regionOf (regionsFrom second (versionIn index) (entry index 0) regions (locationCount (componentsFrom model index)))
 
 -- what a paper has to prove: all of it, for so many locations; at a location; by joint switches, of which so many come before these
 abbrev pub obligationsFor : List ℕ → List ℕ → List ℕ → List ℕ → ℕ → List Obligation
-obligationsFor model index second regions locations = obligations (modelFrom model index) (regionsFrom second (entry index 0) regions locations)
+obligationsFor model index second regions locations = obligations (modelFrom model index) (regionsFrom second (versionIn index) (entry index 0) regions locations)
 
 abbrev pub locationObligationsFor : List ℕ → List ℕ → List ℕ → List ℕ → ℕ → List Obligation
 locationObligationsFor model index second regions = locationObligations (modelFrom model index) (regionsOf model index second regions)

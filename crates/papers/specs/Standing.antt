@@ -4,13 +4,13 @@ use mathlib.Core.List.{List}
 use Prim.Native.Nat.{ℕ, _+_, _<_}
 use lib.ListN.{getD}
 use Rattle.formats.specs.Locations.{locationCount, modesAt}
-use Rattle.models.specs.Index.{entry, componentPlace, modePlace, componentsFrom, GoodSpan}
+use Rattle.models.specs.Index.{versionIn, entry, componentPlace, modePlace, componentsFrom, GoodSpan}
 use Rattle.models.specs.Counts.{perComponent}
 pub use Rattle.models.specs.Counts.{KnownModes}
 
 -- each mode's condition, kept so many numbers into the mode's place, lies within the sheet
 pub record GoodModes (model index modes : List ℕ) (offset : ℕ) : Type 0 where
-  pub spans : (k : ℕ) → k < entry index 1 → GoodSpan model (entry index 0) index (modePlace (componentPlace k) (getD modes k 0) + offset)
+  pub spans : (k : ℕ) → k < entry index 1 → GoodSpan model (versionIn index) (entry index 0) index (modePlace (componentPlace k) (getD modes k 0) + offset)
   pub small : (k : ℕ) → k < entry index 1 → getD modes k 0 < 8
 
 -- a location with its modes, as an array of four has them

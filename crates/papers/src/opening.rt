@@ -9,12 +9,17 @@ use model_sheets::limits::limits_fit;
 use model_sheets::sheet::model_into;
 use models::layout::Index;
 use models::layout::LOCATIONS_AT;
+use models::layout::VERSION_AT;
 use rules::Answer;
+ghost use mathlib.Core.List.{List};
 ghost use mathlib.Core.Path.{_≡_};
+ghost use Prim.Native.Nat.{ℕ};
+ghost use Rattle.fields.specs.Answers.{gotField};
 ghost use Rattle.formats.specs.Locations.{locationCount};
-ghost use Rattle.models.specs.Index.{Kept, indexLength, componentsFrom};
+ghost use Rattle.models.specs.Index.{Kept, indexLength, componentsFrom, modelFrom, versionIn};
 ghost use Rattle.papers.specs.Opening.{openedModel, ModelOpen, opened, Open};
 ghost use Rattle.papers.specs.Paper.{Accepted};
+ghost use Rattle.rules.specs.Opening.{openSecond};
 
 // The stated limits are tested, then the model is read into a lent index: number 0 where both are good, else the answer that refuses them.
 // After a refusal the index is free.
@@ -38,8 +43,15 @@ pub fn open_model(model: &[u8], index: &mut Index, limits: Limits) -> Answer
     }
 }
 
-// The model is opened, then the header of a second sheet of this kind is read: number 0 where both are good, else the answer that refuses
-// the paper. After a refusal the index is free.
+// How a second sheet of this kind opens, beside a model with this index: its version and the place of its body.
+pub fn open_second(index: &Index, second: &[u8], kind: u32) -> Field
+    ensures { λ r. ⌜ ((model : List ℕ) → gotField r ≡ openSecond kind (modelFrom model (now (index .entry))) (now (second .entry)) 0) ⌝ }
+{
+    header(second, kind)
+}
+
+// The model is opened, then the second sheet: number 0 and the place of its body where both are good, else the answer that refuses the
+// paper. After a refusal the index is free.
 pub fn open_paper(
     model: &[u8],
     second: &[u8],
@@ -49,13 +61,13 @@ pub fn open_paper(
 ) -> Answer
     ensures { λ r. ⌜ r ≡ opened limits kind (now (model .entry)) (now (second .entry)) ⌝ }
     ensures { λ _. ⌜ Kept 0 indexLength (now (index .entry)) (now (index .exit)) ⌝ }
-    ensures { λ r. ⌜ (r .number ≡ 0 → Open limits kind (now (model .entry)) (now (index .exit)) (now (second .entry))) ⌝ }
+    ensures { λ r. ⌜ (r .number ≡ 0 → Open limits kind (now (model .entry)) (now (index .exit)) (now (second .entry)) (r .place)) ⌝ }
 {
     let opened = open_model(model, index, limits);
     if opened.number != 0 {
         return opened;
     }
-    match header(second, kind) {
+    match open_second(index, second, kind) {
         Field::Refused(number, place) => on_second(number, place, 0, 0),
         Field::Value(_, body) => on_second(0, body, 0, 0),
     }
@@ -67,4 +79,18 @@ pub fn locations_of(model: &[u8], index: &Index) -> u32
     ensures { λ r. ⌜ r ≡ locationCount (componentsFrom (now (model .entry)) (now (index .entry))) ⌝ }
 {
     index[LOCATIONS_AT] as u32
+}
+
+// A number of an index as a wider one.
+fn widened(x: u16) -> u32
+    ensures { λ r. ⌜ r ≡ x ⌝ }
+{
+    x as u32
+}
+
+// The version of the model's sheet.
+pub fn version_of(index: &Index) -> u32
+    ensures { λ r. ⌜ r ≡ versionIn (now (index .entry)) ⌝ }
+{
+    widened(index[VERSION_AT])
 }

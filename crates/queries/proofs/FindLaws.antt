@@ -317,7 +317,7 @@ module _ (m : Model) (regionAt : ℕ → Condition) (location : ℕ) where
 -- the groups of a location make its obligations
 module _ (model index : List ℕ) (regionAt : ℕ → Condition) (location : ℕ) where
   abbrev condition : ℕ → Unsafe
-  condition u = unsafeFrom model (entry index 0) (entry index 1) index (unsafePlace u)
+  condition u = unsafeFrom model (entry index 11) (entry index 0) (entry index 1) index (unsafePlace u)
 
   pub condition-at : (u : ℕ) → u < entry index 2 → getD (modelFrom model index .unsafe) u noUnsafe ≡ condition u
   unfolding modelFrom
@@ -368,7 +368,7 @@ events-whole components location = joined-whole (jointsOf components location) 1
 
 -- the tests that the code makes are those of the definition
 module _ (model index : List ℕ) (regionAt : ℕ → Condition) (location : ℕ) where
-  pub fits-there : (u : ℕ) (modes : List ℕ) → u < entry index 2 → Stands model index location modes → modesFit (unsafeFrom model (entry index 0) (entry index 1) index (unsafePlace u) .modes) (perComponent index modes) ≡ modesFit (getD (modelFrom model index .unsafe) u noUnsafe .modes) (modesAt (modelFrom model index .components) location)
+  pub fits-there : (u : ℕ) (modes : List ℕ) → u < entry index 2 → Stands model index location modes → modesFit (unsafeFrom model (entry index 11) (entry index 0) (entry index 1) index (unsafePlace u) .modes) (perComponent index modes) ≡ modesFit (getD (modelFrom model index .unsafe) u noUnsafe .modes) (modesAt (modelFrom model index .components) location)
   unfolding modelFrom
   fits-there u modes h stands = ap₂ (λ (x : Unsafe) (ms : List ℕ). modesFit (x .modes) ms) (sym (condition-at model index regionAt location u h)) (stands .here)
 

@@ -10,7 +10,7 @@ use lib.ListN.{length, getD, length-map}
 use Rattle.farkas.specs.Rows.{zeroRow}
 use Rattle.formats.specs.Rows.{Condition}
 use Rattle.formats.specs.Model.{Mode, Unsafe, Model}
-use Rattle.fields.specs.Places.{numbersAt, rowAt}
+use Rattle.fields.specs.Places.{rowAt}
 use Rattle.formats.specs.Locations.{locationCount}
 use Rattle.formats.specs.Joint.{JointSwitch}
 use Rattle.models.specs.Index.{entry, spanRows, unsafePlace, unsafeFrom, componentsFrom, modelFrom, GoodIndex}
@@ -35,18 +35,19 @@ use Rattle.hypotheses.proofs.HypothesisLines.{told, start-told, flow-told, unsa
 use Rattle.hypotheses.proofs.RoleLines.{roles, start-roles, flow-roles, unsafe-roles, jump-lines-roles}
 use Rattle.papers.proofs.RegionLaws.{region-at}
 use Rattle.queries.proofs.FindLaws.{condition-at}
+use Rattle.formats.specs.Versions.{rowBytes}
 
 -- The lines of a table, by its segments
-module _ (model second : List ℕ) (n : ℕ) (table : List ℕ) (segments : ℕ) (s : Stacked table segments) where
-  hypotheses-length : length (hypothesesFrom model second n table segments) ≡ endOf table segments
+module _ (model second : List ℕ) (version n : ℕ) (table : List ℕ) (segments : ℕ) (s : Stacked table segments) where
+  hypotheses-length : length (hypothesesFrom model second version n table segments) ≡ endOf table segments
   unfolding hypothesesFrom
-  hypotheses-length = length-map (linesIn table segments) (hypothesisOf model second n) ∙ lines-length table segments s
+  hypotheses-length = length-map (linesIn table segments) (hypothesisOf model second version n) ∙ lines-length table segments s
 
-  hypothesis-at : (g h : ℕ) → InSegment table segments g h → h < endOf table segments → getD (hypothesesFrom model second n table segments) h (nowhere zeroRow) ≡ hypothesisIn model second n (lineIn table g h .form) (lineIn table g h .place) (lineIn table g h .row)
+  hypothesis-at : (g h : ℕ) → InSegment table segments g h → h < endOf table segments → getD (hypothesesFrom model second version n table segments) h (nowhere zeroRow) ≡ hypothesisIn model second version n (lineIn table g h .form) (lineIn table g h .place) (lineIn table g h .row)
   unfolding hypothesesFrom hypothesisOf lineIn line
   hypothesis-at g h i l =
-      mapped-at (hypothesisOf model second n) (linesIn table segments) h (line 0 0 0 0) (nowhere zeroRow) (omega (arith, l, lines-length table segments s))
-      ∙ ap (hypothesisOf model second n) (line-there table segments g h s i (line 0 0 0 0))
+      mapped-at (hypothesisOf model second version n) (linesIn table segments) h (line 0 0 0 0) (nowhere zeroRow) (omega (arith, l, lines-length table segments s))
+      ∙ ap (hypothesisOf model second version n) (line-there table segments g h s i (line 0 0 0 0))
 
   role-at : (g h : ℕ) → InSegment table segments g h → h < endOf table segments → getD (rolesFrom table segments) h noRole ≡ owned (formOf table g) (ownerOf table g)
   unfolding rolesFrom roleOf line
@@ -54,31 +55,31 @@ module _ (model second : List ℕ) (n : ℕ) (table : List ℕ) (segments : ℕ)
       mapped-at roleOf (linesIn table segments) h (line 0 0 0 0) noRole (omega (arith, l, lines-length table segments s))
       ∙ ap roleOf (line-there table segments g h s i (line 0 0 0 0))
 
-  row-found-there : (g h : ℕ) {l : Line} {r : RowFound} → InSegment table segments g h → h < endOf table segments → l ≡ lineIn table g h → r ≡ rowFound (found (hypothesisIn model second n (l .form) (l .place) (l .row))) → r ≡ rowFound (hypothesisFound (hypothesesFrom model second n table segments) h)
+  row-found-there : (g h : ℕ) {l : Line} {r : RowFound} → InSegment table segments g h → h < endOf table segments → l ≡ lineIn table g h → r ≡ rowFound (found (hypothesisIn model second version n (l .form) (l .place) (l .row))) → r ≡ rowFound (hypothesisFound (hypothesesFrom model second version n table segments) h)
   unfolding hypothesisFound
   row-found-there g h i u q e =
-      let all = hypothesesFrom model second n table segments in
+      let all = hypothesesFrom model second version n table segments in
       e
-      ∙ ap (λ (k : Line). rowFound (found (hypothesisIn model second n (k .form) (k .place) (k .row)))) q
+      ∙ ap (λ (k : Line). rowFound (found (hypothesisIn model second version n (k .form) (k .place) (k .row)))) q
       ∙ ap (λ (x : Hypothesis). rowFound (found x)) (sym (hypothesis-at g h i u))
       ∙ ap (λ (b : Bool). rowFound (elim b [ true ↦ found (getD all h (nowhere zeroRow)) | false ↦ unfound 5 2 0 ])) (sym (lt-ltb h (length all) (omega (arith, u, hypotheses-length))))
 
-  role-there : (g h : ℕ) {l : Line} → InSegment table segments g h → h < endOf table segments → l ≡ lineIn table g h → owned (l .form) (ownerOf table g) ≡ roleAt (length (hypothesesFrom model second n table segments)) (rolesFrom table segments) h
+  role-there : (g h : ℕ) {l : Line} → InSegment table segments g h → h < endOf table segments → l ≡ lineIn table g h → owned (l .form) (ownerOf table g) ≡ roleAt (length (hypothesesFrom model second version n table segments)) (rolesFrom table segments) h
   unfolding roleAt lineIn
   role-there g h i u q =
-      let count = length (hypothesesFrom model second n table segments) in
+      let count = length (hypothesesFrom model second version n table segments) in
       ap (λ (k : Line). owned (k .form) (ownerOf table g)) q
       ∙ sym (role-at g h i u)
       ∙ ap (λ (b : Bool). elim b as (λ x. Role) [ true ↦ getD (rolesFrom table segments) h noRole | false ↦ noRole ]) (sym (lt-ltb h count (omega (arith, u, hypotheses-length))))
 
-  pub row-there : (g h : ℕ) {l : Line} {r : RowFound} → InSegment table segments g h → h < endOf table segments → l ≡ lineIn table g h → r ≡ rowFound (found (hypothesisIn model second n (l .form) (l .place) (l .row))) → located r (owned (l .form) (ownerOf table g)) ≡ locatedAt (hypothesesFrom model second n table segments) (rolesFrom table segments) h
+  pub row-there : (g h : ℕ) {l : Line} {r : RowFound} → InSegment table segments g h → h < endOf table segments → l ≡ lineIn table g h → r ≡ rowFound (found (hypothesisIn model second version n (l .form) (l .place) (l .row))) → located r (owned (l .form) (ownerOf table g)) ≡ locatedAt (hypothesesFrom model second version n table segments) (rolesFrom table segments) h
   unfolding locatedAt
   row-there g h i u q e = ap₂ located (row-found-there g h i u q e) (role-there g h i u q)
 
-  pub row-beyond : (h : ℕ) → endOf table segments ≤ h → noRow 5 2 0 ≡ locatedAt (hypothesesFrom model second n table segments) (rolesFrom table segments) h
+  pub row-beyond : (h : ℕ) → endOf table segments ≤ h → noRow 5 2 0 ≡ locatedAt (hypothesesFrom model second version n table segments) (rolesFrom table segments) h
   unfolding hypothesisFound rowFound locatedAt roleAt noRow
   row-beyond h l =
-      let all = hypothesesFrom model second n table segments in
+      let all = hypothesesFrom model second version n table segments in
       ap (λ (b : Bool). located (rowFound (elim b [ true ↦ found (getD all h (nowhere zeroRow)) | false ↦ unfound 5 2 0 ])) (elim b [ true ↦ getD (rolesFrom table segments) h noRole | false ↦ noRole ])) (sym (le-ltb h (length all) (omega (arith, l, hypotheses-length))))
 
 -- a table that has nothing yet
@@ -90,38 +91,26 @@ empty-stacked table h = record {
 }
 
 -- the sheet, place and size of a line's row, by its form
-numbers-length : (s : List ℕ) (p k : ℕ) → length (numbersAt s p k) ≡ k
-unfolding numbersAt
-numbers-length s p zero = refl
-numbers-length s p (suc k) = ap suc (numbers-length s (p + 4) k)
-
-size-of : (s : List ℕ) (p n : ℕ) → 4 * (n + 1) ≡ 4 * (length (numbersAt s p n) + 1)
-size-of s p n = ap (λ (k : ℕ). 4 * (k + 1)) (sym (numbers-length s p n))
-
-module _ (model second : List ℕ) (n place i : ℕ) where
+module _ (model second : List ℕ) (version n place i : ℕ) where
   abbrev at : ℕ → RowFound
-  at form = rowFound (found (hypothesisIn model second n form place i))
+  at form = rowFound (found (hypothesisIn model second version n form place i))
 
-  pub form-second : (form : ℕ) → form ≡ 1 → row.InSecond (place + 4 * (n + 1) * i) (4 * (n + 1)) ≡ at form
-  unfolding hypothesisIn standing rowAt rowFound standsIn rowPlace
-  form-second form e =
-      ap (λ (k : ℕ). row.InSecond (place + 4 * (n + 1) * i) k) (size-of second (place + 4 * (n + 1) * i) n)
-      ∙ ap (λ (f : ℕ). rowFound (found (hypothesisIn model second n f place i))) (sym e)
+  pub form-second : (form : ℕ) → form ≡ 1 → row.InSecond (rowPlace version n place i) (rowBytes version n) ≡ at form
+  unfolding hypothesisIn standing rowAt rowFound standsIn
+  form-second form e = ap at (sym e)
 
-  pub form-jump : (form : ℕ) → form ≡ 7 → row.InModel (place + 4 * (2 * n + 1) * i) (4 * (2 * n + 1)) ≡ at form
-  unfolding hypothesisIn standing rowAt rowFound standsIn rowPlace
-  form-jump form e =
-      ap (λ (k : ℕ). row.InModel (place + 4 * (2 * n + 1) * i) k) (size-of model (place + 4 * (2 * n + 1) * i) (2 * n))
-      ∙ ap (λ (f : ℕ). rowFound (found (hypothesisIn model second n f place i))) (sym e)
+  pub form-jump : (form : ℕ) → form ≡ 7 → row.InModel (rowPlace version (2 * n) place i) (rowBytes version (2 * n)) ≡ at form
+  unfolding hypothesisIn standing rowAt rowFound standsIn
+  form-jump form e = ap at (sym e)
 
-  pub form-model : (form : ℕ) → form ≤ 5 → (form ≡ 1 → ⊥) → row.InModel (place + 4 * (n + 1) * i) (4 * (n + 1)) ≡ at form
-  unfolding hypothesisIn standing rowAt rowFound standsIn rowPlace
-  form-model zero h f = ap (λ (k : ℕ). row.InModel (place + 4 * (n + 1) * i) k) (size-of model (place + 4 * (n + 1) * i) n)
+  pub form-model : (form : ℕ) → form ≤ 5 → (form ≡ 1 → ⊥) → row.InModel (rowPlace version n place i) (rowBytes version n) ≡ at form
+  unfolding hypothesisIn standing rowAt rowFound standsIn
+  form-model zero h f = refl
   form-model (suc zero) h f = absurd (f refl)
-  form-model (suc (suc zero)) h f = ap (λ (k : ℕ). row.InModel (place + 4 * (n + 1) * i) k) (size-of model (place + 4 * (n + 1) * i) n)
-  form-model (suc (suc (suc zero))) h f = ap (λ (k : ℕ). row.InModel (place + 4 * (n + 1) * i) k) (size-of model (place + 4 * (n + 1) * i) n)
-  form-model (suc (suc (suc (suc zero)))) h f = ap (λ (k : ℕ). row.InModel (place + 4 * (n + 1) * i) k) (size-of model (place + 4 * (n + 1) * i) n)
-  form-model (suc (suc (suc (suc (suc zero))))) h f = ap (λ (k : ℕ). row.InModel (place + 4 * (n + 1) * i) k) (size-of model (place + 4 * (n + 1) * i) n)
+  form-model (suc (suc zero)) h f = refl
+  form-model (suc (suc (suc zero))) h f = refl
+  form-model (suc (suc (suc (suc zero)))) h f = refl
+  form-model (suc (suc (suc (suc (suc zero))))) h f = refl
   form-model (suc (suc (suc (suc (suc (suc form)))))) h f = absurd (omega (arith, h))
 
   pub form-nowhere : (form : ℕ) → 5 < form → (form ≡ 7 → ⊥) → row.Nowhere ≡ at form
@@ -144,7 +133,7 @@ module _ (model index second regions : List ℕ) where
   abbrev regionAt : ℕ → Condition
   regionAt = regionsOf model index second regions
 
-  region-here : (location : ℕ) → location < locationCount (componentsFrom model index) → spanRows second (entry index 0) regions (2 * location) ≡ regionAt location
+  region-here : (location : ℕ) → location < locationCount (componentsFrom model index) → spanRows second (entry index 11) (entry index 0) regions (2 * location) ≡ regionAt location
   unfolding regionsOf
   region-here location h = sym (region-at model index second regions location h)
 
@@ -154,34 +143,34 @@ module _ (model index second regions : List ℕ) where
 
   from-lines :
       (table : List ℕ) (count : ℕ) (lines : List TableLine) {hs : List Hypothesis} {rs : List Role}
-      → linesIn table count ≡ lines → told model second (entry index 0) lines ≡ hs → roles lines ≡ rs → Held model second (entry index 0) table count hs rs
+      → linesIn table count ≡ lines → told model second (entry index 11) (entry index 0) lines ≡ hs → roles lines ≡ rs → Held model second (entry index 11) (entry index 0) table count hs rs
   unfolding hypothesesFrom rolesFrom
   from-lines table count lines e t r =
-      record { hypotheses = ap (map (hypothesisOf model second (entry index 0))) e ∙ t; roles = ap (map roleOf) e ∙ r }
+      record { hypotheses = ap (map (hypothesisOf model second (entry index 11) (entry index 0))) e ∙ t; roles = ap (map roleOf) e ∙ r }
 
   -- where a part is told of the rows that an index keeps, and of the modes that stand there, it is told of the region and the location
-  there-told : {B : Type 0} (f : Condition → List Mode → B) (location : ℕ) (modes : List ℕ) → Stands model index location modes → f (spanRows second (entry index 0) regions (2 * location)) (present (componentsFrom model index) (perComponent index modes)) ≡ f (regionAt location) (modesIn m location)
+  there-told : {B : Type 0} (f : Condition → List Mode → B) (location : ℕ) (modes : List ℕ) → Stands model index location modes → f (spanRows second (entry index 11) (entry index 0) regions (2 * location)) (present (componentsFrom model index) (perComponent index modes)) ≡ f (regionAt location) (modesIn m location)
   there-told f location modes stands = ap₂ f (region-here location (stands .below)) (present-there location modes stands)
 
   module _ (modes : List ℕ) (location : ℕ) (long : entry index 1 ≤ length modes) (stands : Stands model index location modes) where
-    pub start-held : (table : List ℕ) (count : ℕ) → linesIn table count ≡ startLines index (perComponent index modes) → Held model second (entry index 0) table count (groupHypotheses m regionAt location 0) (groupRoles m regionAt location 0)
+    pub start-held : (table : List ℕ) (count : ℕ) → linesIn table count ≡ startLines index (perComponent index modes) → Held model second (entry index 11) (entry index 0) table count (groupHypotheses m regionAt location 0) (groupRoles m regionAt location 0)
     unfolding groupHypotheses groupRoles groupKind groupLine kindRoles
     start-held table count e =
         from-lines table count _ e
         (start-told model second index regions modes location long (stands .known) ∙ ap startHypotheses (present-there location modes stands))
         (start-roles model second index regions modes location long (stands .known) ∙ ap startRoles (present-there location modes stands))
 
-    pub flow-held : (table : List ℕ) (count : ℕ) → linesIn table count ≡ flowLines index regions location (perComponent index modes) → Held model second (entry index 0) table count (groupHypotheses m regionAt location 1) (groupRoles m regionAt location 1)
+    pub flow-held : (table : List ℕ) (count : ℕ) → linesIn table count ≡ flowLines index regions location (perComponent index modes) → Held model second (entry index 11) (entry index 0) table count (groupHypotheses m regionAt location 1) (groupRoles m regionAt location 1)
     unfolding groupHypotheses groupRoles groupKind groupLine kindRoles modelFrom
     flow-held table count e =
         from-lines table count _ e
         (flow-told model second index regions modes location long (stands .known) ∙ there-told (flowHypotheses (entry index 0)) location modes stands)
         (flow-roles model second index regions modes location long (stands .known) ∙ there-told flowRoles location modes stands)
 
-    pub unsafe-held : (table : List ℕ) (count u : ℕ) → u < entry index 2 → linesIn table count ≡ unsafeLines index regions location (perComponent index modes) u → Held model second (entry index 0) table count (groupHypotheses m regionAt location (suc (suc u))) (groupRoles m regionAt location (suc (suc u)))
+    pub unsafe-held : (table : List ℕ) (count u : ℕ) → u < entry index 2 → linesIn table count ≡ unsafeLines index regions location (perComponent index modes) u → Held model second (entry index 11) (entry index 0) table count (groupHypotheses m regionAt location (suc (suc u))) (groupRoles m regionAt location (suc (suc u)))
     unfolding groupHypotheses groupRoles groupKind groupLine kindRoles unsafeFrom
     unsafe-held table count u h e =
-        let rows = spanRows model (entry index 0) index (unsafePlace u + 4) in
+        let rows = spanRows model (entry index 11) (entry index 0) index (unsafePlace u + 4) in
         let there = sym (condition-at model index regionAt location u h) in
         from-lines table count _ e
         (unsafe-told model second index regions modes location long (stands .known) u
@@ -195,14 +184,14 @@ module _ (model index second regions : List ℕ) where
         (table : List ℕ) (count target event : ℕ) (targets switches : List ℕ) → entry index 1 ≤ length targets → Stands model index target targets → entry index 1 ≤ length switches → KnownSwitches index switches → GoodIndex model index
         → linesIn table count ≡ jumpLines index regions location (perComponent index modes) (perComponent index targets) switches
         → (j : JointSwitch) → record { source = location; event = event; switches = perComponent index switches; target = target } ≡ j
-        → Held model second (entry index 0) table count (jointHypotheses m regionAt j) (jointRoles m regionAt j)
+        → Held model second (entry index 11) (entry index 0) table count (jointHypotheses m regionAt j) (jointRoles m regionAt j)
     unfolding modelFrom jointHypotheses jointRoles
     jump-held table count target event targets switches l there w known g e j same =
         let after = present (componentsFrom model index) (perComponent index targets) in
         let chosen = perComponent index switches in
         let moving = movers (componentsFrom model index) chosen in
         let staying = stayingVariables m chosen in
-        subst (λ (x : JointSwitch). Held model second (entry index 0) table count (jointHypotheses m regionAt x) (jointRoles m regionAt x)) same
+        subst (λ (x : JointSwitch). Held model second (entry index 11) (entry index 0) table count (jointHypotheses m regionAt x) (jointRoles m regionAt x)) same
         (from-lines table count _ e
         (jump-lines-told model second index regions modes location long (stands .known) targets switches l (there .known) w known g
         ∙ there-told (λ (r : Condition) (ms : List Mode). jumpHypotheses (entry index 0) r ms after moving staying) location modes stands
@@ -212,11 +201,11 @@ module _ (model index second regions : List ℕ) where
         ∙ ap (λ (ms : List Mode). jumpRoles (regionAt location) (modesIn m location) ms (componentsFrom model index) chosen staying) (present-there target targets there)))
 
     -- the same by a number that is equal
-    pub held-at : (table : List ℕ) (count : ℕ) {g k : ℕ} → k ≡ g → Held model second (entry index 0) table count (groupHypotheses m regionAt location k) (groupRoles m regionAt location k) → Held model second (entry index 0) table count (groupHypotheses m regionAt location g) (groupRoles m regionAt location g)
-    held-at table count e h = subst (λ (x : ℕ). Held model second (entry index 0) table count (groupHypotheses m regionAt location x) (groupRoles m regionAt location x)) e h
+    pub held-at : (table : List ℕ) (count : ℕ) {g k : ℕ} → k ≡ g → Held model second (entry index 11) (entry index 0) table count (groupHypotheses m regionAt location k) (groupRoles m regionAt location k) → Held model second (entry index 11) (entry index 0) table count (groupHypotheses m regionAt location g) (groupRoles m regionAt location g)
+    held-at table count e h = subst (λ (x : ℕ). Held model second (entry index 11) (entry index 0) table count (groupHypotheses m regionAt location x) (groupRoles m regionAt location x)) e h
 
 -- a table that holds them gives what is told of them
-pub held-row : {model second : List ℕ} {n : ℕ} {table : List ℕ} {segments : ℕ} {hs : List Hypothesis} {rs : List Role} → Held model second n table segments hs rs → (h : ℕ) → locatedAt (hypothesesFrom model second n table segments) (rolesFrom table segments) h ≡ locatedAt hs rs h
+pub held-row : {model second : List ℕ} {version n : ℕ} {table : List ℕ} {segments : ℕ} {hs : List Hypothesis} {rs : List Role} → Held model second version n table segments hs rs → (h : ℕ) → locatedAt (hypothesesFrom model second version n table segments) (rolesFrom table segments) h ≡ locatedAt hs rs h
 held-row w h = ap₂ (λ (xs : List Hypothesis) (ys : List Role). locatedAt xs ys h) (w .hypotheses) (w .roles)
 
 -- The roles of what was found are those of its group, or of its joint switch

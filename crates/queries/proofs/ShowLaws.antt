@@ -10,13 +10,13 @@ use lib.Dec.{ltb}
 use lib.ListN.{length, getD, take, drop, length-drop}
 use lib.Seq.{length-take-le}
 use Rattle.farkas.specs.Rows.{zeroRow}
-use Rattle.formats.specs.Reading.{Got, got, refused, _>>_, header}
+use Rattle.formats.specs.Reading.{Got, got, refused, _>>_}
 use Rattle.formats.specs.Rows.{Condition}
 use Rattle.formats.specs.Model.{Model}
 use Rattle.formats.specs.Locations.{locationCount}
 use Rattle.models.specs.Index.{entry, componentsFrom, modelFrom}
 use Rattle.formats.specs.declared.Limits.{Limits}
-use Rattle.rules.specs.Opening.{ModelOpened, opens, shut}
+use Rattle.rules.specs.Opening.{ModelOpened, opens, shut, openSecond}
 use Rattle.formats.specs.Certificate.{readRegions}
 use Rattle.second_sheets.specs.CertificateAnswers.{regionsFrom}
 use Rattle.queries.specs.declared.Which.{Which}
@@ -95,10 +95,10 @@ module _ (limits : Limits) (model index second regions : List ℕ) (o h : ℕ) w
   unfolding OpensTo toldRefused toldFor
   row-stopped number sheet place e w = ap (λ (t : Told). t .row) (subst (OpensTo limits model index second regions) e w o h)
 
-pub paper-whole : (model index second regions : List ℕ) (locations o h : ℕ) → locations ≡ locationCount (componentsFrom model index) → toldIn (length second) (rolesFor model index second regions) (paperObligations model index second regions) o h ≡ toldIn (length second) (rolesOf (modelFrom model index) (regionOf (regionsFrom second (entry index 0) regions locations))) (obligations (modelFrom model index) (regionsFrom second (entry index 0) regions locations)) o h
+pub paper-whole : (model index second regions : List ℕ) (locations o h : ℕ) → locations ≡ locationCount (componentsFrom model index) → toldIn (length second) (rolesFor model index second regions) (paperObligations model index second regions) o h ≡ toldIn (length second) (rolesOf (modelFrom model index) (regionOf (regionsFrom second (entry index 11) (entry index 0) regions locations))) (obligations (modelFrom model index) (regionsFrom second (entry index 11) (entry index 0) regions locations)) o h
 unfolding paperObligations obligations regionsOf modelFrom
 paper-whole model index second regions locations o h e =
-    ap (λ (n : ℕ). toldIn (length second) (rolesOf (modelFrom model index) (regionOf (regionsFrom second (entry index 0) regions n))) (obligations (modelFrom model index) (regionsFrom second (entry index 0) regions n)) o h) (sym e)
+    ap (λ (n : ℕ). toldIn (length second) (rolesOf (modelFrom model index) (regionOf (regionsFrom second (entry index 11) (entry index 0) regions n))) (obligations (modelFrom model index) (regionsFrom second (entry index 11) (entry index 0) regions n)) o h) (sym e)
 
 -- which obligation a group has at a line
 pub group-unsafe : (size location g line : ℕ) → 1 < g → record { number = 0; sheet = 1; place = size; kind = 2; subject = location; line = g - 2 } ≡ groupWhich size location g line
@@ -130,7 +130,7 @@ told-rest m second o h g regions next e = sym (ap (toldAfter m second o h) e)
 abbrev pub whichBy : List ℕ → ℕ → ModelOpened → Which
 whichBy second o g =
     elim g as (λ x. Which) [
-      | opens m ↦ whichAfter m second o ((header 2 >> readRegions m) second 0)
+      | opens m ↦ whichAfter m second o ((openSecond 2 m >> readRegions m) second 0)
       | shut number sheet at ↦ whichRefused number sheet at
     ]
 
@@ -145,7 +145,7 @@ module _ (limits : Limits) (model second : List ℕ) (o h : ℕ) where
       open-refused limits 2 model second toldRefused readRegions (λ m. toldAfter m second o h) (toldBy second o h)
       (λ m number at. told-stops m second o h (refused number at) number at refl) (λ number sheet at. refl) (λ m. refl) f
 
-  pub told-open : {index : List ℕ} → Open limits 2 model index second → toldAfter (modelFrom model index) second o h (readRegions (modelFrom model index) second 4) ≡ toldFor limits model second o h
+  pub told-open : {index : List ℕ} {body : ℕ} → Open limits 2 model index second body → toldAfter (modelFrom model index) second o h (readRegions (modelFrom model index) second body) ≡ toldFor limits model second o h
   unfolding toldRefused toldAfter toldFor whichObligation findHypothesis hypothesisLocated hypothesisRole rowFound noRow
   told-open w =
       open-goes-on limits 2 model second toldRefused readRegions (λ m. toldAfter m second o h) (toldBy second o h)

@@ -7,14 +7,14 @@ use Prim.Native.Nat.{ℕ, zero, suc, _+_, _-_, _≤_, _<_}
 use lib.Dec.{ltb}
 use lib.ListN.{length, getD, take, drop}
 use Rattle.farkas.specs.Rows.{zeroRow}
-use Rattle.formats.specs.Reading.{Got, got, refused, _>>_, header}
+use Rattle.formats.specs.Reading.{Got, got, refused, _>>_}
 use Rattle.formats.specs.Rows.{Condition}
 use Rattle.formats.specs.Model.{Model}
 use Rattle.formats.specs.Locations.{locationCount, modesAt}
 use Rattle.formats.specs.Joint.{JointSwitch, switchesOf, joints, countUp, joinAll, jointsOf, jointFrom}
-use Rattle.models.specs.Index.{entry, componentsFrom, modelFrom, variablesIn}
+use Rattle.models.specs.Index.{entry, componentsFrom, modelFrom, variablesIn, versionIn}
 use Rattle.formats.specs.declared.Limits.{Limits}
-use Rattle.rules.specs.Opening.{opens, shut, openModel}
+use Rattle.rules.specs.Opening.{opens, shut, openModel, openSecond}
 use Rattle.formats.specs.Certificate.{readRegions}
 use Rattle.queries.specs.declared.Which.{Which}
 use Rattle.queries.specs.declared.Shown.{Shown}
@@ -74,7 +74,7 @@ whichAfter m second o (got regions next) = whichIn (length second) (obligations 
 unfoldable pub whichObligation : Limits → List ℕ → List ℕ → ℕ → Which
 whichObligation limits model second o =
     elim (openModel limits model) [
-      | opens m ↦ whichAfter m second o ((header 2 >> readRegions m) second 0)
+      | opens m ↦ whichAfter m second o ((openSecond 2 m >> readRegions m) second 0)
       | shut number sheet at ↦ whichRefused number sheet at
     ]
 
@@ -350,19 +350,19 @@ abbrev pub rolesFor : List ℕ → List ℕ → List ℕ → List ℕ → Obliga
 rolesFor model index second regions = rolesOf (modelFrom model index) (regionsOf model index second regions)
 
 -- A table that holds these hypotheses in these roles: those of a location's group, or of a joint switch
-pub record Held (model second : List ℕ) (n : ℕ) (table : List ℕ) (segments : ℕ) (hs : List Hypothesis) (rs : List Role) : Type 0 where
-  pub hypotheses : hypothesesFrom model second n table segments ≡ hs
+pub record Held (model second : List ℕ) (version n : ℕ) (table : List ℕ) (segments : ℕ) (hs : List Hypothesis) (rs : List Role) : Type 0 where
+  pub hypotheses : hypothesesFrom model second version n table segments ≡ hs
   pub roles : rolesFrom table segments ≡ rs
 
 abbrev pub GroupHeld : List ℕ → List ℕ → List ℕ → List ℕ → ℕ → ℕ → List ℕ → ℕ → Type 0
 GroupHeld model index second regions location g table segments =
-    Held model second (variablesIn index) table segments
+    Held model second (versionIn index) (variablesIn index) table segments
     (groupHypothesesFor model index second regions location g)
     (groupRoles (modelFrom model index) (regionsOf model index second regions) location g)
 
 abbrev pub JointHeld : List ℕ → List ℕ → List ℕ → List ℕ → JointSwitch → List ℕ → ℕ → Type 0
 JointHeld model index second regions j table segments =
-    Held model second (variablesIn index) table segments
+    Held model second (versionIn index) (variablesIn index) table segments
     (jointHypothesesFor model index second regions j)
     (jointRoles (modelFrom model index) (regionsOf model index second regions) j)
 

@@ -2,6 +2,8 @@
 use crate::Located;
 use crate::RowFound;
 use crate::Sought;
+use fields::versions::row_bytes;
+use fields::versions::rows_bytes;
 use hypotheses::groups::flow_table;
 use hypotheses::groups::jump_table;
 use hypotheses::groups::push_here;
@@ -15,6 +17,7 @@ use joint_switches::slots::landing_at;
 use joint_switches::slots::list_slot;
 use models::layout::Index;
 use models::layout::VARIABLES_AT;
+use models::layout::VERSION_AT;
 use second_sheets::ranges::Regions;
 use sums::Line;
 use sums::lines::line_at;
@@ -24,8 +27,9 @@ ghost use Prim.Native.Nat.{_+_, _≤_, _<_};
 ghost use lib.ListN.{length};
 ghost use Rattle.formats.specs.Locations.{locationCount, modesAt};
 ghost use Rattle.formats.specs.Joint.{switchesOf};
+ghost use Rattle.formats.specs.Versions.{rowBytes};
 ghost use Rattle.models.specs.Index.{entry, componentsFrom, conditionsIn};
-ghost use Rattle.hypotheses.specs.Tables.{hypothesisIn, hypothesesFrom, rolesFrom, Stacked};
+ghost use Rattle.hypotheses.specs.Tables.{rowPlace, hypothesisIn, hypothesesFrom, rolesFrom, Stacked};
 ghost use Rattle.papers.specs.Paper.{GoodPaper};
 ghost use Rattle.papers.specs.Standing.{Stands};
 ghost use Rattle.rules.specs.Beside.{found};
@@ -65,26 +69,43 @@ fn table_at(
     )
 }
 
+// Where a row of n coefficients stands, so many rows after the first.
+fn row_place(version: u32, n: usize, place: usize, row: usize) -> u32
+    requires { ⌜ (n ≤ 16) × ((place < 65536) × (row < 65536)) ⌝ }
+    ensures { λ r. ⌜ r ≡ rowPlace version n place row ⌝ }
+{
+    (place + rows_bytes(version, n, row)) as u32
+}
+
+// How many bytes a row of n coefficients has.
+fn row_size(version: u32, n: usize) -> u32
+    requires { ⌜ n ≤ 16 ⌝ }
+    ensures { λ r. ⌜ r ≡ rowBytes version n ⌝ }
+{
+    row_bytes(version, n) as u32
+}
+
 // Where the row of a hypothesis stands, by its form, the place of its segment and its number there. The sheets are handed over for the
 // contract: no byte of them is read.
-fn line_row(model: &[u8], second: &[u8], n: u32, line: Line) -> RowFound
+fn line_row(model: &[u8], second: &[u8], version: u32, n: usize, line: Line) -> RowFound
     requires { ⌜ (n ≤ 8) × ((line .place < 65536) × (line .row < 65536)) ⌝ }
-    ensures { λ r. ⌜ r ≡ rowFound (found (hypothesisIn (now (model .entry)) (now (second .entry)) n (line .form) (line .place) (line .row))) ⌝ }
+    ensures { λ r. ⌜ r ≡ rowFound (found (hypothesisIn (now (model .entry)) (now (second .entry)) version n (line .form) (line .place) (line .row))) ⌝ }
 {
-    let place = line.place as u32;
-    let row = line.row as u32;
+    let place = line.place;
+    let row = line.row;
     if line.form == 7 {
-        let size = 4 * (2 * n + 1);
-        return RowFound::InModel(place + size * row, size);
+        let at = row_place(version, 2 * n, place, row);
+        return RowFound::InModel(at, row_size(version, 2 * n));
     }
     if 5 < line.form {
         return RowFound::Nowhere;
     }
-    let size = 4 * (n + 1);
+    let at = row_place(version, n, place, row);
+    let size = row_size(version, n);
     if line.form == 1 {
-        return RowFound::InSecond(place + size * row, size);
+        return RowFound::InSecond(at, size);
     }
-    RowFound::InModel(place + size * row, size)
+    RowFound::InModel(at, size)
 }
 
 // A refusal, which has no role.
@@ -99,10 +120,18 @@ pub fn refused_row(number: u32, sheet: u32, place: u32) -> Located
 }
 
 // Where the row of a table's hypothesis stands, by its number, and its role and owner.
-fn row_in(model: &[u8], second: &[u8], n: u32, table: &[u16], segments: usize, h: u32) -> Located
+fn row_in(
+    model: &[u8],
+    second: &[u8],
+    version: u32,
+    n: usize,
+    table: &[u16],
+    segments: usize,
+    h: u32,
+) -> Located
     requires { ⌜ n ≤ 8 ⌝ }
     requires { ⌜ (96 ≤ length (now table)) × (Stacked (now table) segments × (segments ≤ 23)) ⌝ }
-    ensures { λ r. ⌜ r ≡ locatedAt (hypothesesFrom (now (model .entry)) (now (second .entry)) n (now (table .entry)) segments) (rolesFrom (now (table .entry)) segments) h ⌝ }
+    ensures { λ r. ⌜ r ≡ locatedAt (hypothesesFrom (now (model .entry)) (now (second .entry)) version n (now (table .entry)) segments) (rolesFrom (now (table .entry)) segments) h ⌝ }
 {
     if lines(table, segments) <= h {
         return refused_row(5, 2, 0);
@@ -111,7 +140,7 @@ fn row_in(model: &[u8], second: &[u8], n: u32, table: &[u16], segments: usize, h
     let line = line_at(table, g, segments, h);
     let role = line.form;
     let owner = table[4 * g + 3] as u32;
-    let row = line_row(model, second, n, line);
+    let row = line_row(model, second, version, n, line);
     Located { row, role, owner }
 }
 
@@ -130,7 +159,8 @@ fn location_row(
     ensures { λ r. ⌜ r ≡ groupRowFor (now (model .entry)) (now (index .entry)) (now (second .entry)) (now (regions .entry)) location g h ⌝ }
 {
     let modes = modes_at(model, index, location);
-    let n = index[VARIABLES_AT] as u32;
+    let version = index[VERSION_AT] as u32;
+    let n = index[VARIABLES_AT] as usize;
     let mut table = [0u16; TABLE_LENGTH];
     let segments = table_at(
         model,
@@ -142,7 +172,7 @@ fn location_row(
         g,
         &mut table,
     );
-    row_in(model, second, n, &table, segments, h)
+    row_in(model, second, version, n, &table, segments, h)
 }
 
 // The table of a joint switch, by its number among those of its event.
@@ -187,10 +217,11 @@ fn joint_row(
     requires { ⌜ (location < locationCount (componentsFrom (now model) (now index))) × ((e ≤ 15) × (x < length (switchesOf (componentsFrom (now model) (now index)) (modesAt (componentsFrom (now model) (now index)) location) e))) ⌝ }
     ensures { λ r. ⌜ r ≡ jointRowFor (now (model .entry)) (now (index .entry)) (now (second .entry)) (now (regions .entry)) (jointHere (now (model .entry)) (now (index .entry)) location e x) h ⌝ }
 {
-    let n = index[VARIABLES_AT] as u32;
+    let version = index[VERSION_AT] as u32;
+    let n = index[VARIABLES_AT] as usize;
     let mut table = [0u16; TABLE_LENGTH];
     let segments = joint_table(model, index, second, regions, location, e, x, &mut table);
-    row_in(model, second, n, &table, segments, h)
+    row_in(model, second, version, n, &table, segments, h)
 }
 
 // Where the row of a hypothesis of what was found stands, and its role and owner.

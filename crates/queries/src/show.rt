@@ -14,6 +14,7 @@ use models::layout::INDEX_LENGTH;
 use models::layout::Index;
 use models::layout::LOCATIONS_AT;
 use models::layout::VARIABLES_AT;
+use models::layout::VERSION_AT;
 use papers::opening::open_paper;
 use rules::Answer;
 use second_sheets::certificate::read_regions;
@@ -97,9 +98,17 @@ fn open_regions(
     if opened.number != 0 {
         return Opened::Refused(opened.number, opened.sheet, opened.place);
     }
+    let version = index[VERSION_AT] as u32;
     let n = index[VARIABLES_AT] as usize;
     let locations = index[LOCATIONS_AT] as u32;
-    match read_regions(second, 4, n, locations, regions) {
+    match read_regions(
+        second,
+        opened.place as usize,
+        version,
+        n,
+        locations,
+        regions,
+    ) {
         Next::Refused(number, place) => Opened::Refused(number, 1, place as u32),
         Next::At(_) => Opened::Open,
     }

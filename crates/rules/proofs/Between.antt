@@ -1,21 +1,22 @@
 -- "each point on one ends a shorter run" (01, Runs), and so demand 3 holds at every point of time: with an accepted certificate no run
 -- passes through an unsafe state in the middle of a flow either. Assumes nothing.
 use mathlib.Core.Path.{_≡_, refl, sym, ap, ap₂, _∙_, subst}
-use mathlib.Core.Bool.{Bool, true}
+use mathlib.Core.Bool.{Bool, true, false}
 use mathlib.Core.List.{List, [], _∷_, _++_, map, map-append}
 use Prim.Native.Nat.{ℕ, zero, suc, _+_, _*_, _-_, _≤_}
 use native.Mathlib.Nat.{mul-le-mul-left}
 use native.Mathlib.Omega.{arith}
 use lib.Dec.{T, ltb, eqb}
 use borrow.Author.Tests.{eq-eqb, ne-eqb}
-use lib.IntN.{ℤ, pos, _+ℤ_, _-ℤ_, _*ℤ_, *ℤ-zero}
+use lib.IntN.{ℤ, pos, _+ℤ_, _-ℤ_, _*ℤ_, *ℤ-zero, *ℤ-comm}
 use lib.ListN.{length, length-map}
 use lib.Signed.{_≤ℤ_}
 use mir.Facts.{and-yes, yes-and}
-use Rattle.farkas.specs.Lists.{every}
+use Rattle.farkas.specs.Lists.{every, All}
 use Rattle.farkas.specs.Rows.{Row, item, dot, rowHolds}
 use Rattle.farkas.specs.Farkas.{sameZ}
 use Rattle.farkas.proofs.All.{every-all, all-every}
+use Rattle.farkas.proofs.Comparing.{compared-+, compared-*, compared-times, compared-same, compared-plain, compared-weaker, counts-one}
 use Rattle.farkas.proofs.Integers.{split, by-parts}
 use Rattle.farkas.proofs.Promise.{same-means}
 use Rattle.formats.specs.Reading.{got}
@@ -26,11 +27,12 @@ use Rattle.formats.specs.Joint.{isJoint}
 use Rattle.formats.specs.declared.Limits.{Limits}
 use Rattle.formats.specs.ModelSheet.{readModel}
 use Rattle.formats.specs.RunSheet.{Step, flow, jump}
+use Rattle.formats.proofs.WellFormed.{Plain, GoodMode, WellFormed, well-formed}
 use Rattle.rules.specs.Runs.{State, conditionHolds, modesIn, admissible, startAllowed, difference, sameValues, ratesHold, stillAtZero, flowRule, movers, stayingVariables, stayingKept, jumpRows, jumpRule, after, ruleMet, stepAllowed, stepsAllowed, Run, endOf, isUnsafe}
 use Rattle.rules.specs.Marking.{markCertificate}
 use Rattle.rules.specs.Between.{times, finerState, finerStep, mixed, partWay, partWayState, cutSteps}
 use Rattle.rules.proofs.Points.{holds-by, holds-so}
-use Rattle.rules.proofs.Hypotheses.{all-both, all-so}
+use Rattle.rules.proofs.Hypotheses.{all-both, all-so, modes-good, rows-hold, hold-rows}
 use Rattle.rules.proofs.Safety.{state-sized, state-invariants}
 use Rattle.rules.proofs.RunExactly.{end-visited}
 use Rattle.rules.proofs.Demand.{safe}
@@ -76,24 +78,7 @@ unfolding stillAtZero
 still-by s zero next h = h refl
 still-by s (suc δ) next h = rw (ne-eqb (suc δ) 0 (λ e. absurd (omega arith))) tt
 
--- a row that holds of p over q holds of N·p over q·N
 module _ (N : ℕ) where
-  row-finer : (q : ℕ) (p : List ℤ) (r : Row) → T (rowHolds q p r) → T (rowHolds (q * N) (times N p) r)
-  row-finer q p r t =
-      holds-by (q * N) (times N p) r (rw (dot-times N (r .coefficients) p) (law q (dot (r .coefficients) p) (r .bound) (holds-so q p r t)))
-    where
-      law : (q : ℕ) (d b : ℤ) → d ≤ℤ (b *ℤ pos q) → (pos N *ℤ d) ≤ℤ (b *ℤ pos (q * N))
-      law q d b = rw (split d, split b) (simp by-parts (λ h. omega (arith, mul-le-mul-left N h)))
-
-  condition-finer : (q : ℕ) (p : List ℤ) (rows : Condition) → T (conditionHolds q p rows) → T (conditionHolds (q * N) (times N p) rows)
-  unfolding conditionHolds
-  condition-finer q p rows t =
-      every-so (λ r. rowHolds q p (r .row)) (λ r. rowHolds (q * N) (times N p) (r .row)) rows (λ r w. row-finer q p (r .row) w) t
-
-  modes-finer : (q : ℕ) (p : List ℤ) (of : Mode → Condition) (modes : List Mode) → T (every (λ mode. conditionHolds q p (of mode)) modes) → T (every (λ mode. conditionHolds (q * N) (times N p) (of mode)) modes)
-  modes-finer q p of modes t =
-      every-so (λ mode. conditionHolds q p (of mode)) (λ mode. conditionHolds (q * N) (times N p) (of mode)) modes (λ mode w. condition-finer q p (of mode) w) t
-
   length-times : (p : List ℤ) → length (times N p) ≡ length p
   unfolding times
   length-times p = length-map p (λ x. pos N *ℤ x)
@@ -128,6 +113,28 @@ module _ (N : ℕ) where
       (same-means (pos N *ℤ x) (pos N *ℤ y) .1 (ap (λ z. pos N *ℤ z) (same-means x y .0 (h .0))))
       (same-times xs ys (h .1))
 
+-- a row that holds of p over q holds of N·p over q·N, for N from 1
+module _ (N : ℕ) (positive : 1 ≤ N) where
+  row-finer : (q : ℕ) (p : List ℤ) (r : Row) → T (rowHolds q p r) → T (rowHolds (q * N) (times N p) r)
+  row-finer q p r t =
+      holds-by (q * N) (times N p) r
+      (compared-same
+      (*ℤ-comm (dot (r .coefficients) p) (pos N) ∙ sym (dot-times N (r .coefficients) p))
+      (law q (r .bound))
+      (compared-times N positive (holds-so q p r t)))
+    where
+      law : (q : ℕ) (b : ℤ) → (b *ℤ pos q) *ℤ pos N ≡ b *ℤ pos (q * N)
+      law q b = rw (split b) (simp by-parts (omega arith))
+
+  condition-finer : (q : ℕ) (p : List ℤ) (rows : Condition) → T (conditionHolds q p rows) → T (conditionHolds (q * N) (times N p) rows)
+  unfolding conditionHolds
+  condition-finer q p rows t =
+      every-so (λ r. rowHolds q p (r .row)) (λ r. rowHolds (q * N) (times N p) (r .row)) rows (λ r w. row-finer q p (r .row) w) t
+
+  modes-finer : (q : ℕ) (p : List ℤ) (of : Mode → Condition) (modes : List Mode) → T (every (λ mode. conditionHolds q p (of mode)) modes) → T (every (λ mode. conditionHolds (q * N) (times N p) (of mode)) modes)
+  modes-finer q p of modes t =
+      every-so (λ mode. conditionHolds q p (of mode)) (λ mode. conditionHolds (q * N) (times N p) (of mode)) modes (λ mode w. condition-finer q p (of mode) w) t
+
   -- states, steps and whole runs
   module _ (m : Model) (q : ℕ) where
     admissible-finer : (s : State) → T (admissible m q s) → T (admissible m (q * N) (finerState N s))
@@ -135,7 +142,7 @@ module _ (N : ℕ) where
     admissible-finer s t =
         let h = and-yes (eqb (length (s .values)) (m .variables)) _ t in
         yes-and (eqb (length (times N (s .values))) (m .variables)) _
-        (rw (length-times (s .values)) (h .0))
+        (rw (length-times N (s .values)) (h .0))
         (modes-finer q (s .values) (λ mode. mode .invariant) (modesIn m (s .location)) (h .1))
 
     start-finer : (s : State) → T (startAllowed m q s) → T (startAllowed m (q * N) (finerState N s))
@@ -152,13 +159,13 @@ module _ (N : ℕ) where
     rates-finer : (s : State) (δ : ℕ) (next : List ℤ) → T (ratesHold m s δ next) → T (ratesHold m (finerState N s) (δ * N) (times N next))
     unfolding ratesHold finerState
     rates-finer s δ next t =
-        rw (difference-times next (s .values))
+        rw (difference-times N next (s .values))
         (modes-finer δ (difference next (s .values)) (λ mode. mode .flow) (modesIn m (s .location)) t)
 
     rows-finer : (s : State) (switches : List ℕ) (next : List ℤ) → T (jumpRows m q s switches next) → T (jumpRows m (q * N) (finerState N s) switches (times N next))
     unfolding jumpRows finerState
     rows-finer s switches next t =
-        rw (← append-times (s .values) next)
+        rw (← append-times N (s .values) next)
         (every-so (λ w. conditionHolds q (s .values ++ next) (w .jump)) (λ w. conditionHolds (q * N) (times N (s .values ++ next)) (w .jump)) (movers (m .components) switches)
         (λ w v. condition-finer q (s .values ++ next) (w .jump) v) t)
 
@@ -167,7 +174,7 @@ module _ (N : ℕ) where
     kept-finer s switches next t =
         every-so (λ v. sameZ (item next v) (item (s .values) v)) (λ v. sameZ (item (times N next) v) (item (times N (s .values)) v)) (stayingVariables m switches)
         (λ v w. same-means (item (times N next) v) (item (times N (s .values)) v) .1
-        (item-times next v ∙ ap (λ z. pos N *ℤ z) (same-means (item next v) (item (s .values) v) .0 w) ∙ sym (item-times (s .values) v)))
+        (item-times N next v ∙ ap (λ z. pos N *ℤ z) (same-means (item next v) (item (s .values) v) .0 w) ∙ sym (item-times N (s .values) v)))
         t
 
     jump-finer : (s : State) (event : ℕ) (switches : List ℕ) (next : List ℤ) → T (jumpRule m q s event switches next) → T (jumpRule m (q * N) (finerState N s) event switches (times N next))
@@ -189,50 +196,69 @@ module _ (N : ℕ) where
     end-finer s [] = refl
     end-finer s (t ∷ steps) = ap (λ v. endOf m v (map (finerStep N) steps)) (after-finer s t) ∙ end-finer (after m s t) steps
 
-    module _ (positive : 1 ≤ N) where
-      still-finer : (s : State) (δ : ℕ) (next : List ℤ) → T (stillAtZero s δ next) → T (stillAtZero (finerState N s) (δ * N) (times N next))
-      unfolding stillAtZero finerState
-      still-finer s zero next t = still-by (finerState N s) (zero * N) (times N next) (λ e. same-times next (s .values) t)
-      still-finer s (suc δ) next t = still-by (finerState N s) (suc δ * N) (times N next) (λ e. absurd (omega arith))
+    still-finer : (s : State) (δ : ℕ) (next : List ℤ) → T (stillAtZero s δ next) → T (stillAtZero (finerState N s) (δ * N) (times N next))
+    unfolding stillAtZero finerState
+    still-finer s zero next t = still-by (finerState N s) (zero * N) (times N next) (λ e. same-times N next (s .values) t)
+    still-finer s (suc δ) next t = still-by (finerState N s) (suc δ * N) (times N next) (λ e. absurd (omega arith))
 
-      flow-finer : (s : State) (δ : ℕ) (next : List ℤ) → T (flowRule m s δ next) → T (flowRule m (finerState N s) (δ * N) (times N next))
-      unfolding flowRule
-      flow-finer s δ next t =
-          let h = and-yes (ratesHold m s δ next) _ t in
-          yes-and (ratesHold m (finerState N s) (δ * N) (times N next)) _ (rates-finer s δ next (h .0)) (still-finer s δ next (h .1))
+    flow-finer : (s : State) (δ : ℕ) (next : List ℤ) → T (flowRule m s δ next) → T (flowRule m (finerState N s) (δ * N) (times N next))
+    unfolding flowRule
+    flow-finer s δ next t =
+        let h = and-yes (ratesHold m s δ next) _ t in
+        yes-and (ratesHold m (finerState N s) (δ * N) (times N next)) _ (rates-finer s δ next (h .0)) (still-finer s δ next (h .1))
 
-      rule-finer : (s : State) (t : Step) → T (ruleMet m q s t) → T (ruleMet m (q * N) (finerState N s) (finerStep N t))
-      unfolding ruleMet finerStep
-      rule-finer s (flow δ next) t = flow-finer s δ next t
-      rule-finer s (jump event switches next) t = jump-finer s event switches next t
+    rule-finer : (s : State) (t : Step) → T (ruleMet m q s t) → T (ruleMet m (q * N) (finerState N s) (finerStep N t))
+    unfolding ruleMet finerStep
+    rule-finer s (flow δ next) t = flow-finer s δ next t
+    rule-finer s (jump event switches next) t = jump-finer s event switches next t
 
-      step-finer : (s : State) (t : Step) → T (stepAllowed m q s t) → T (stepAllowed m (q * N) (finerState N s) (finerStep N t))
-      unfolding stepAllowed
-      step-finer s t a =
-          let h = and-yes (admissible m q (after m s t)) _ a in
-          yes-and (admissible m (q * N) (after m (finerState N s) (finerStep N t))) _
-          (rw (after-finer s t) (admissible-finer (after m s t) (h .0)))
-          (rule-finer s t (h .1))
+    step-finer : (s : State) (t : Step) → T (stepAllowed m q s t) → T (stepAllowed m (q * N) (finerState N s) (finerStep N t))
+    unfolding stepAllowed
+    step-finer s t a =
+        let h = and-yes (admissible m q (after m s t)) _ a in
+        yes-and (admissible m (q * N) (after m (finerState N s) (finerStep N t))) _
+        (rw (after-finer s t) (admissible-finer (after m s t) (h .0)))
+        (rule-finer s t (h .1))
 
-      -- steps before a flow, then other steps over q·N from where they lead
-      steps-finer : (s : State) (before later : List Step) → T (stepsAllowed m q s before) → T (stepsAllowed m (q * N) (finerState N (endOf m s before)) later) → T (stepsAllowed m (q * N) (finerState N s) (map (finerStep N) before ++ later))
-      unfolding stepsAllowed endOf
-      steps-finer s [] later t a = a
-      steps-finer s (x ∷ before) later t a =
-          let h = and-yes (stepAllowed m q s x) _ t in
-          yes-and (stepAllowed m (q * N) (finerState N s) (finerStep N x)) _ (step-finer s x (h .0))
-          (rw (after-finer s x) (steps-finer (after m s x) before later (h .1) a))
+    -- steps before a flow, then other steps over q·N from where they lead
+    steps-finer : (s : State) (before later : List Step) → T (stepsAllowed m q s before) → T (stepsAllowed m (q * N) (finerState N (endOf m s before)) later) → T (stepsAllowed m (q * N) (finerState N s) (map (finerStep N) before ++ later))
+    unfolding stepsAllowed endOf
+    steps-finer s [] later t a = a
+    steps-finer s (x ∷ before) later t a =
+        let h = and-yes (stepAllowed m q s x) _ t in
+        yes-and (stepAllowed m (q * N) (finerState N s) (finerStep N x)) _ (step-finer s x (h .0))
+        (rw (after-finer s x) (steps-finer (after m s x) before later (h .1) a))
+
+-- a flow row, which is not strict, that holds of p in the time δ holds of t·p in the time δ·t, also for t = 0
+module _ (t : ℕ) where
+  row-slower : (δ : ℕ) (p : List ℤ) (r : Row) → r .strict ≡ false → T (rowHolds δ p r) → T (rowHolds (δ * t) (times t p) r)
+  row-slower δ p r steady h =
+      holds-by (δ * t) (times t p) r
+      (compared-plain steady (rw (dot-times t (r .coefficients) p) (law δ (dot (r .coefficients) p) (r .bound) (holds-so δ p r h .most))))
+    where
+      law : (δ : ℕ) (d b : ℤ) → d ≤ℤ (b *ℤ pos δ) → (pos t *ℤ d) ≤ℤ (b *ℤ pos (δ * t))
+      law δ d b = rw (split d, split b) (simp by-parts (λ h. omega (arith, mul-le-mul-left t h)))
+
+  condition-slower : (δ : ℕ) (p : List ℤ) (rows : Condition) → Plain rows → T (conditionHolds δ p rows) → T (conditionHolds (δ * t) (times t p) rows)
+  condition-slower δ p rows steady h =
+      hold-rows (δ * t) (times t p) rows (all-so (λ r w. row-slower δ p (r .row) (w .0) (w .1)) (all-both steady (rows-hold δ p rows h)))
+
+  rates-slower : (δ : ℕ) (p : List ℤ) (modes : List Mode) → All (λ mode. Plain (mode .flow)) modes → T (every (λ mode. conditionHolds δ p (mode .flow)) modes) → T (every (λ mode. conditionHolds (δ * t) (times t p) (mode .flow)) modes)
+  rates-slower δ p modes steady h =
+      all-every (λ mode. conditionHolds (δ * t) (times t p) (mode .flow))
+      (all-so (λ mode w. condition-slower δ p (mode .flow) (w .0) (w .1)) (all-both steady (every-all (λ mode. conditionHolds δ p (mode .flow)) modes h)))
 
 -- a row that holds at both ends of a flow holds at every point between
-module _ (q u t : ℕ) where
+module _ (q u t : ℕ) (whole : 1 ≤ u + t) where
   row-mixed : (p next : List ℤ) (r : Row) → length p ≡ length next → T (rowHolds q p r) → T (rowHolds q next r) → T (rowHolds (q * (u + t)) (mixed u t p next) r)
   row-mixed p next r h v w =
       holds-by (q * (u + t)) (mixed u t p next) r
-      (rw (dot-mixed u t (r .coefficients) p next h)
-      (law (dot (r .coefficients) p) (dot (r .coefficients) next) (r .bound) (holds-so q p r v) (holds-so q next r w)))
+      (compared-same (sym (dot-mixed u t (r .coefficients) p next h)) (law (r .bound))
+      (compared-weaker (counts-one u t (r .strict) whole)
+      (compared-+ (compared-* u (holds-so q p r v)) (compared-* t (holds-so q next r w)))))
     where
-      law : (c d b : ℤ) → c ≤ℤ (b *ℤ pos q) → d ≤ℤ (b *ℤ pos q) → (pos u *ℤ c +ℤ pos t *ℤ d) ≤ℤ (b *ℤ pos (q * (u + t)))
-      law c d b = rw (split c, split d, split b) (simp by-parts (λ h k. omega (arith, mul-le-mul-left u h, mul-le-mul-left t k)))
+      law : (b : ℤ) → pos u *ℤ (b *ℤ pos q) +ℤ pos t *ℤ (b *ℤ pos q) ≡ b *ℤ pos (q * (u + t))
+      law b = rw (split b) (simp by-parts (omega arith))
 
   condition-mixed : (p next : List ℤ) (rows : Condition) → length p ≡ length next → T (conditionHolds q p rows) → T (conditionHolds q next rows) → T (conditionHolds (q * (u + t)) (mixed u t p next) rows)
   unfolding conditionHolds
@@ -303,7 +329,7 @@ still-so s zero next t e = same-lists next (s .values) t
 still-so s (suc δ) next t e = absurd (omega arith)
 
 -- a flow cut on its way is an allowed step
-module _ (m : Model) (q u t : ℕ) (s : State) (next : List ℤ) (alike : length (s .values) ≡ length next) where
+module _ (m : Model) (q u t : ℕ) (whole : 1 ≤ u + t) (s : State) (next : List ℤ) (alike : length (s .values) ≡ length next) where
   abbrev point : List ℤ
   point = mixed u t (s .values) next
 
@@ -313,13 +339,13 @@ module _ (m : Model) (q u t : ℕ) (s : State) (next : List ℤ) (alike : length
       yes-and (eqb (length point) (m .variables)) _
       (rw (eq-eqb (length point) (m .variables) (length-mixed u t (s .values) next alike ∙ sized)) tt)
       (every-two (λ mode. conditionHolds q (s .values) (mode .invariant)) (λ mode. conditionHolds q next (mode .invariant)) (λ mode. conditionHolds (q * (u + t)) point (mode .invariant)) (modesIn m (s .location))
-      (λ mode v w. condition-mixed q u t (s .values) next (mode .invariant) alike v w) i j)
+      (λ mode v w. condition-mixed q u t whole (s .values) next (mode .invariant) alike v w) i j)
 
-  cut-rates : (δ : ℕ) → T (ratesHold m s δ next) → T (ratesHold m (finerState (u + t) s) (δ * t) point)
+  cut-rates : All (GoodMode (m .variables)) (modesIn m (s .location)) → (δ : ℕ) → T (ratesHold m s δ next) → T (ratesHold m (finerState (u + t) s) (δ * t) point)
   unfolding ratesHold finerState
-  cut-rates δ h =
+  cut-rates good δ h =
       rw (mixed-difference u t (s .values) next)
-      (modes-finer t δ (difference next (s .values)) (λ mode. mode .flow) (modesIn m (s .location)) h)
+      (rates-slower t δ (difference next (s .values)) (modesIn m (s .location)) (all-so (λ mode g. g .rates) good) h)
 
   cut-still : (δ : ℕ) → T (stillAtZero s δ next) → T (stillAtZero (finerState (u + t) s) (δ * t) point)
   unfolding finerState
@@ -327,18 +353,18 @@ module _ (m : Model) (q u t : ℕ) (s : State) (next : List ℤ) (alike : length
       still-by (finerState (u + t) s) (δ * t) point
       (λ e. lists-same point (times (u + t) (s .values)) (still-mixed u t δ (s .values) next alike (still-so s δ next h) e))
 
-flow-cut : (m : Model) (q u t : ℕ) (s : State) (δ : ℕ) (next : List ℤ) → T (admissible m q s) → T (stepAllowed m q s (flow δ next)) → T (stepAllowed m (q * (u + t)) (finerState (u + t) s) (flow (δ * t) (mixed u t (s .values) next)))
+flow-cut : (m : Model) → WellFormed m → (q u t : ℕ) → 1 ≤ u + t → (s : State) (δ : ℕ) (next : List ℤ) → T (admissible m q s) → T (stepAllowed m q s (flow δ next)) → T (stepAllowed m (q * (u + t)) (finerState (u + t) s) (flow (δ * t) (mixed u t (s .values) next)))
 unfolding stepAllowed ruleMet flowRule after finerState
-flow-cut m q u t s δ next a b =
+flow-cut m formed q u t whole s δ next a b =
     let target = after m s (flow δ next) in
     let h = and-yes (admissible m q target) _ b in
     let k = and-yes (ratesHold m s δ next) _ (h .1) in
     let alike : length (s .values) ≡ length next = state-sized m q s a ∙ sym (state-sized m q target (h .0)) in
     yes-and (admissible m (q * (u + t)) (after m (finerState (u + t) s) (flow (δ * t) (mixed u t (s .values) next)))) _
-    (cut-admissible m q u t s next alike (state-sized m q s a) (state-invariants m q s a) (state-invariants m q target (h .0)))
+    (cut-admissible m q u t whole s next alike (state-sized m q s a) (state-invariants m q s a) (state-invariants m q target (h .0)))
     (yes-and (ratesHold m (finerState (u + t) s) (δ * t) (mixed u t (s .values) next)) _
-    (cut-rates m q u t s next alike δ (k .0))
-    (cut-still m q u t s next alike δ (k .1)))
+    (cut-rates m q u t whole s next alike (modes-good m formed (s .location)) δ (k .0))
+    (cut-still m q u t whole s next alike δ (k .1)))
 
 -- the parts of a run
 steps-split : (m : Model) (q : ℕ) (s : State) (xs ys : List Step) → T (stepsAllowed m q s (xs ++ ys)) → T (stepsAllowed m q s xs) × T (stepsAllowed m q (endOf m s xs) ys)
@@ -366,8 +392,9 @@ unfolding startAllowed
 start-admissible m q s t = and-yes (admissible m q s) _ (and-yes (ltb (s .location) (locationCount (m .components))) _ t .1) .0
 
 -- A run whose steps are some steps, then a flow from p to p' in time δ/q, then any others. For any N from 1 and t from 0 to N, the steps
--- before it, over q·N, and then the flow cut at the t-th of N points, (N − t)·p + t·p' in time δ·t, are a run of the model
-module _ (m : Model) (run : Run m) (before later : List Step) (δ : ℕ) (next : List ℤ) (flows : run .steps ≡ before ++ (flow δ next ∷ later)) (N t : ℕ) (whole : 1 ≤ N) (part : t ≤ N) where
+-- before it, over q·N, and then the flow cut at the t-th of N points, (N − t)·p + t·p' in time δ·t, are a run of the model. The model is
+-- well formed, so that no flow row is strict: a flow of time 0 would not keep to one
+module _ (m : Model) (formed : WellFormed m) (run : Run m) (before later : List Step) (δ : ℕ) (next : List ℤ) (flows : run .steps ≡ before ++ (flow δ next ∷ later)) (N t : ℕ) (whole : 1 ≤ N) (part : t ≤ N) where
   -- the state from which the flow starts
   abbrev from : State
   from = endOf m (run .first) before
@@ -379,7 +406,7 @@ module _ (m : Model) (run : Run m) (before later : List Step) (δ : ℕ) (next :
       let a = end-admissible m (run .q) (run .first) before (start-admissible m (run .q) (run .first) (run .starts)) (k .0) in
       subst (λ (n : ℕ). T (stepAllowed m (run .q * n) (finerState n from) (flow (δ * t) (mixed (N - t) t (from .values) next))))
       (rest N t part)
-      (flow-cut m (run .q) (N - t) t from δ next a (and-yes (stepAllowed m (run .q) from (flow δ next)) _ (k .1) .0))
+      (flow-cut m formed (run .q) (N - t) t (omega (arith, whole)) from δ next a (and-yes (stepAllowed m (run .q) from (flow δ next)) _ (k .1) .0))
     where
       rest : (N t : ℕ) → t ≤ N → (N - t) + t ≡ N
       rest N t h = omega arith
@@ -388,13 +415,13 @@ module _ (m : Model) (run : Run m) (before later : List Step) (δ : ℕ) (next :
   cut-whole = omega (arith, mul-le-mul-left (run .q) whole, run .whole)
 
   pub cut-starts : T (startAllowed m (run .q * N) (finerState N (run .first)))
-  cut-starts = start-finer N m (run .q) (run .first) (run .starts)
+  cut-starts = start-finer N whole m (run .q) (run .first) (run .starts)
 
   pub cut-allowed : T (stepsAllowed m (run .q * N) (finerState N (run .first)) (cutSteps m N t (run .first) before δ next))
   unfolding cutSteps stepsAllowed
   cut-allowed =
       let k = steps-split m (run .q) (run .first) before (flow δ next ∷ later) (subst (λ l. T (stepsAllowed m (run .q) (run .first) l)) flows (run .allowed)) in
-      steps-finer N m (run .q) whole (run .first) before (flow (δ * t) (partWay N t (from .values) next) ∷ []) (k .0)
+      steps-finer N whole m (run .q) (run .first) before (flow (δ * t) (partWay N t (from .values) next) ∷ []) (k .0)
       (yes-and (stepAllowed m (run .q * N) (finerState N from) (flow (δ * t) (partWay N t (from .values) next))) true cut-step tt)
 
   unfoldable pub cutRun : Run m
@@ -413,7 +440,7 @@ module _ (m : Model) (run : Run m) (before later : List Step) (δ : ℕ) (next :
   unfolding cutRun cutSteps partWayState endOf after finerState
   cut-ends =
       end-joined m (finerState N (run .first)) (map (finerStep N) before) (flow (δ * t) (partWay N t (from .values) next) ∷ [])
-      ∙ ap (λ v. endOf m v (flow (δ * t) (partWay N t (from .values) next) ∷ [])) (end-finer N m (run .q) (run .first) before)
+      ∙ ap (λ v. endOf m v (flow (δ * t) (partWay N t (from .values) next) ∷ [])) (end-finer N whole m (run .q) (run .first) before)
 
 -- the points begin and end where the flow does: over q·N at t = 0 at N·p, at t = N at N·p'
 pub way-begins : (N : ℕ) (p next : List ℤ) → length p ≡ length next → partWay N 0 p next ≡ times N p
@@ -448,7 +475,8 @@ way-ends N p next h = ap (λ (u : ℕ). mixed u N p next) (nothing N) ∙ mixed-
 pub safe-between : (limits : Limits) (model second : List ℕ) (m : Model) (end : ℕ) → readModel limits model ≡ got m end → markCertificate limits model second .number ≡ 0 → (run : Run m) (before later : List Step) (δ : ℕ) (next : List ℤ) → run .steps ≡ before ++ (flow δ next ∷ later) → (N t : ℕ) → 1 ≤ N → t ≤ N → T (isUnsafe m (run .q * N) (partWayState N t (endOf m (run .first) before) next)) → ⊥
 unfolding cutRun
 safe-between limits model second m end e h run before later δ next flows N t whole part unsafe =
-    let cut = cutRun m run before later δ next flows N t whole part in
-    let ends = cut-ends m run before later δ next flows N t whole part in
+    let formed = well-formed limits model m end e in
+    let cut = cutRun m formed run before later δ next flows N t whole part in
+    let ends = cut-ends m formed run before later δ next flows N t whole part in
     safe limits model second m end e h cut (endOf m (cut .first) (cut .steps)) (end-visited m (cut .first) (cut .steps))
     (subst (λ v. T (isUnsafe m (run .q * N) v)) (sym ends) unsafe)

@@ -9,7 +9,7 @@ use lib.Dec.{T}
 use lib.ListN.{length}
 use Rattle.farkas.specs.Farkas.{Proof, Meets, farkasTest}
 use Rattle.farkas.proofs.Promise.{zero-means}
-use Rattle.formats.specs.Reading.{Got, got, refused, Reader, _>>=_, _>>_, give, each, header, finished}
+use Rattle.formats.specs.Reading.{Got, got, refused, Reader, _>>=_, _>>_, give, each, finished}
 use Rattle.formats.specs.Rows.{Condition}
 use Rattle.formats.specs.Model.{Model}
 use Rattle.formats.specs.declared.Limits.{Limits}
@@ -20,7 +20,7 @@ use Rattle.formats.proofs.Placed.{Fine, placed-finished}
 use Rattle.rules.specs.declared.Answer.{Answer}
 use Rattle.rules.specs.Obligations.{Obligation, zeroOnly, obligations}
 use Rattle.rules.proofs.Opening.{read-opens, with-model}
-use Rattle.rules.specs.Opening.{openModel}
+use Rattle.rules.specs.Opening.{openModel, openSecond}
 use Rattle.rules.specs.Marking.{answer, scoreOf, refusedScore, Marked, passed, stopped, testProof, markProof, markProofs, closeCertificate, markRegions, withModel, markCertificate}
 use Rattle.rules.proofs.MarkedRanges.{Marks, proofs-mark, regions-fine}
 use Rattle.rules.specs.ReadWell.{Certificate, readProofs, readCertificate, rowsOf, AllMeet, met-none, met-more, CertificateHolds}
@@ -162,11 +162,11 @@ close-read total s (stopped n at d) stop on h = absurd (omega (arith, stop n at 
 close-read total s (passed u next d) stop on h = close-step total next d s (finished s next) refl h (placed-finished {least = 0} .fine s next (omega arith) (on u next d refl))
 
 -- the second sheet's parts, put together
-pub whole-certificate : (m : Model) (s : List ℕ) (regions : List Condition) (place next end : ℕ) (proofs : List Proof) → (header 2 >> readRegions m) s 0 ≡ got regions place → readProofs (obligations m regions) s place ≡ got proofs next → finished s next ≡ got tt end → readCertificate m s 0 ≡ got (record { regions = regions; proofs = proofs }) end
+pub whole-certificate : (m : Model) (s : List ℕ) (regions : List Condition) (place next end : ℕ) (proofs : List Proof) → (openSecond 2 m >> readRegions m) s 0 ≡ got regions place → readProofs (obligations m regions) s place ≡ got proofs next → finished s next ≡ got tt end → readCertificate m s 0 ≡ got (record { regions = regions; proofs = proofs }) end
 unfolding readCertificate _>>_ give
 whole-certificate m s regions place next end proofs r p f =
-    let h = passes (header 2 s 0) (λ v. readRegions m) s regions place r in
-    then-got (header 2) (readRegions m >>= λ x. readProofs (obligations m x) >>= λ y. finished >> give (record { regions = x; proofs = y })) s 0 (h .first)
+    let h = passes (openSecond 2 m s 0) (λ v. readRegions m) s regions place r in
+    then-got (openSecond 2 m) (readRegions m >>= λ x. readProofs (obligations m x) >>= λ y. finished >> give (record { regions = x; proofs = y })) s 0 (h .first)
     (bind-got (readRegions m) (λ x. readProofs (obligations m x) >>= λ y. finished >> give (record { regions = x; proofs = y })) s (h .place) (h .second)
     (bind-got (readProofs (obligations m regions)) (λ y. finished >> give (record { regions = regions; proofs = y })) s place p
     (then-got finished (give (record { regions = regions; proofs = proofs })) s next f refl)))
@@ -174,8 +174,8 @@ whole-certificate m s regions place next end proofs r p f =
 pub accepted-holds : (limits : Limits) (model second : List ℕ) → markCertificate limits model second .number ≡ 0 → CertificateHolds limits model second
 unfolding markCertificate
 accepted-holds limits model second h =
-    let w = model-read limits model (λ m. markRegions m second ((header 2 >> readRegions m) second 0)) h in
-    let r = regions-read (w .m) second ((header 2 >> readRegions (w .m)) second 0) (regions-fine (w .m) second) (w .rest) in
+    let w = model-read limits model (λ m. markRegions m second ((openSecond 2 m >> readRegions m) second 0)) h in
+    let r = regions-read (w .m) second ((openSecond 2 (w .m) >> readRegions (w .m)) second 0) (regions-fine (w .m) second) (w .rest) in
     let all = obligations (w .m) (r .regions) in
     let c = close-read (length all) second (markProofs all second (r .place) 0) (stops all second (r .place) (r .within)) (goes-on all second (r .place) (r .within)) (r .rest) in
     let v = marked-read all second (r .place) 0 tt (c .next) (c .done) (c .passes) .0 in
@@ -195,23 +195,23 @@ pub record CertificateParts (m : Model) (s : List ℕ) (c : Certificate) : Type 
   pub place : ℕ
   pub next : ℕ
   pub end : ℕ
-  pub regions : (header 2 >> readRegions m) s 0 ≡ got (c .regions) place
+  pub regions : (openSecond 2 m >> readRegions m) s 0 ≡ got (c .regions) place
   pub proofs : readProofs (obligations m (c .regions)) s place ≡ got (c .proofs) next
   pub finishes : finished s next ≡ got tt end
 
-parts-from : (m : Model) (s : List ℕ) (c : Certificate) (regions : List Condition) (proofs : List Proof) (place next end : ℕ) → (header 2 >> readRegions m) s 0 ≡ got regions place → readProofs (obligations m regions) s place ≡ got proofs next → finished s next ≡ got tt end → record { regions = regions; proofs = proofs } ≡ c → CertificateParts m s c
+parts-from : (m : Model) (s : List ℕ) (c : Certificate) (regions : List Condition) (proofs : List Proof) (place next end : ℕ) → (openSecond 2 m >> readRegions m) s 0 ≡ got regions place → readProofs (obligations m regions) s place ≡ got proofs next → finished s next ≡ got tt end → record { regions = regions; proofs = proofs } ≡ c → CertificateParts m s c
 parts-from m s c regions proofs place next end r p f same =
     subst (λ x. CertificateParts m s x) same (record { place = place; next = next; end = end; regions = r; proofs = p; finishes = f })
 
 pub parts-of : (m : Model) (s : List ℕ) (c : Certificate) (end : ℕ) → readCertificate m s 0 ≡ got c end → CertificateParts m s c
 unfolding readCertificate _>>_ _>>=_ give
 parts-of m s c end e =
-    let h = passes (header 2 s 0) (λ v. readRegions m >>= λ x. readProofs (obligations m x) >>= λ y. finished >> give (record { regions = x; proofs = y })) s c end e in
+    let h = passes (openSecond 2 m s 0) (λ v. readRegions m >>= λ x. readProofs (obligations m x) >>= λ y. finished >> give (record { regions = x; proofs = y })) s c end e in
     let r = passes (readRegions m s (h .place)) (λ x. readProofs (obligations m x) >>= λ y. finished >> give (record { regions = x; proofs = y })) s c end (h .second) in
     let p = passes (readProofs (obligations m (r .value)) s (r .place)) (λ y. finished >> give (record { regions = r .value; proofs = y })) s c end (r .second) in
     let f = passes (finished s (p .place)) (λ u. give (record { regions = r .value; proofs = p .value })) s c end (p .second) in
     parts-from m s c (r .value) (p .value) (r .place) (p .place) (f .place)
-    (then-got (header 2) (readRegions m) s 0 (h .first) (r .first))
+    (then-got (openSecond 2 m) (readRegions m) s 0 (h .first) (r .first))
     (p .first)
     (f .first)
     (got-value (f .second))
@@ -222,7 +222,7 @@ holds-accepted limits model second w =
     let v = parts-of (w .m) second (w .certificate) (w .secondEnd) (w .secondReads) in
     let all = obligations (w .m) (w .certificate .regions) in
     let passes-all = read-marked all second (v .place) 0 (w .certificate .proofs) (v .next) (v .proofs) (w .meet) in
-    ap (λ g. withModel g (λ m. markRegions m second ((header 2 >> readRegions m) second 0)) .number) (read-opens limits model (w .m) (w .modelEnd) (w .fit) (w .modelReads))
+    ap (λ g. withModel g (λ m. markRegions m second ((openSecond 2 m >> readRegions m) second 0)) .number) (read-opens limits model (w .m) (w .modelEnd) (w .fit) (w .modelReads))
     ∙ ap (λ g. markRegions (w .m) second g .number) (v .regions)
     ∙ ap (λ k. closeCertificate (length all) second k .number) passes-all
     ∙ ap (λ g. (elim g as (λ x. Answer) [ got u k ↦ answer 0 1 (length second) (0 + length all) (scoreOf (0 + length all) (length all)) | refused n at ↦ answer n 1 at (0 + length all) (refusedScore (0 + length all) (length all)) ]) .number) (v .finishes)

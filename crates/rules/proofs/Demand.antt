@@ -10,7 +10,7 @@ use lib.Dec.{T}
 use lib.ListN.{length}
 use Rattle.farkas.specs.Farkas.{Proof}
 use Rattle.farkas.specs.Lists.{All, none, more}
-use Rattle.formats.specs.Reading.{got, _>>=_, give, each, header}
+use Rattle.formats.specs.Reading.{got, _>>=_, give, each}
 use Rattle.formats.specs.Rows.{Condition}
 use Rattle.formats.specs.Model.{Model}
 use Rattle.formats.specs.declared.Limits.{Limits}
@@ -18,6 +18,7 @@ use Rattle.formats.specs.ModelSheet.{readModel}
 use Rattle.formats.proofs.Gives.{passes, got-value, gives-then}
 use Rattle.formats.proofs.Members.{all-in}
 use Rattle.formats.proofs.WellFormed.{WellFormed, well-formed, regions-give, proof-gives}
+use Rattle.rules.specs.Opening.{openSecond}
 use Rattle.rules.specs.Runs.{State, Run, visited, isUnsafe}
 use Rattle.rules.specs.Obligations.{Obligation, zeroOnly, obligations}
 use Rattle.rules.specs.Marking.{markCertificate, markRun}
@@ -61,7 +62,7 @@ proved limits model second m end e h =
     (record {
       good = well-formed limits model (w .m) (w .modelEnd) (w .modelReads);
       regions = w .certificate .regions;
-      wide = gives-then (header 2) (regions-give (w .m)) .holds second 0 (w .certificate .regions) (v .place) (v .regions) .1;
+      wide = gives-then (openSecond 2 (w .m)) (regions-give (w .m)) .holds second 0 (w .certificate .regions) (v .place) (v .regions) .1;
       shown = all-shown (obligations (w .m) (w .certificate .regions)) second (v .place) (w .certificate .proofs) (v .next) (v .proofs) (w .meet);
     })
 

@@ -9,11 +9,11 @@ use Rattle.farkas.specs.Lists.{every, All, none, more}
 use Rattle.farkas.specs.Rows.{Row, item, rowHolds}
 use Rattle.farkas.proofs.All.{all-append, all-map, all-at, every-all, all-every}
 use Rattle.formats.specs.Rows.{Condition}
-use Rattle.formats.specs.Model.{Mode, Switch, Component}
-use Rattle.formats.specs.Locations.{modeOf}
+use Rattle.formats.specs.Model.{Mode, Switch, Component, Model}
+use Rattle.formats.specs.Locations.{modeOf, modesAt}
 use Rattle.formats.specs.Joint.{joinAll}
-use Rattle.formats.proofs.WellFormed.{Wide, GoodMode, GoodComponent}
-use Rattle.rules.specs.Runs.{conditionHolds, present, difference}
+use Rattle.formats.proofs.WellFormed.{Wide, GoodMode, GoodComponent, WellFormed}
+use Rattle.rules.specs.Runs.{conditionHolds, present, modesIn, difference}
 use Rattle.rules.specs.Obligations.{nowhere, standing, onX, onNext, onRates, stayingRows, modeRows, startHypotheses, flowHypotheses, unsafeHypotheses, jumpHypotheses}
 use Rattle.rules.proofs.Points.{on-x, on-next, on-rates, time-holds, staying-hold}
 use Rattle.rules.proofs.Shown.{Holding}
@@ -35,13 +35,17 @@ join-all f (more x h) = all-append x (join-all f h)
 -- the present modes of well formed components are good
 good-mode : (n : ℕ) (c : Component) (mode : ℕ) → GoodComponent n c → GoodMode n (modeOf c mode)
 unfolding modeOf
-good-mode n c mode g = all-at _ (record { initial = none; invariant = none; flow = none }) (g .modes) mode
+good-mode n c mode g = all-at _ (record { initial = none; invariant = none; flow = none; rates = none }) (g .modes) mode
 
 pub good-modes : (n : ℕ) (components : List Component) (modes : List ℕ) → All (GoodComponent n) components → All (GoodMode n) (present components modes)
 unfolding present
 good-modes n [] modes g = none
 good-modes n (c ∷ components) [] g = none
 good-modes n (c ∷ components) (mode ∷ modes) (more x g) = more (good-mode n c mode x) (good-modes n components modes g)
+
+pub modes-good : (m : Model) → WellFormed m → (location : ℕ) → All (GoodMode (m .variables)) (modesIn m location)
+unfolding modesIn
+modes-good m good location = good-modes (m .variables) (m .components) (modesAt (m .components) location) (good .components)
 
 -- a condition's rows
 pub rows-hold : (q : ℕ) (p : List ℤ) (rows : Condition) → T (conditionHolds q p rows) → All (λ r. T (rowHolds q p (r .row))) rows

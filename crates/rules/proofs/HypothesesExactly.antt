@@ -1,8 +1,9 @@
 -- The hypotheses of an obligation are neither too strong nor too weak: each row, at the point (x, x', d) that a start, a flow, an unsafe
 -- state or a jump gives, holds exactly when the rule's own row holds there; and all hypotheses of a kind hold together exactly when the
 -- region, the invariants and the rule's rows hold. Assumes nothing.
-use mathlib.Core.Path.{_≡_, sym, ap, _∙_, subst}
+use mathlib.Core.Path.{_≡_, refl, sym, ap, _∙_, subst}
 use mathlib.Core.Logic.{_↔_}
+use mathlib.Core.Bool.{false}
 use mathlib.Core.List.{List, [], _∷_, _++_, map, append-nil, append-assoc}
 use Prim.Native.Nat.{ℕ, _+_, _<_}
 use native.Mathlib.Omega.{arith}
@@ -13,6 +14,7 @@ use lib.Signed.{_≤ℤ_}
 use Rattle.farkas.specs.Lists.{every, All, none, more}
 use Rattle.farkas.specs.Rows.{Row, item, dot, rowHolds}
 use Rattle.farkas.proofs.All.{all-append, all-map, every-all, all-every}
+use Rattle.farkas.proofs.Comparing.{compared-plain}
 use Rattle.farkas.proofs.Integers.{split, by-parts}
 use Rattle.farkas.proofs.Order.{≤-antisym}
 use Rattle.formats.specs.Rows.{Condition}
@@ -36,10 +38,10 @@ on-x-exactly q p rest r h =
 pub on-next-exactly : (n q : ℕ) (p next rest : List ℤ) (r : Row) → length p ≡ n → length (r .coefficients) ≡ length next → T (rowHolds q (p ++ (next ++ rest)) (onNext n r)) ↔ T (rowHolds q next r)
 on-next-exactly n q p next rest r h k = (from-next n q p next rest r h k, on-next n q p next rest r h k)
 
--- on rates: −a on x, a on x', −b on d
-pub on-rates-exactly : (q δ : ℕ) (p next : List ℤ) (r : Row) → length (r .coefficients) ≡ length p → length (r .coefficients) ≡ length next → T (rowHolds q (p ++ (next ++ (pos δ ∷ []))) (onRates r)) ↔ T (rowHolds δ (difference next p) r)
+-- on rates: −a on x, a on x', −b on d; flow rows are not strict
+pub on-rates-exactly : (q δ : ℕ) (p next : List ℤ) (r : Row) → r .strict ≡ false → length (r .coefficients) ≡ length p → length (r .coefficients) ≡ length next → T (rowHolds q (p ++ (next ++ (pos δ ∷ []))) (onRates r)) ↔ T (rowHolds δ (difference next p) r)
 unfolding onRates
-on-rates-exactly q δ p next r h k = (there, on-rates q δ p next r h k)
+on-rates-exactly q δ p next r steady h k = (there, on-rates q δ p next r h k)
   where
     back : (a b c d q : ℤ) → (negℤ a +ℤ (b +ℤ negℤ c *ℤ d)) ≤ℤ (pos 0 *ℤ q) → (b -ℤ a) ≤ℤ (c *ℤ d)
     back a b c d q = rw (split a, split b, split c, split d, split q) (simp by-parts (omega arith))
@@ -47,9 +49,10 @@ on-rates-exactly q δ p next r h k = (there, on-rates q δ p next r h k)
     there : T (rowHolds q (p ++ (next ++ (pos δ ∷ []))) (onRates r)) → T (rowHolds δ (difference next p) r)
     there t =
         holds-by δ (difference next p) r
+        (compared-plain steady
         (rw (dot-difference (r .coefficients) next p (sym k ∙ h))
         (back (dot (r .coefficients) p) (dot (r .coefficients) next) (r .bound) (pos δ) (pos q)
-        (rw (dot-rates p next δ r h k) at (holds-so q (p ++ (next ++ (pos δ ∷ []))) (onRates r) t))))
+        (rw (dot-rates p next δ r h k) at (holds-so q (p ++ (next ++ (pos δ ∷ []))) (onRates r) t .most)))))
 
 -- the time row: for any d, not only a time, it says that d is not below 0
 pub time-exactly : (n q : ℕ) (p next : List ℤ) (d : ℤ) → length p ≡ n → length next ≡ n → T (rowHolds q (p ++ (next ++ (d ∷ []))) (timeRow n)) ↔ (pos 0 ≤ℤ d)
@@ -73,10 +76,10 @@ time-exactly n q p next d h k = (there, back)
     by d q = rw (split d, split q) (simp by-parts (omega arith))
 
     there : T (rowHolds q (p ++ (next ++ (d ∷ []))) (timeRow n)) → pos 0 ≤ℤ d
-    there t = so d (pos q) (rw product at (holds-so q (p ++ (next ++ (d ∷ []))) (timeRow n) t))
+    there t = so d (pos q) (rw product at (holds-so q (p ++ (next ++ (d ∷ []))) (timeRow n) t .most))
 
     back : pos 0 ≤ℤ d → T (rowHolds q (p ++ (next ++ (d ∷ []))) (timeRow n))
-    back w = holds-by q (p ++ (next ++ (d ∷ []))) (timeRow n) (rw product (by d (pos q) w))
+    back w = holds-by q (p ++ (next ++ (d ∷ []))) (timeRow n) (compared-plain refl (rw product (by d (pos q) w)))
 
 -- the two staying rows of a variable
 pub staying-exactly : (n q v : ℕ) (p next : List ℤ) → length p ≡ n → v < n → All (λ r. T (rowHolds q (p ++ next) r)) (stayingRows n v) ↔ (item next v ≡ item p v)
@@ -89,8 +92,8 @@ staying-exactly n q v p next h l = (there, staying-hold n q v p next h l)
     greater : (x y q : ℤ) → (pos 1 *ℤ x +ℤ negsuc 0 *ℤ y) ≤ℤ (pos 0 *ℤ q) → x ≤ℤ y
     greater x y q = rw (split x, split y, split q) (simp by-parts (omega arith))
 
-    one : (a b : ℤ) → T (rowHolds q (p ++ next) (record { coefficients = unit n v a ++ unit n v b; bound = pos 0 })) → (a *ℤ item p v +ℤ b *ℤ item next v) ≤ℤ (pos 0 *ℤ pos q)
-    one a b t = rw (dot-units n v a b p next h l) at (holds-so q (p ++ next) _ t)
+    one : (a b : ℤ) → T (rowHolds q (p ++ next) (record { coefficients = unit n v a ++ unit n v b; bound = pos 0; strict = false })) → (a *ℤ item p v +ℤ b *ℤ item next v) ≤ℤ (pos 0 *ℤ pos q)
+    one a b t = rw (dot-units n v a b p next h l) at (holds-so q (p ++ next) _ t .most)
 
     there : All (λ r. T (rowHolds q (p ++ next) r)) (stayingRows n v) → item next v ≡ item p v
     there (more s (more t none)) =
@@ -111,9 +114,16 @@ all-join f (x ∷ xs) h = more (all-left (f x) (joinAll f xs) h) (all-join f xs 
 joined : {A : Type 0} {P : A → Type 0} {C D : Type 0} (xs ys : List A) → All P xs ↔ C → All P ys ↔ D → All P (xs ++ ys) ↔ (C × D)
 joined xs ys f g = (λ h. (f .0 (all-left xs ys h), g .0 (all-right xs ys h)), λ w. all-append (f .1 (w .0)) (g .1 (w .1)))
 
--- rows put on the unknowns, where each holds exactly when it holds of the values at their own part
-module _ (n q : ℕ) (z : List ℤ) (put : Row → Row) (scale : ℕ) (p : List ℤ) (each : (r : Row) → length (r .coefficients) ≡ n → T (rowHolds q z (put r)) ↔ T (rowHolds scale p r)) where
-  rows-exactly : (sheet : ℕ) (rows : Condition) → Wide n rows → All (Holding q z) (map (standing sheet put) rows) ↔ T (conditionHolds scale p rows)
+-- rows put on the unknowns, where each that fits holds exactly when it holds of the values at their own part. Rows of a width fit, and of
+-- flow rows those that are not strict
+abbrev OfWidth : ℕ → Row → Type 0
+OfWidth n r = length (r .coefficients) ≡ n
+
+abbrev OnRates : ℕ → Row → Type 0
+OnRates n r = OfWidth n r × (r .strict ≡ false)
+
+module _ (Fits : Row → Type 0) (q : ℕ) (z : List ℤ) (put : Row → Row) (scale : ℕ) (p : List ℤ) (each : (r : Row) → Fits r → T (rowHolds q z (put r)) ↔ T (rowHolds scale p r)) where
+  rows-exactly : (sheet : ℕ) (rows : Condition) → All (λ r. Fits (r .row)) rows → All (Holding q z) (map (standing sheet put) rows) ↔ T (conditionHolds scale p rows)
   unfolding standing
   rows-exactly sheet rows w = (there, back)
     where
@@ -123,7 +133,7 @@ module _ (n q : ℕ) (z : List ℤ) (put : Row → Row) (scale : ℕ) (p : List 
       back : T (conditionHolds scale p rows) → All (Holding q z) (map (standing sheet put) rows)
       back t = all-map (standing sheet put) (all-so (λ r v. each (r .row) (v .0) .1 (v .1)) (all-both w (rows-hold scale p rows t)))
 
-  modes-exactly : (of : Mode → Condition) (modes : List Mode) → All (λ mode. Wide n (of mode)) modes → All (Holding q z) (modeRows of put modes) ↔ T (every (λ mode. conditionHolds scale p (of mode)) modes)
+  modes-exactly : (of : Mode → Condition) (modes : List Mode) → All (λ mode. All (λ r. Fits (r .row)) (of mode)) modes → All (Holding q z) (modeRows of put modes) ↔ T (every (λ mode. conditionHolds scale p (of mode)) modes)
   unfolding modeRows
   modes-exactly of modes w = (there, back)
     where
@@ -176,26 +186,26 @@ module _ (n q : ℕ) (modes : List Mode) (good : All (GoodMode n) modes) (p : Li
   x-exactly rest r h = on-x-exactly q p rest r (h ∙ sym sized)
 
   invariants-x : (rest : List ℤ) → All (Holding q (p ++ rest)) (modeRows (λ mode. mode .invariant) onX modes) ↔ T (every (λ mode. conditionHolds q p (mode .invariant)) modes)
-  invariants-x rest = modes-exactly n q (p ++ rest) onX q p (x-exactly rest) (λ mode. mode .invariant) modes (all-so (λ mode g. g .invariant) good)
+  invariants-x rest = modes-exactly (OfWidth n) q (p ++ rest) onX q p (x-exactly rest) (λ mode. mode .invariant) modes (all-so (λ mode g. g .invariant) good)
 
   -- start: the initial rows and the invariants
   pub start-exactly : All (Holding q (p ++ [])) (startHypotheses modes) ↔ (T (every (λ mode. conditionHolds q p (mode .initial)) modes) × T (every (λ mode. conditionHolds q p (mode .invariant)) modes))
   unfolding startHypotheses
   start-exactly =
       joined (modeRows (λ mode. mode .initial) onX modes) (modeRows (λ mode. mode .invariant) onX modes)
-      (modes-exactly n q (p ++ []) onX q p (x-exactly []) (λ mode. mode .initial) modes (all-so (λ mode g. g .initial) good))
+      (modes-exactly (OfWidth n) q (p ++ []) onX q p (x-exactly []) (λ mode. mode .initial) modes (all-so (λ mode g. g .initial) good))
       (invariants-x [])
 
   module _ (region : Condition) (wide : Wide n region) where
     region-x : (rest : List ℤ) → All (Holding q (p ++ rest)) (map (standing 1 onX) region) ↔ T (conditionHolds q p region)
-    region-x rest = rows-exactly n q (p ++ rest) onX q p (x-exactly rest) 1 region wide
+    region-x rest = rows-exactly (OfWidth n) q (p ++ rest) onX q p (x-exactly rest) 1 region wide
 
     -- unsafe: the region, the invariants and the unsafe rows
     pub unsafe-exactly : (rows : Condition) → Wide n rows → All (Holding q (p ++ [])) (unsafeHypotheses region modes rows) ↔ (T (conditionHolds q p region) × (T (every (λ mode. conditionHolds q p (mode .invariant)) modes) × T (conditionHolds q p rows)))
     unfolding unsafeHypotheses
     unsafe-exactly rows w =
         joined (map (standing 1 onX) region) _ (region-x [])
-        (joined (modeRows (λ mode. mode .invariant) onX modes) _ (invariants-x []) (rows-exactly n q (p ++ []) onX q p (x-exactly []) 0 rows w))
+        (joined (modeRows (λ mode. mode .invariant) onX modes) _ (invariants-x []) (rows-exactly (OfWidth n) q (p ++ []) onX q p (x-exactly []) 0 rows w))
 
     -- flow: the region and the invariants at p, the invariants at p', the rates, and a time d that is not below 0
     pub flow-exactly : (δ : ℕ) (next : List ℤ) → length next ≡ n → All (Holding q (p ++ (next ++ (pos δ ∷ [])))) (flowHypotheses n region modes) ↔ (T (conditionHolds q p region) × (T (every (λ mode. conditionHolds q p (mode .invariant)) modes) × (T (every (λ mode. conditionHolds q next (mode .invariant)) modes) × (T (every (λ mode. conditionHolds δ (difference next p) (mode .flow)) modes) × (pos 0 ≤ℤ pos δ)))))
@@ -205,9 +215,9 @@ module _ (n q : ℕ) (modes : List Mode) (good : All (GoodMode n) modes) (p : Li
         joined (map (standing 1 onX) region) _ (region-x (next ++ (pos δ ∷ [])))
         (joined (modeRows (λ mode. mode .invariant) onX modes) _ (invariants-x (next ++ (pos δ ∷ [])))
         (joined (modeRows (λ mode. mode .invariant) (onNext n) modes) _
-        (modes-exactly n q z (onNext n) q next (λ r h. on-next-exactly n q p next (pos δ ∷ []) r sized (h ∙ sym k)) (λ mode. mode .invariant) modes (all-so (λ mode g. g .invariant) good))
+        (modes-exactly (OfWidth n) q z (onNext n) q next (λ r h. on-next-exactly n q p next (pos δ ∷ []) r sized (h ∙ sym k)) (λ mode. mode .invariant) modes (all-so (λ mode g. g .invariant) good))
         (joined (modeRows (λ mode. mode .flow) onRates modes) _
-        (modes-exactly n q z onRates δ (difference next p) (λ r h. on-rates-exactly q δ p next r (h ∙ sym sized) (h ∙ sym k)) (λ mode. mode .flow) modes (all-so (λ mode g. g .flow) good))
+        (modes-exactly (OnRates n) q z onRates δ (difference next p) (λ r h. on-rates-exactly q δ p next r (h .1) (h .0 ∙ sym sized) (h .0 ∙ sym k)) (λ mode. mode .flow) modes (all-so (λ mode g. all-both (g .flow) (g .rates)) good))
         (last-exactly n q p next (pos δ) sized k))))
 
     -- jump: the region and the invariants at p, the target's invariants at p', the jump rows, and equal values of the staying variables
@@ -217,7 +227,7 @@ module _ (n q : ℕ) (modes : List Mode) (good : All (GoodMode n) modes) (p : Li
         joined (map (standing 1 onX) region) _ (region-x next)
         (joined (modeRows (λ mode. mode .invariant) onX modes) _ (invariants-x next)
         (joined (modeRows (λ mode. mode .invariant) (onNext n) targets) _
-        (modes-exactly n q (p ++ next) (onNext n) q next (next-exactly next k) (λ mode. mode .invariant) targets (all-so (λ mode g. g .invariant) goods))
+        (modes-exactly (OfWidth n) q (p ++ next) (onNext n) q next (next-exactly next k) (λ mode. mode .invariant) targets (all-so (λ mode g. g .invariant) goods))
         (joined (joinAll (λ w. map (standing 0 onX) (w .jump)) moving) _ (jumps-exactly q p next moving) (stayings-exactly n q p next staying sized below))))
       where
         next-exactly : (next : List ℤ) → length next ≡ n → (r : Row) → length (r .coefficients) ≡ n → T (rowHolds q (p ++ next) (onNext n r)) ↔ T (rowHolds q next r)

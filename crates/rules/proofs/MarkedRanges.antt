@@ -15,7 +15,7 @@ use Rattle.farkas.specs.Rows.{Row, zeroRow}
 use Rattle.farkas.specs.Farkas.{Proof, farkasTest}
 use Rattle.farkas.proofs.All.{all-append, all-map, all-at}
 use Rattle.farkas.proofs.Promise.{only-three}
-use Rattle.formats.specs.Reading.{Got, got, refused, _>>=_, _>>_, u8, u16, u32, within, below, andThen, give, here, header, finished}
+use Rattle.formats.specs.Reading.{Got, got, refused, _>>=_, _>>_, u8, u16, u32, within, below, andThen, give, here, finished}
 use Rattle.formats.specs.Rows.{Condition}
 use Rattle.formats.specs.Model.{Mode, Component, Unsafe, Model}
 use Rattle.formats.specs.Locations.{locationCount, modesAt, modeOf}
@@ -25,15 +25,15 @@ use Rattle.formats.specs.ModelSheet.{readModel}
 use Rattle.formats.specs.Certificate.{readRegions}
 use Rattle.formats.specs.RunSheet.{Step, Opening, readValues, readOpening}
 use Rattle.formats.proofs.Gives.{Gives, passes, gives-bind, gives-then, gives-give, gives-any, gives-within}
-use Rattle.formats.proofs.Placed.{Fine, placed-then, placed-within, placed-u16, placed-u32, placed-header, placed-finished, placed-regions, placed-proof, placed-opening, placed-step, model-fine}
+use Rattle.formats.proofs.Placed.{Fine, placed-then, placed-within, placed-u16, placed-u32, placed-finished, placed-regions, placed-proof, placed-opening, placed-step, model-fine}
 use Rattle.formats.proofs.Members.{all-members}
 use Rattle.formats.proofs.RowPlaces.{RowsWithin, ModeWithin, ComponentWithin, ModelWithin, rows-within, regions-within}
 use Rattle.rules.specs.declared.Answer.{Answer}
 use Rattle.rules.specs.Runs.{State, present, modesIn, startAllowed, movers, stayingVariables, stepAllowed, after, modesFit, isUnsafe}
 use Rattle.rules.specs.Obligations.{Hypothesis, nowhere, standing, onX, onNext, onRates, timeRow, stayingRows, modeRows, startHypotheses, flowHypotheses, unsafeHypotheses, jumpHypotheses, Kind, atStart, afterFlow, afterJump, Obligation, zeroOnly, perRow, startObligations, flowObligations, unsafeObligations, locationObligations, jumpObligations, jumpsObligations, obligationsOver, regionOf, obligations}
 use Rattle.rules.proofs.Calls.{foundBy}
-use Rattle.rules.proofs.Opening.{Begins, begins, with-model}
-use Rattle.rules.specs.Opening.{openModel}
+use Rattle.rules.proofs.Opening.{Begins, begins, with-model, placed-second}
+use Rattle.rules.specs.Opening.{openModel, openSecond}
 use Rattle.rules.specs.Marking.{answer, scoreOf, refusedScore, Marked, passed, stopped, testProof, markProof, markProofs, closeCertificate, markRegions, markCertificate, testStep, markStep, markSteps, closeRun, firstState, markOpening, markRun}
 use Rattle.rules.specs.Beside.{listAnswer, Found, found, unfound, noObligation, findIn, findAfter, findHypothesis, foundAnswer, showAnswer, sheetOf, listOf}
 use Rattle.rules.proofs.Hypotheses.{all-so, join-all}
@@ -109,18 +109,18 @@ close-certificate model second total (passed u place done) w =
     go (refused number at) x = let l = refused-score-fits done total in omega arith
 
 -- the second sheet up to its regions
-pub regions-fine : (m : Model) (s : List ℕ) → Fine s 0 ((header 2 >> readRegions m) s 0)
-regions-fine m s = placed-then {least = 0} (placed-header 2) (placed-regions m) .fine s 0 (omega arith) (omega arith)
+pub regions-fine : (m : Model) (s : List ℕ) → Fine s 0 ((openSecond 2 m >> readRegions m) s 0)
+regions-fine m s = placed-then {least = 0} (placed-second 2 m) (placed-regions m) .fine s 0 (omega arith) (omega arith)
 
 -- proofs done: none, or, once the regions are read, at most one for each obligation
 pub data ProofsDone (limits : Limits) (model second : List ℕ) (done : ℕ) : Type 0 where
   before-proofs : done ≡ 0 → ProofsDone limits model second done
-  of-obligations : {m : Model} {modelEnd : ℕ} {regions : List Condition} {place : ℕ} → readModel limits model ≡ got m modelEnd → (header 2 >> readRegions m) second 0 ≡ got regions place → done ≤ length (obligations m regions) → ProofsDone limits model second done
+  of-obligations : {m : Model} {modelEnd : ℕ} {regions : List Condition} {place : ℕ} → readModel limits model ≡ got m modelEnd → (openSecond 2 m >> readRegions m) second 0 ≡ got regions place → done ≤ length (obligations m regions) → ProofsDone limits model second done
 
 abbrev CertificateRange : Limits → List ℕ → List ℕ → Answer → Type 0
 CertificateRange limits model second a = AnswerRange model second a × ProofsDone limits model second (a .done)
 
-regions-marked : (limits : Limits) (model second : List ℕ) (m : Model) (modelEnd : ℕ) (g : Got (List Condition)) → readModel limits model ≡ got m modelEnd → (header 2 >> readRegions m) second 0 ≡ g → Fine second 0 g → CertificateRange limits model second (markRegions m second g)
+regions-marked : (limits : Limits) (model second : List ℕ) (m : Model) (modelEnd : ℕ) (g : Got (List Condition)) → readModel limits model ≡ got m modelEnd → (openSecond 2 m >> readRegions m) second 0 ≡ g → Fine second 0 g → CertificateRange limits model second (markRegions m second g)
 unfolding markRegions answer
 regions-marked limits model second m modelEnd (got regions place) e d w =
     let all : List Obligation = obligations m regions in
@@ -143,8 +143,8 @@ pub certificate-done : (limits : Limits) (model second : List ℕ) → ProofsDon
 certificate-done limits model second = certificate-ranges limits model second .1
 
 -- a run sheet up to its opening
-pub opening-fine : (m : Model) (s : List ℕ) → Fine s 0 ((header 3 >> readOpening m) s 0)
-opening-fine m s = placed-then {least = 0} (placed-header 3) (placed-opening m) .fine s 0 (omega arith) (omega arith)
+pub opening-fine : (m : Model) (s : List ℕ) → Fine s 0 ((openSecond 3 m >> readOpening m) s 0)
+opening-fine m s = placed-then {least = 0} (placed-second 3 m) (placed-opening m) .fine s 0 (omega arith) (omega arith)
 
 pub opening-gives : (m : Model) → Gives (λ o. (1 ≤ o .q) × (o .steps ≤ 4095)) (readOpening m)
 unfolding readOpening
@@ -161,7 +161,7 @@ got-fine s p g a next w e = subst (λ x. Fine s p x) e w .1
 opening-rest : (m : Model) (q steps place : ℕ) → Gives {A = Opening} (λ o. o .place ≡ place) (below (locationCount (m .components)) u8 >>= λ location. readValues (m .variables) >>= λ values. give (record { q = q; steps = steps; place = place; location = location; values = values }))
 opening-rest m q steps place = gives-bind gives-any (λ location u. gives-bind gives-any (λ values u. gives-give _ refl))
 
-opening-place : (m : Model) (s : List ℕ) (p : ℕ) (o : Opening) (next : ℕ) → p ≤ length s → readOpening m s p ≡ got o next → o .place ≤ length s
+pub opening-place : (m : Model) (s : List ℕ) (p : ℕ) (o : Opening) (next : ℕ) → p ≤ length s → readOpening m s p ≡ got o next → o .place ≤ length s
 unfolding readOpening _>>=_ andThen here
 opening-place m s p o next h e =
     let w = passes (within 1 (2 ^ 24 - 1) u32 s p) _ s o next e in
@@ -206,12 +206,12 @@ close-run model second m q total (passed v place done) w =
 -- steps done: none, or, once the opening is read, at most as many as it says
 pub data StepsDone (limits : Limits) (model second : List ℕ) (done : ℕ) : Type 0 where
   before-steps : done ≡ 0 → StepsDone limits model second done
-  of-opening : {m : Model} {modelEnd : ℕ} {o : Opening} {place : ℕ} → readModel limits model ≡ got m modelEnd → (header 3 >> readOpening m) second 0 ≡ got o place → done ≤ o .steps → StepsDone limits model second done
+  of-opening : {m : Model} {modelEnd : ℕ} {o : Opening} {place : ℕ} → readModel limits model ≡ got m modelEnd → (openSecond 3 m >> readOpening m) second 0 ≡ got o place → done ≤ o .steps → StepsDone limits model second done
 
 abbrev RunRange : Limits → List ℕ → List ℕ → Answer → Type 0
 RunRange limits model second a = AnswerRange model second a × StepsDone limits model second (a .done)
 
-opening-marked : (limits : Limits) (model second : List ℕ) (m : Model) (modelEnd : ℕ) (g : Got Opening) → readModel limits model ≡ got m modelEnd → (header 3 >> readOpening m) second 0 ≡ g → Fine second 0 g → RunRange limits model second (markOpening m second g)
+opening-marked : (limits : Limits) (model second : List ℕ) (m : Model) (modelEnd : ℕ) (g : Got Opening) → readModel limits model ≡ got m modelEnd → (openSecond 3 m >> readOpening m) second 0 ≡ g → Fine second 0 g → RunRange limits model second (markOpening m second g)
 unfolding markOpening answer _>>_
 opening-marked limits model second m modelEnd (got o place) e d w = go (startAllowed m (o .q) (firstState o))
   where
@@ -220,8 +220,8 @@ opening-marked limits model second m modelEnd (got o place) e d w = go (startAll
         let h = close-run model second m (o .q) (o .steps) _ (steps-mark m (o .q) (firstState o) (o .steps) second place 0 (o .steps) (w .1) (omega arith)) in
         (h .0, of-opening e d (h .1))
     go false =
-        let v = passes (header 3 second 0) _ second o place d in
-        let i = got-fine second 0 _ _ _ (placed-header {least = 0} 3 .fine second 0 (omega arith) (omega arith)) (v .first) in
+        let v = passes (openSecond 3 m second 0) _ second o place d in
+        let i = got-fine second 0 _ _ _ (placed-second {least = 0} 3 m .fine second 0 (omega arith) (omega arith)) (v .first) in
         let j = opening-place m second (v .place) o place i (v .second) in
         (omega arith, before-steps refl)
 opening-marked limits model second m modelEnd (refused number at) e d w = (omega arith, before-steps refl)
@@ -243,7 +243,7 @@ run-done limits model second = run-ranges limits model second .1
 steps-few : (limits : Limits) (model second : List ℕ) (done : ℕ) → StepsDone limits model second done → done ≤ 4095
 steps-few limits model second done (before-steps e) = omega arith
 steps-few limits model second done (of-opening {m = m} {o = o} {place = place} e d h) =
-    let k = gives-then (header 3) (opening-gives m) .holds second 0 o place d in
+    let k = gives-then (openSecond 3 m) (opening-gives m) .holds second 0 o place d in
     omega arith
 
 pub run-few : (limits : Limits) (model second : List ℕ) → markRun limits model second .done ≤ 4095
@@ -420,10 +420,10 @@ module _ (limits : Limits) (model second : List ℕ) (o h : ℕ) where
       go true = all-at _ (record { sheet = omega arith; ends = omega arith }) (all-at noObligation none w o) h
       go false = omega arith
 
-  after-well : (m : Model) (g : Got (List Condition)) → ModelWithin model m → (header 2 >> readRegions m) second 0 ≡ g → Fine second 0 g → FoundWell model second (findAfter m o h g)
+  after-well : (m : Model) (g : Got (List Condition)) → ModelWithin model m → (openSecond 2 m >> readRegions m) second 0 ≡ g → Fine second 0 g → FoundWell model second (findAfter m o h g)
   unfolding findAfter sheetOf _>>_
   after-well m (got regions next) w e x =
-      let v = passes (header 2 second 0) _ second regions next e in
+      let v = passes (openSecond 2 m second 0) _ second regions next e in
       in-well (obligations m regions) (obligations-standing model second m regions w (regions-within m second (v .place) regions next (v .second)))
   after-well m (refused number at) w e x = omega arith
 

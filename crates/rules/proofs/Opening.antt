@@ -1,4 +1,4 @@
--- How a call begins: every case of its stated limits and its model. Assumes nothing.
+-- How a call begins: every case of its stated limits and its model, and how its second sheet opens. Assumes nothing.
 use mathlib.Core.Path.{_≡_, refl, sym, ap₂, subst}
 use mathlib.Core.Bool.{Bool, true, false}
 use mathlib.Core.List.{List}
@@ -9,9 +9,9 @@ use Rattle.formats.specs.Reading.{Got, got, refused}
 use Rattle.formats.specs.Model.{Model}
 use Rattle.formats.specs.declared.Limits.{Limits}
 use Rattle.formats.specs.ModelSheet.{limitsFit, readModel}
-use Rattle.formats.proofs.Placed.{Fine, model-fine}
+use Rattle.formats.proofs.Placed.{Fine, Placed, placed-header, model-fine}
 use Rattle.rules.specs.declared.Answer.{Answer}
-use Rattle.rules.specs.Opening.{ModelOpened, opens, shut, openAs, openModel}
+use Rattle.rules.specs.Opening.{ModelOpened, opens, shut, openAs, openModel, openSecond}
 use Rattle.rules.specs.Marking.{answer, withModel}
 use Rattle.rules.proofs.ListFacts.{is-true}
 
@@ -58,3 +58,8 @@ with-model P limits model f unfits refusal value = go (begins limits model)
         let w = subst (Fine model 0) e (model-fine limits model) in
         subst (λ x. P (withModel x f)) (sym o) (refusal number at (w .0) (w .1) (w .2))
     go (Begins.begun m end t e o) = subst (λ x. P (withModel x f)) (sym o) (value m end t e)
+
+-- the second sheet: where its body begins, and the place of a refusal, are in the sheet, and a refusal has a number
+pub placed-second : {least : ℕ} (kind : ℕ) (m : Model) → Placed least (openSecond kind m)
+unfolding openSecond
+placed-second kind m = placed-header kind

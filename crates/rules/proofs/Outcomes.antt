@@ -12,7 +12,7 @@ use lib.ListN.{length}
 use mir.Facts.{yes-and}
 use Rattle.farkas.specs.Farkas.{Proof, Meets, farkasTest}
 use Rattle.farkas.proofs.Promise.{zero-means}
-use Rattle.formats.specs.Reading.{Got, got, refused, _>>_, give, many, each, header, finished}
+use Rattle.formats.specs.Reading.{Got, got, refused, _>>_, give, many, each, finished}
 use Rattle.formats.specs.Rows.{Condition}
 use Rattle.formats.specs.Model.{Model}
 use Rattle.formats.specs.declared.Limits.{Limits}
@@ -24,7 +24,7 @@ use Rattle.rules.specs.declared.Answer.{Answer}
 use Rattle.rules.specs.Runs.{State, startAllowed, stepAllowed, stepsAllowed, after, endOf, isUnsafe}
 use Rattle.rules.specs.Obligations.{Obligation, obligations}
 use Rattle.rules.proofs.Opening.{Begins, begins, read-opens}
-use Rattle.rules.specs.Opening.{ModelOpened, openModel}
+use Rattle.rules.specs.Opening.{ModelOpened, openModel, openSecond}
 use Rattle.rules.specs.Marking.{answer, scoreOf, refusedScore, Marked, passed, stopped, testProof, markProof, markProofs, closeCertificate, markRegions, withModel, markCertificate, testStep, markStep, markSteps, closeRun, firstState, markOpening, markRun}
 use Rattle.rules.specs.ReadWell.{readProofs, rowsOf, AllMeet, met-none, met-more, CertificateHolds, RunSheet}
 use Rattle.rules.specs.Outcomes.{ProofFails, ProofsStop, StepFails, StepsStop, CertificateEnds, RunEnds}
@@ -273,7 +273,7 @@ certificate-accepted limits model second w =
     let v = parts-of (w .m) second (w .certificate) (w .secondEnd) (w .secondReads) in
     let all = obligations (w .m) (w .certificate .regions) in
     let passes-all = read-marked all second (v .place) 0 (w .certificate .proofs) (v .next) (v .proofs) (w .meet) in
-    ap (λ g. withModel g (λ m. markRegions m second ((header 2 >> readRegions m) second 0))) (read-opens limits model (w .m) (w .modelEnd) (w .fit) (w .modelReads))
+    ap (λ g. withModel g (λ m. markRegions m second ((openSecond 2 m >> readRegions m) second 0))) (read-opens limits model (w .m) (w .modelEnd) (w .fit) (w .modelReads))
     ∙ ap (λ g. markRegions (w .m) second g) (v .regions)
     ∙ ap (λ k. closeCertificate (length all) second k) passes-all
     ∙ ap (λ g. elim g as (λ x. Answer) [ got u k ↦ answer 0 1 (length second) (0 + length all) (scoreOf (0 + length all) (length all)) | refused n at ↦ answer n 1 at (0 + length all) (refusedScore (0 + length all) (length all)) ]) (v .finishes)
@@ -285,7 +285,7 @@ certificate-accepted limits model second w =
 
 -- what every marking of a certificate says
 module _ (limits : Limits) (model second : List ℕ) (m : Model) (end : ℕ) (fit : T (limitsFit limits)) (reads : readModel limits model ≡ got m end) where
-  module _ (regions : List Condition) (place : ℕ) (regioned : (header 2 >> readRegions m) second 0 ≡ got regions place) where
+  module _ (regions : List Condition) (place : ℕ) (regioned : (openSecond 2 m >> readRegions m) second 0 ≡ got regions place) where
     abbrev all : List Obligation
     all = obligations m regions
 
@@ -309,7 +309,7 @@ module _ (limits : Limits) (model second : List ℕ) (m : Model) (end : ℕ) (fi
         let w = marked-read all second place 0 u next d e in
         finish-ends (w .0 .proofs) next d (w .0 .read) (w .0 .meet) (w .1) (finished second next) refl
 
-  regions-end : (g : Got (List Condition)) → (header 2 >> readRegions m) second 0 ≡ g → CertificateEnds limits model second (markRegions m second g)
+  regions-end : (g : Got (List Condition)) → (openSecond 2 m >> readRegions m) second 0 ≡ g → CertificateEnds limits model second (markRegions m second g)
   unfolding markRegions
   regions-end (refused number at) e = CertificateEnds.regions-unread fit reads e refl
   regions-end (got regions place) e = proofs-end regions place e (markProofs (obligations m regions) second place 0) refl
@@ -319,16 +319,16 @@ unfolding markCertificate withModel
 certificate-ends limits model second = go (begins limits model)
   where
     ends : ModelOpened → Type 0
-    ends g = CertificateEnds limits model second (withModel g (λ m. markRegions m second ((header 2 >> readRegions m) second 0)))
+    ends g = CertificateEnds limits model second (withModel g (λ m. markRegions m second ((openSecond 2 m >> readRegions m) second 0)))
 
     go : Begins limits model (openModel limits model) → ends (openModel limits model)
     go (Begins.unfit e o) = subst ends (sym o) (CertificateEnds.limits-unfit e refl)
     go (Begins.unread number at t e o) = subst ends (sym o) (CertificateEnds.model-unread t e refl)
-    go (Begins.begun m end t e o) = subst ends (sym o) (regions-end limits model second m end t e ((header 2 >> readRegions m) second 0) refl)
+    go (Begins.begun m end t e o) = subst ends (sym o) (regions-end limits model second m end t e ((openSecond 2 m >> readRegions m) second 0) refl)
 
 -- what every marking of a run says
 module _ (limits : Limits) (model second : List ℕ) (m : Model) (end : ℕ) (fit : T (limitsFit limits)) (reads : readModel limits model ≡ got m end) where
-  module _ (o : Opening) (place : ℕ) (opened : (header 3 >> readOpening m) second 0 ≡ got o place) (starts : T (startAllowed m (o .q) (firstState o))) where
+  module _ (o : Opening) (place : ℕ) (opened : (openSecond 3 m >> readOpening m) second 0 ≡ got o place) (starts : T (startAllowed m (o .q) (firstState o))) where
     abbrev first : State
     first = firstState o
 
@@ -354,7 +354,7 @@ module _ (limits : Limits) (model second : List ℕ) (m : Model) (end : ℕ) (fi
         let c : d ≡ o .steps = cc in
         close-ends v (w .steps) next d (w .read) (w .allowed) (w .ends) c (finished second next) refl
 
-  opening-ends : (g : Got Opening) → (header 3 >> readOpening m) second 0 ≡ g → RunEnds limits model second (markOpening m second g)
+  opening-ends : (g : Got Opening) → (openSecond 3 m >> readOpening m) second 0 ≡ g → RunEnds limits model second (markOpening m second g)
   unfolding markOpening
   opening-ends (refused number at) e = RunEnds.opening-unread fit reads e refl
   opening-ends (got o place) e = go (startAllowed m (o .q) (firstState o)) refl
@@ -368,9 +368,9 @@ unfolding markRun withModel
 run-ends limits model second = go (begins limits model)
   where
     ends : ModelOpened → Type 0
-    ends g = RunEnds limits model second (withModel g (λ m. markOpening m second ((header 3 >> readOpening m) second 0)))
+    ends g = RunEnds limits model second (withModel g (λ m. markOpening m second ((openSecond 3 m >> readOpening m) second 0)))
 
     go : Begins limits model (openModel limits model) → ends (openModel limits model)
     go (Begins.unfit e o) = subst ends (sym o) (RunEnds.limits-unfit e refl)
     go (Begins.unread number at t e o) = subst ends (sym o) (RunEnds.model-unread t e refl)
-    go (Begins.begun m end t e o) = subst ends (sym o) (opening-ends limits model second m end t e ((header 3 >> readOpening m) second 0) refl)
+    go (Begins.begun m end t e o) = subst ends (sym o) (opening-ends limits model second m end t e ((openSecond 3 m >> readOpening m) second 0) refl)

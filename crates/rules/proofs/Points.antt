@@ -1,6 +1,7 @@
 -- Rows at the points that obligations speak of: p, then p', then δ. A row on x, on x', on rates, the time row and the staying rows
 -- hold at the joined point exactly by what they mean at its parts. Assumes nothing.
 use mathlib.Core.Path.{_≡_, refl, sym, ap, _∙_}
+use mathlib.Core.Bool.{false}
 use mathlib.Core.List.{List, [], _∷_, _++_, map, append-nil, append-assoc}
 use Prim.Native.Nat.{ℕ, zero, suc, _+_, _<_}
 use native.Mathlib.Omega.{arith}
@@ -8,8 +9,9 @@ use lib.Dec.{T}
 use lib.IntN.{ℤ, pos, negsuc, negℤ, _+ℤ_, _-ℤ_, _*ℤ_, +ℤ-idl, +ℤ-idr}
 use lib.ListN.{length, getD, set, replicate, length-append, length-set, length-map}
 use lib.Signed.{_≤ℤ_}
-use Rattle.farkas.specs.Rows.{Row, item, dot, rowHolds}
+use Rattle.farkas.specs.Rows.{Row, Compared, item, dot, rowHolds}
 use Rattle.farkas.specs.Lists.{All, none, more}
+use Rattle.farkas.proofs.Comparing.{compared-means, compared-plain}
 use Rattle.farkas.proofs.Integers.{split, by-parts}
 use Rattle.rules.specs.Runs.{difference}
 use Rattle.rules.specs.Obligations.{onX, onNext, onRates, timeRow, unit, stayingRows}
@@ -81,13 +83,13 @@ dot-unit (suc n) (suc v) a (p ∷ ps) h = ap (λ z. pos 0 *ℤ p +ℤ z) (dot-un
     past p z = rw (split p, split z) (simp by-parts (omega arith))
 
 -- a row holds by the order
-pub holds-by : (q : ℕ) (x : List ℤ) (r : Row) → dot (r .coefficients) x ≤ℤ (r .bound *ℤ pos q) → T (rowHolds q x r)
+pub holds-by : (q : ℕ) (x : List ℤ) (r : Row) → Compared (r .strict) (dot (r .coefficients) x) (r .bound *ℤ pos q) → T (rowHolds q x r)
 unfolding rowHolds
-holds-by q x r h = h .le
+holds-by q x r h = compared-means (r .strict) (dot (r .coefficients) x) (r .bound *ℤ pos q) .1 h
 
-pub holds-so : (q : ℕ) (x : List ℤ) (r : Row) → T (rowHolds q x r) → dot (r .coefficients) x ≤ℤ (r .bound *ℤ pos q)
+pub holds-so : (q : ℕ) (x : List ℤ) (r : Row) → T (rowHolds q x r) → Compared (r .strict) (dot (r .coefficients) x) (r .bound *ℤ pos q)
 unfolding rowHolds
-holds-so q x r t = record { le = t }
+holds-so q x r t = compared-means (r .strict) (dot (r .coefficients) x) (r .bound *ℤ pos q) .0 t
 
 -- on x
 pub on-x : (q : ℕ) (p rest : List ℤ) (r : Row) → length (r .coefficients) ≡ length p → T (rowHolds q p r) → T (rowHolds q (p ++ rest) (onX r))
@@ -131,9 +133,10 @@ pub on-rates : (q δ : ℕ) (p next : List ℤ) (r : Row) → length (r .coeffic
 unfolding onRates
 on-rates q δ p next r h k t =
     holds-by q (p ++ (next ++ (pos δ ∷ []))) (onRates r)
+    (compared-plain refl
     (rw (dot-rates p next δ r h k)
     (moved (dot (r .coefficients) p) (dot (r .coefficients) next) (r .bound) (pos δ) (pos q)
-    (rw (dot-difference (r .coefficients) next p (sym k ∙ h)) at (holds-so δ (difference next p) r t))))
+    (rw (dot-difference (r .coefficients) next p (sym k ∙ h)) at (holds-so δ (difference next p) r t .most)))))
   where
     moved : (a b c d q : ℤ) → (b -ℤ a) ≤ℤ (c *ℤ d) → (negℤ a +ℤ (b +ℤ negℤ c *ℤ d)) ≤ℤ (pos 0 *ℤ q)
     moved a b c d q = rw (split a, split b, split c, split d, split q) (simp by-parts (omega arith))
@@ -143,7 +146,7 @@ pub time-holds : (n q δ : ℕ) (p next : List ℤ) → length p ≡ n → lengt
 unfolding timeRow
 time-holds n q δ p next h k =
     holds-by q (p ++ (next ++ (pos δ ∷ []))) (timeRow n)
-    (rw (← append-assoc p next (pos δ ∷ []), dot-append (replicate (n + n) (pos 0)) (negsuc 0 ∷ []) (p ++ next) (pos δ ∷ []) both, dot-zeros (n + n) (p ++ next), dot-one (negsuc 0) (pos δ)) (passes δ (pos q)))
+    (compared-plain refl (rw (← append-assoc p next (pos δ ∷ []), dot-append (replicate (n + n) (pos 0)) (negsuc 0 ∷ []) (p ++ next) (pos δ ∷ []) both, dot-zeros (n + n) (p ++ next), dot-one (negsuc 0) (pos δ)) (passes δ (pos q))))
   where
     both : length (replicate (n + n) (pos 0)) ≡ length (p ++ next)
     both = length-zeros (n + n) ∙ omega (arith, length-append p next)
@@ -163,8 +166,8 @@ dot-units n v a b p next h l =
     ∙ ap (λ z. z +ℤ dot (unit n v b) next) (dot-unit n v a p l)
     ∙ ap (λ z. a *ℤ item p v +ℤ z) (dot-unit n v b next l)
 
-staying-one : (n q v : ℕ) (a b : ℤ) (p next : List ℤ) → length p ≡ n → v < n → (a *ℤ item p v +ℤ b *ℤ item next v) ≤ℤ (pos 0 *ℤ pos q) → T (rowHolds q (p ++ next) (record { coefficients = unit n v a ++ unit n v b; bound = pos 0 }))
-staying-one n q v a b p next h l w = holds-by q (p ++ next) _ (rw (dot-units n v a b p next h l) w)
+staying-one : (n q v : ℕ) (a b : ℤ) (p next : List ℤ) → length p ≡ n → v < n → (a *ℤ item p v +ℤ b *ℤ item next v) ≤ℤ (pos 0 *ℤ pos q) → T (rowHolds q (p ++ next) (record { coefficients = unit n v a ++ unit n v b; bound = pos 0; strict = false }))
+staying-one n q v a b p next h l w = holds-by q (p ++ next) _ (compared-plain refl (rw (dot-units n v a b p next h l) w))
 
 pub staying-hold : (n q v : ℕ) (p next : List ℤ) → length p ≡ n → v < n → item next v ≡ item p v → All (λ r. T (rowHolds q (p ++ next) r)) (stayingRows n v)
 unfolding stayingRows

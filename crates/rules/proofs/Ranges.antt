@@ -15,6 +15,7 @@ use lib.Signed.{leZ, _≤ℤ_}
 use mir.Facts.{and-yes}
 use Rattle.farkas.specs.Farkas.{Entry, Proof}
 use Rattle.farkas.specs.Lists.{All}
+use Rattle.formats.specs.Versions.{versionFits, kindFits}
 use Rattle.formats.specs.Reading.{got, Reader, u8, u16, u32, s32, must, within, withinSigned, each, header, here, finished, sized}
 use Rattle.formats.specs.Rows.{Condition, readCondition}
 use Rattle.formats.specs.Model.{Mode, Switch, Component, Unsafe, Model, hasEvent, readMode, readSwitch, readComponent, readUnsafe, readModelBody}
@@ -25,6 +26,7 @@ use Rattle.formats.specs.ModelSheet.{readModel}
 use Rattle.formats.proofs.ModelSheet.{chain, in-a-chain, read-whole}
 use Rattle.formats.specs.Certificate.{readEntry, readEntries, readProof}
 use Rattle.formats.specs.RunSheet.{Step, flow, jump, Opening, readValues, readOpening, readFlow, readJump, readStepOf, readStep}
+use Rattle.formats.proofs.Versions.{only-one}
 use Rattle.formats.proofs.Gives.{Gives, gives-bind, gives-then, gives-give, gives-any, gives-must, gives-weaken, gives-within, gives-below, gives-many}
 use Rattle.formats.proofs.WellFormed.{condition-gives}
 use Rattle.rules.specs.Runs.{modesFit}
@@ -124,8 +126,8 @@ either : (a b : Bool) → T (a || b) → T a ⊎ T b
 either true b t = inl tt
 either false b t = inr t
 
-rows-give : (most n : ℕ) → Gives (Rows most n) (readCondition most n)
-rows-give most n = gives-weaken (λ rows w. record { count = w .0; width = w .1 }) (condition-gives most n)
+rows-give : (most version n : ℕ) → Gives (Rows most n) (readCondition version most n)
+rows-give most version n = gives-weaken (λ rows w. record { count = w .0; width = w .1 }) (condition-gives most version n)
 
 no-rows : (rows : Condition) → length rows ≤ 0 → rows ≡ []
 no-rows [] h = refl
@@ -136,16 +138,16 @@ initial-most zero n rows w = (record { count = omega (arith, w .count); width = 
 initial-most (suc start) n rows w =
     (subst (λ (b : Bool). Rows (cond b 0 8) n rows) (ne-eqb (suc start) 0 (λ e. absurd (omega arith))) w, λ e. absurd (omega arith))
 
-mode-ranges : (n : ℕ) → Gives (ModeRanges n) (readMode n)
+mode-ranges : (version n : ℕ) → Gives (ModeRanges n) (readMode version n)
 unfolding readMode
-mode-ranges n =
+mode-ranges version n =
     gives-bind (gives-within 0 1 u8)
     (λ start u.
-    gives-bind (rows-give (cond (eqb start 0) 0 8) n)
+    gives-bind (rows-give (cond (eqb start 0) 0 8) version n)
     (λ initial i.
-    gives-bind (rows-give 8 n)
+    gives-bind (rows-give 8 version n)
     (λ invariant j.
-    gives-bind (rows-give 8 n)
+    gives-bind (rows-give 8 version n)
     (λ flow k.
     gives-give _
     (record {
@@ -159,30 +161,30 @@ mode-ranges n =
 label-known : (alphabet v : ℕ) → T (eqb v 0 || hasEvent alphabet v) → (v ≡ 0) ⊎ T (hasEvent alphabet v)
 label-known alphabet v t = ⊎-elim (λ h. inl (eqb→eq v 0 h)) (λ h. inr h) (either (eqb v 0) (hasEvent alphabet v) t)
 
-switch-ranges : (n alphabet modes : ℕ) → Gives (SwitchRanges n alphabet modes) (readSwitch n alphabet modes)
+switch-ranges : (version n alphabet modes : ℕ) → Gives (SwitchRanges n alphabet modes) (readSwitch version n alphabet modes)
 unfolding readSwitch
-switch-ranges n alphabet modes =
+switch-ranges version n alphabet modes =
     gives-bind (gives-below modes u8)
     (λ source i.
     gives-bind (gives-below modes u8)
     (λ target j.
     gives-bind (gives-must (λ v. eqb v 0 || hasEvent alphabet v) 6 (gives-within 0 15 u8))
     (λ label k.
-    gives-bind (rows-give 8 (2 * n))
+    gives-bind (rows-give 8 version (2 * n))
     (λ jump w. gives-give _ (record { source = i; target = j; label = k .1 .1; known = label-known alphabet label (k .0); jump = w })))))
 
-component-ranges : (n : ℕ) → Gives (ComponentRanges n) (readComponent n)
+component-ranges : (version n : ℕ) → Gives (ComponentRanges n) (readComponent version n)
 unfolding readComponent
-component-ranges n =
+component-ranges version n =
     gives-bind (gives-must (λ v. eqb (v % 2) 0) 5 gives-any)
     (λ alphabet u.
     gives-bind (gives-within 1 8 u8)
     (λ modeCount i.
     gives-bind (gives-within 0 32 u8)
     (λ switchCount j.
-    gives-bind (gives-many modeCount (mode-ranges n))
+    gives-bind (gives-many modeCount (mode-ranges version n))
     (λ modes k.
-    gives-bind (gives-many switchCount (switch-ranges n alphabet modeCount))
+    gives-bind (gives-many switchCount (switch-ranges version n alphabet modeCount))
     (λ switches w.
     gives-give _
     (record {
@@ -197,13 +199,13 @@ component-ranges n =
 below-or-any : (count v : ℕ) → T (ltb v count || eqb v 255) → (v < count) ⊎ (v ≡ 255)
 below-or-any count v t = ⊎-elim (λ h. inl (ltb→lt v count h)) (λ h. inr (eqb→eq v 255 h)) (either (ltb v count) (eqb v 255) t)
 
-unsafe-ranges : (n : ℕ) (components : List Component) → Gives (UnsafeRanges n components) (readUnsafe n components)
+unsafe-ranges : (version n : ℕ) (components : List Component) → Gives (UnsafeRanges n components) (readUnsafe version n components)
 unfolding readUnsafe
-unsafe-ranges n components =
+unsafe-ranges version n components =
     gives-bind
     (gives-each {P = λ c v. (v < length (c .modes)) ⊎ (v ≡ 255)}
     (λ c. gives-weaken (λ v w. below-or-any (length (c .modes)) v (w .0)) (gives-must (λ v. ltb v (length (c .modes)) || eqb v 255) 5 (gives-any {r = u8}))) components)
-    (λ modes u. gives-bind (rows-give 8 n) (λ rows w. gives-give _ (record { modes = u; rows = w })))
+    (λ modes u. gives-bind (rows-give 8 version n) (λ rows w. gives-give _ (record { modes = u; rows = w })))
 
 -- what the body gives; the version and the two limits are tested around it
 body-ranges : (version : ℕ) → Gives (λ m. (m .version ≡ version) × ((limits : Limits) → version ≡ 1 → locationCount (m .components) ≤ limits .locations → length (joints (m .components)) ≤ limits .joints → ModelRanges limits m)) (readModelBody version)
@@ -217,9 +219,9 @@ body-ranges version =
     (λ conditions k.
     gives-bind (gives-many n (gives-below c u8))
     (λ owners o.
-    gives-bind (gives-many c (component-ranges n))
+    gives-bind (gives-many c (component-ranges version n))
     (λ components w.
-    gives-bind (gives-many conditions (unsafe-ranges n components))
+    gives-bind (gives-many conditions (unsafe-ranges version n components))
     (λ unsafe u.
     gives-give _ (
       refl,
@@ -244,8 +246,8 @@ header-gives : (kind : ℕ) → Gives (λ version. version ≡ 1) (header kind)
 unfolding header
 header-gives kind =
     gives-then sized (gives-then u16
-    (gives-bind (gives-must (λ v. eqb v 1) 2 (gives-any {r = u8}))
-    (λ version u. gives-then (must (λ v. eqb v kind) 3 u8) (gives-give version (eqb→eq version 1 (u .0))))))
+    (gives-bind (gives-must (versionFits kind) 2 (gives-any {r = u8}))
+    (λ version u. gives-then (must (kindFits kind) 3 u8) (gives-give version (only-one kind version (u .0))))))
 
 -- a model that a sheet gives lies in all ranges
 pub model-ranges : (limits : Limits) (s : List ℕ) (m : Model) (next : ℕ) → readModel limits s ≡ got m next → ModelRanges limits m

@@ -14,8 +14,8 @@ use lib.ListN.{length, getD, set}
 use lib.Signed.{_<ℤ_, <ℤ-irrefl}
 use mir.Facts.{and-yes, yes-and}
 use Rattle.farkas.specs.Lists.{every, All, none, more}
-use Rattle.farkas.specs.Rows.{Row, item, dot, rowHolds, zeroRow}
-use Rattle.farkas.specs.Farkas.{Proof, sumAt, boundSum, Agree, SumsMeet, sameZ, farkasTest, sumsTest, summed, addEntries, coefficientsAgree, boundPasses}
+use Rattle.farkas.specs.Rows.{Row, item, dot, rowHolds, zeroRow, compared}
+use Rattle.farkas.specs.Farkas.{Proof, sumAt, boundSum, strictSum, Agree, SumsMeet, sameZ, farkasTest, sumsTest, summed, addEntries, coefficientsAgree, boundPasses}
 use Rattle.farkas.proofs.All.{all-append, every-all, all-every}
 use Rattle.farkas.proofs.Integers.{split, by-parts}
 use Rattle.farkas.proofs.Promise.{same-means, eleven-means}
@@ -208,16 +208,17 @@ module _ (m : Model) (q : ℕ) (s : State) (e : ℕ) (switches : List ℕ) (next
   pub others-stay : (i : ℕ) (d : Component) → i < length (m .components) → T (not (hasEvent (getD (m .components) i d .alphabet) (suc e))) → getD switches i stays ≡ stays
   others-stay = other-at (suc e) each-moves
 
--- "Taking k = 0 with sum 0": where k is 0, the coefficients agree and the summed bound is 0, the number is 11, whatever the hypotheses
-pub zero-sum : (sums : ℕ → ℤ) (summedBound : ℤ) (goal : Row) → summedBound ≡ pos 0 → SumsMeet 0 sums summedBound goal → ⊥
-zero-sum sums summedBound goal e h = <ℤ-irrefl (subst (λ b. b <ℤ pos 0) e (h .below refl))
+-- "Taking k = 0 with sum 0": where k is 0, the coefficients agree and the summed bound is 0, the number is 11, whatever the hypotheses,
+-- as long as no strict one has an entry
+pub zero-sum : (sums : ℕ → ℤ) (summedBound : ℤ) (goal : Row) → summedBound ≡ pos 0 → SumsMeet 0 sums summedBound false goal → ⊥
+zero-sum sums summedBound goal e h = <ℤ-irrefl (subst (λ b. b <ℤ pos 0) e (h .below refl .below tt))
 
-pub zero-sum-eleven : (hypotheses : List Row) (goal : Row) (p : Proof) → p .k ≡ 0 → Agree (p .k) (sumAt hypotheses (p .entries)) (goal .coefficients) → boundSum hypotheses (p .entries) ≡ pos 0 → farkasTest hypotheses goal p ≡ 11
-zero-sum-eleven hypotheses goal p k agree bound =
-    eleven-means hypotheses goal p .1 (agree, λ h. <ℤ-irrefl (subst (λ b. b <ℤ pos 0) bound (h .1 k)))
+pub zero-sum-eleven : (hypotheses : List Row) (goal : Row) (p : Proof) → strictSum hypotheses (p .entries) ≡ false → p .k ≡ 0 → Agree (p .k) (sumAt hypotheses (p .entries)) (goal .coefficients) → boundSum hypotheses (p .entries) ≡ pos 0 → farkasTest hypotheses goal p ≡ 11
+zero-sum-eleven hypotheses goal p plain k agree bound =
+    eleven-means hypotheses goal p .1 (agree, λ h. <ℤ-irrefl (subst (λ b. b <ℤ pos 0) bound (h .1 k .below (subst (λ s. T (not s)) (sym plain) tt))))
 
 pub no-entries : (hypotheses : List Row) (goal : Row) → goal .coefficients ≡ [] → farkasTest hypotheses goal (record { k = 0; entries = [] }) ≡ 11
-unfolding farkasTest sumsTest summed addEntries zeroRow coefficientsAgree boundPasses every
+unfolding farkasTest sumsTest summed addEntries zeroRow coefficientsAgree boundPasses compared every
 no-entries hypotheses goal e = rw e refl
 
 -- "Testing unsafe rows without the invariants"

@@ -16,9 +16,9 @@ use Rattle.formats.specs.Model.{Mode, Switch, Component, Unsafe, Model}
 use Rattle.formats.specs.Locations.{modesAt}
 use Rattle.formats.specs.Joint.{stays, switchOf, JointSwitch, joints, joinAll}
 use Rattle.formats.specs.declared.Limits.{Limits}
-use Rattle.rules.specs.Opening.{ModelOpened, opens, shut, openModel}
+use Rattle.rules.specs.Opening.{ModelOpened, opens, shut, openModel, openSecond}
 use Rattle.formats.specs.Certificate.{readRegions}
-use Rattle.formats.specs.Reading.{Got, got, refused, _>>_, header}
+use Rattle.formats.specs.Reading.{Got, got, refused, _>>_}
 use Rattle.formats.proofs.Members.{all-members}
 use Rattle.rules.specs.Runs.{modesIn, movers, stayingVariables, modesFit}
 use Rattle.rules.specs.Obligations.{Hypothesis, nowhere, standing, onX, onNext, onRates, stayingRows, modeRows, startHypotheses, flowHypotheses, unsafeHypotheses, jumpHypotheses, Kind, atStart, afterFlow, clearOfUnsafe, afterJump, Obligation, perRow, startObligations, flowObligations, unsafeObligations, locationObligations, jumpObligations, jumpsObligations, obligationsOver, obligations, regionOf}
@@ -221,6 +221,6 @@ pub refused-role : (limits : Limits) (model second : List ℕ) (o h number sheet
 unfolding findHypothesis hypothesisRole
 refused-role limits model second o h number sheet place e = go (openModel limits model) e
   where
-    go : (g : ModelOpened) → (elim g as (λ x. Found) [ opens m ↦ findAfter m o h ((header 2 >> readRegions m) second 0) | shut n b at ↦ unfound n b at ]) ≡ unfound number sheet place → (elim g as (λ x. Role) [ opens m ↦ roleAfter m o h ((header 2 >> readRegions m) second 0) | shut n b at ↦ noRole ]) ≡ noRole
-    go (opens m) k = after-refused m o h number sheet place ((header 2 >> readRegions m) second 0) k
+    go : (g : ModelOpened) → (elim g as (λ x. Found) [ opens m ↦ findAfter m o h ((openSecond 2 m >> readRegions m) second 0) | shut n b at ↦ unfound n b at ]) ≡ unfound number sheet place → (elim g as (λ x. Role) [ opens m ↦ roleAfter m o h ((openSecond 2 m >> readRegions m) second 0) | shut n b at ↦ noRole ]) ≡ noRole
+    go (opens m) k = after-refused m o h number sheet place ((openSecond 2 m >> readRegions m) second 0) k
     go (shut n b at) k = refl

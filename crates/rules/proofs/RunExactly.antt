@@ -9,13 +9,14 @@ use native.Mathlib.Omega.{arith}
 use lib.Dec.{T}
 use lib.ListN.{length}
 use mir.Facts.{and-yes, yes-and}
-use Rattle.formats.specs.Reading.{Got, got, refused, Reader, andThen, _>>=_, _>>_, give, passing, many, header, finished}
+use Rattle.formats.specs.Reading.{Got, got, refused, Reader, andThen, _>>=_, _>>_, give, passing, many, finished}
 use Rattle.formats.specs.Model.{Model}
 use Rattle.formats.specs.declared.Limits.{Limits}
 use Rattle.formats.specs.ModelSheet.{limitsFit, readModel}
 use Rattle.formats.specs.RunSheet.{Step, Opening, readOpening, readStep}
 use Rattle.formats.proofs.Gives.{got-value, got-next, passes, Tested, tested, gives-then}
 use Rattle.formats.proofs.Placed.{Fine, placed-finished}
+use Rattle.rules.specs.Opening.{openSecond}
 use Rattle.rules.specs.declared.Answer.{Answer}
 use Rattle.rules.specs.Runs.{State, startAllowed, stepAllowed, stepsAllowed, after, Run, visited, endOf, isUnsafe}
 use Rattle.rules.proofs.Opening.{read-opens, with-model}
@@ -108,7 +109,7 @@ module _ (m : Model) (q : ℕ) (sheet : List ℕ) where
 -- a run sheet reads well where its parts do, one after the other
 pub record RunParts (m : Model) (second : List ℕ) (sheet : RunSheet) (end : ℕ) : Type 0 where
   pub openingEnd : ℕ
-  pub opening : (header 3 >> readOpening m) second 0 ≡ got (sheet .opening) openingEnd
+  pub opening : (openSecond 3 m >> readOpening m) second 0 ≡ got (sheet .opening) openingEnd
   pub stepsEnd : ℕ
   pub steps : many (sheet .opening .steps) (readStep m) second openingEnd ≡ got (sheet .steps) stepsEnd
   pub finish : finished second stepsEnd ≡ got tt end
@@ -116,22 +117,22 @@ pub record RunParts (m : Model) (second : List ℕ) (sheet : RunSheet) (end : �
 pub parts-read : (m : Model) (second : List ℕ) (sheet : RunSheet) (end : ℕ) → RunParts m second sheet end → readRunSheet m second 0 ≡ got sheet end
 unfolding readRunSheet _>>_ give
 parts-read m second sheet end w =
-    let h = passes (header 3 second 0) _ second (sheet .opening) (w .openingEnd) (w .opening) in
-    then-got (header 3) (h .first) _
+    let h = passes (openSecond 3 m second 0) _ second (sheet .opening) (w .openingEnd) (w .opening) in
+    then-got (openSecond 3 m) (h .first) _
     ∙ (bind-got (readOpening m) (h .second) _
     ∙ (bind-got (many (sheet .opening .steps) (readStep m)) (w .steps) _ ∙ then-got finished (w .finish) _))
 
 read-parts : (m : Model) (second : List ℕ) (sheet : RunSheet) (end : ℕ) → readRunSheet m second 0 ≡ got sheet end → RunParts m second sheet end
 unfolding readRunSheet _>>_ _>>=_ give
 read-parts m second sheet end e =
-    let h = passes (header 3 second 0) _ second sheet end e in
+    let h = passes (openSecond 3 m second 0) _ second sheet end e in
     let o = passes (readOpening m second (h .place)) _ second sheet end (h .second) in
     let s = passes (many (o .value .steps) (readStep m) second (o .place)) _ second sheet end (o .second) in
     let f = passes (finished second (s .place)) _ second sheet end (s .second) in
     subst₂ (RunParts m second) (got-value (f .second)) (got-next (f .second))
     (record {
       openingEnd = o .place;
-      opening = then-got (header 3) (h .first) (readOpening m) ∙ o .first;
+      opening = then-got (openSecond 3 m) (h .first) (readOpening m) ∙ o .first;
       stepsEnd = s .place;
       steps = s .first;
       finish = f .first;
@@ -174,7 +175,7 @@ run-closed m q second total (passed v place done) w e =
         record { end = v; place = place; done = done; next = next; steps = refl; finish = d; unsafe = verdict (isUnsafe m q v) h }
     go (refused number at) d x h = absurd (omega arith)
 
-opening-holds : (limits : Limits) (model second : List ℕ) (m : Model) (modelEnd : ℕ) (g : Got Opening) → T (limitsFit limits) → readModel limits model ≡ got m modelEnd → (header 3 >> readOpening m) second 0 ≡ g → Fine second 0 g → markOpening m second g .number ≡ 0 → RunHolds limits model second
+opening-holds : (limits : Limits) (model second : List ℕ) (m : Model) (modelEnd : ℕ) (g : Got Opening) → T (limitsFit limits) → readModel limits model ≡ got m modelEnd → (openSecond 3 m >> readOpening m) second 0 ≡ g → Fine second 0 g → markOpening m second g .number ≡ 0 → RunHolds limits model second
 unfolding markOpening answer
 opening-holds limits model second m modelEnd (got o place) t e d w h = go (startAllowed m (o .q) (firstState o)) refl h
   where
@@ -214,7 +215,7 @@ run-exactly limits model second = (run-holds limits model second, λ h. ap (λ a
 pub q-whole : {limits : Limits} {model second : List ℕ} (h : RunHolds limits model second) → 1 ≤ h .sheet .opening .q
 q-whole {second = second} h =
     let w = read-parts (h .m) second (h .sheet) (h .secondEnd) (h .secondReads) in
-    gives-then (header 3) (opening-gives (h .m)) .holds second 0 (h .sheet .opening) (w .openingEnd) (w .opening) .0
+    gives-then (openSecond 3 (h .m)) (opening-gives (h .m)) .holds second 0 (h .sheet .opening) (w .openingEnd) (w .opening) .0
 
 unfoldable pub run-of : {limits : Limits} {model second : List ℕ} (h : RunHolds limits model second) → Run (h .m)
 run-of h =

@@ -20,14 +20,14 @@ use Rattle.formats.specs.Joint.{stays, isJoint, jointFrom}
 use Rattle.formats.specs.RunSheet.{Step, flow, jump}
 use Rattle.formats.proofs.Gives.{and-left, and-right}
 use Rattle.formats.proofs.Members.{all-members, numbers-in}
-use Rattle.formats.proofs.WellFormed.{Wide, GoodMode, WellFormed}
+use Rattle.formats.proofs.WellFormed.{Wide, WellFormed}
 use Rattle.formats.proofs.Locations.{HaveModes, modes-at, location-of}
 use Rattle.formats.proofs.Joint.{joint-listed, joint-known, modes-after}
 use Rattle.rules.specs.Runs.{State, conditionHolds, modesIn, admissible, startAllowed, ratesHold, stillAtZero, flowRule, movers, stayingVariables, stayingKept, jumpRows, jumpRule, after, ruleMet, stepAllowed, stepsAllowed, visited, modesFit, isUnsafe}
 use Rattle.rules.specs.Obligations.{onX, zeroOnly, regionOf, obligations}
 use Rattle.rules.proofs.Points.{from-next}
 use Rattle.rules.proofs.Shown.{Shown, shown-goal, shown-clear, at-start, at-flow, at-unsafe, at-jump}
-use Rattle.rules.proofs.Hypotheses.{all-both, all-so, good-modes, hold-rows, start-hypotheses, unsafe-hypotheses, flow-hypotheses, jump-hypotheses}
+use Rattle.rules.proofs.Hypotheses.{all-both, all-so, modes-good, hold-rows, start-hypotheses, unsafe-hypotheses, flow-hypotheses, jump-hypotheses}
 
 -- regions with rows as wide as there are variables
 abbrev pub Regions : Model → List Condition → Type 0
@@ -63,10 +63,6 @@ module _ (m : Model) (good : WellFormed m) (regions : List Condition) (wide : Re
   unfolding regionOf
   wide-at location = all-at [] (omega arith, none) wide location .1
 
-  modes-good : (location : ℕ) → All (GoodMode (m .variables)) (modesIn m location)
-  unfolding modesIn
-  modes-good location = good-modes (m .variables) (m .components) (modesAt (m .components) location) (good .components)
-
   -- the start
   pub start-inside : (s : State) → T (startAllowed m q s) → Inside m regions q s
   unfolding startAllowed onX
@@ -79,7 +75,7 @@ module _ (m : Model) (good : WellFormed m) (regions : List Condition) (wide : Re
       let admitted = and-left a (b && i) (and-right l (a && (b && i)) t) in
       let starts = and-left b i (and-right a (b && i) (and-right l (a && (b && i)) t)) in
       let initials = and-right b i (and-right a (b && i) (and-right l (a && (b && i)) t)) in
-      let hold = start-hypotheses (m .variables) q (modesIn m (s .location)) (modes-good (s .location)) (s .values) (state-sized m q s admitted) (state-invariants m q s admitted) [] initials in
+      let hold = start-hypotheses (m .variables) q (modesIn m (s .location)) (modes-good m good (s .location)) (s .values) (state-sized m q s admitted) (state-invariants m q s admitted) [] initials in
       record {
         located = located;
         admitted = admitted;
@@ -99,7 +95,7 @@ module _ (m : Model) (good : WellFormed m) (regions : List Condition) (wide : Re
       let rates = and-left (ratesHold m s δ next) (stillAtZero s δ next) rule in
       let sized = state-sized m q s (inside .admitted) in
       let next-sized = state-sized m q (after m s (flow δ next)) admitted in
-      let hold = flow-hypotheses n q modes (modes-good (s .location)) (s .values) sized (state-invariants m q s (inside .admitted)) (regionOf regions (s .location)) (wide-at (s .location)) (inside .region) δ next next-sized (state-invariants m q (after m s (flow δ next)) admitted) rates in
+      let hold = flow-hypotheses n q modes (modes-good m good (s .location)) (s .values) sized (state-invariants m q s (inside .admitted)) (regionOf regions (s .location)) (wide-at (s .location)) (inside .region) δ next next-sized (state-invariants m q (after m s (flow δ next)) admitted) rates in
       record {
         located = inside .located;
         admitted = admitted;
@@ -141,7 +137,7 @@ module _ (m : Model) (good : WellFormed m) (regions : List Condition) (wide : Re
       let stay = keep s switches next (and-right rows kept (and-right joint (rows && kept) rule)) in
       let sized = state-sized m q s (inside .admitted) in
       let next-sized = state-sized m q (after m s (jump event switches next)) admitted in
-      let hold = jump-hypotheses n q modes (modes-good (s .location)) (s .values) sized (state-invariants m q s (inside .admitted)) (regionOf regions (s .location)) (wide-at (s .location)) (inside .region) next (modesIn m target) (movers (m .components) switches) (stayingVariables m switches) next-sized (modes-good target) (state-invariants m q (after m s (jump event switches next)) admitted) jumps stay in
+      let hold = jump-hypotheses n q modes (modes-good m good (s .location)) (s .values) sized (state-invariants m q s (inside .admitted)) (regionOf regions (s .location)) (wide-at (s .location)) (inside .region) next (modesIn m target) (movers (m .components) switches) (stayingVariables m switches) next-sized (modes-good m good target) (state-invariants m q (after m s (jump event switches next)) admitted) jumps stay in
       record {
         located = target-located s event switches next (inside .located) is-joint;
         admitted = admitted;
@@ -176,7 +172,7 @@ module _ (m : Model) (good : WellFormed m) (regions : List Condition) (wide : Re
       let fit = modesFit (u .modes) (modesAt (m .components) (s .location)) in
       let rows = conditionHolds q (s .values) (u .rows) in
       shown-clear (w .1 (and-left fit rows v)) q positive (s .values ++ [])
-      (unsafe-hypotheses (m .variables) q (modesIn m (s .location)) (modes-good (s .location)) (s .values) (state-sized m q s (inside .admitted)) (state-invariants m q s (inside .admitted)) (regionOf regions (s .location)) (wide-at (s .location)) (inside .region) [] (u .rows) (w .0) (and-right fit rows v))
+      (unsafe-hypotheses (m .variables) q (modesIn m (s .location)) (modes-good m good (s .location)) (s .values) (state-sized m q s (inside .admitted)) (state-invariants m q s (inside .admitted)) (regionOf regions (s .location)) (wide-at (s .location)) (inside .region) [] (u .rows) (w .0) (and-right fit rows v))
       tt)
       (all-both (good .unsafe) (at-unsafe m regions shown (s .location) (inside .located))))
       t

@@ -7,13 +7,13 @@ use lib.ListN.{length, getD, take, drop}
 use Rattle.rules.specs.declared.Answer.{Answer}
 use Rattle.rules.specs.declared.Joint.{Joint}
 use Rattle.farkas.specs.Rows.{zeroRow}
-use Rattle.formats.specs.Reading.{Got, got, refused, _>>_, header}
+use Rattle.formats.specs.Reading.{Got, got, refused, _>>_}
 use Rattle.formats.specs.Rows.{Condition}
 use Rattle.formats.specs.Model.{Component, Model}
 use Rattle.formats.specs.Joint.{JointSwitch, joints, fourSwitches}
 use Rattle.formats.specs.declared.Limits.{Limits}
 use Rattle.formats.specs.Certificate.{readRegions}
-use Rattle.rules.specs.Opening.{opens, shut, openModel}
+use Rattle.rules.specs.Opening.{opens, shut, openModel, openSecond}
 use Rattle.rules.specs.Obligations.{Hypothesis, nowhere, Obligation, afterFlow, obligations}
 use Rattle.rules.specs.Marking.{answer, withModel}
 
@@ -65,7 +65,7 @@ findAfter m o h (got regions next) = findIn (obligations m regions) o h
 unfoldable pub findHypothesis : Limits → List ℕ → List ℕ → ℕ → ℕ → Found
 findHypothesis limits model second o h =
     elim (openModel limits model) [
-      | opens m ↦ findAfter m o h ((header 2 >> readRegions m) second 0)
+      | opens m ↦ findAfter m o h ((openSecond 2 m >> readRegions m) second 0)
       | shut number sheet at ↦ unfound number sheet at
     ]
 

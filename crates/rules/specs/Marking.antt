@@ -5,13 +5,13 @@ use Prim.Native.Nat.{ℕ, zero, suc, _*_, _/_, min}
 use lib.ListN.{length}
 use Rattle.rules.specs.declared.Answer.{Answer}
 use Rattle.farkas.specs.Farkas.{Proof, farkasTest}
-use Rattle.formats.specs.Reading.{Reader, Got, got, refused, _>>_, header, finished}
+use Rattle.formats.specs.Reading.{Reader, Got, got, refused, _>>_, finished}
 use Rattle.formats.specs.Rows.{Condition}
 use Rattle.formats.specs.Model.{Model}
 use Rattle.formats.specs.declared.Limits.{Limits}
 use Rattle.formats.specs.Certificate.{readRegions, readProof}
 use Rattle.formats.specs.RunSheet.{Step, Opening, readOpening, readStep}
-use Rattle.rules.specs.Opening.{ModelOpened, opens, shut, openModel}
+use Rattle.rules.specs.Opening.{ModelOpened, opens, shut, openModel, openSecond}
 use Rattle.rules.specs.Runs.{State, startAllowed, stepAllowed, after, isUnsafe}
 use Rattle.rules.specs.Obligations.{Obligation, zeroOnly, obligations}
 
@@ -77,7 +77,7 @@ withModel (opens m) f = f m
 
 unfoldable pub markCertificate : Limits → List ℕ → List ℕ → Answer
 markCertificate limits model second =
-    withModel (openModel limits model) (λ m. markRegions m second ((header 2 >> readRegions m) second 0))
+    withModel (openModel limits model) (λ m. markRegions m second ((openSecond 2 m >> readRegions m) second 0))
 
 -- "a step once read": 13 at the step's first byte
 unfoldable pub testStep : Model → ℕ → State → ℕ → Got Step → Got Step
@@ -118,4 +118,4 @@ markOpening m sheet (got o next) =
 
 unfoldable pub markRun : Limits → List ℕ → List ℕ → Answer
 markRun limits model second =
-    withModel (openModel limits model) (λ m. markOpening m second ((header 3 >> readOpening m) second 0))
+    withModel (openModel limits model) (λ m. markOpening m second ((openSecond 3 m >> readOpening m) second 0))

@@ -1,10 +1,10 @@
 -- The obligations of a certificate (01, Certificate), in order, each with its hypotheses in order and its goal. Assumes nothing.
 use mathlib.Core.Bool.{Bool, true, false}
 use mathlib.Core.List.{List, [], _∷_, _++_, map}
-use Prim.Native.Nat.{ℕ, suc, _+_, _*_}
+use Prim.Native.Nat.{ℕ, suc, _+_}
 use lib.Dec.{eqb}
 use lib.IntN.{ℤ, pos, negsuc, negℤ}
-use lib.ListN.{length, getD, set, replicate}
+use lib.ListN.{getD, set, replicate}
 use Rattle.farkas.specs.Lists.{every}
 use Rattle.farkas.specs.Rows.{Row, zeroRow}
 use Rattle.formats.specs.Rows.{SheetRow, Condition}
@@ -27,7 +27,7 @@ nowhere r = record { row = r; sheet = 2; place = 0; size = 0 }
 -- a sheet's row as a hypothesis, with its coefficients put on the unknowns
 unfoldable pub standing : ℕ → (Row → Row) → SheetRow → Hypothesis
 standing sheet put r =
-    record { row = put (r .row); sheet = sheet; place = r .place; size = 4 * (length (r .row .coefficients) + 1) }
+    record { row = put (r .row); sheet = sheet; place = r .place; size = r .size }
 
 -- The unknowns are x, then x', then d: n of x, n of x'. "on x"
 unfoldable pub onX : Row → Row
@@ -35,19 +35,20 @@ onX r = r
 
 -- "on x'"
 unfoldable pub onNext : ℕ → Row → Row
-onNext n r = record { coefficients = replicate n (pos 0) ++ r .coefficients; bound = r .bound }
+onNext n r = record { coefficients = replicate n (pos 0) ++ r .coefficients; bound = r .bound; strict = r .strict }
 
--- "each flow row as −a on x, a on x', −b on d, bound 0"
+-- "each flow row as −a on x, a on x', −b on d, bound 0"; flow rows are not strict
 unfoldable pub onRates : Row → Row
 onRates r =
     record {
       coefficients = map negℤ (r .coefficients) ++ (r .coefficients ++ (negℤ (r .bound) ∷ []));
       bound = pos 0;
+      strict = false;
     }
 
 -- "−d ≤ 0"
 unfoldable pub timeRow : ℕ → Row
-timeRow n = record { coefficients = replicate (n + n) (pos 0) ++ (negsuc 0 ∷ []); bound = pos 0 }
+timeRow n = record { coefficients = replicate (n + n) (pos 0) ++ (negsuc 0 ∷ []); bound = pos 0; strict = false }
 
 -- n coefficients, 0 but for one
 unfoldable pub unit : ℕ → ℕ → ℤ → List ℤ
@@ -56,8 +57,8 @@ unit n v a = set (replicate n (pos 0)) v a
 -- "x'−x ≤ 0, then x−x' ≤ 0"
 unfoldable pub stayingRows : ℕ → ℕ → List Row
 stayingRows n v =
-    record { coefficients = unit n v (negsuc 0) ++ unit n v (pos 1); bound = pos 0 }
-    ∷ record { coefficients = unit n v (pos 1) ++ unit n v (negsuc 0); bound = pos 0 }
+    record { coefficients = unit n v (negsuc 0) ++ unit n v (pos 1); bound = pos 0; strict = false }
+    ∷ record { coefficients = unit n v (pos 1) ++ unit n v (negsuc 0); bound = pos 0; strict = false }
     ∷ []
 
 -- a condition's rows of every present mode: "each group by component, then row"

@@ -1,11 +1,12 @@
--- How every call that reads a model begins (02, order 2): its stated limits, then the model. Assumes nothing.
+-- How every call that reads a model begins (02, order 2): its stated limits, then the model, then the second sheet where there is one.
+-- Assumes nothing.
 use mathlib.Core.Path.{_≡_}
 use mathlib.Core.Bool.{Bool, true, false}
 use mathlib.Core.List.{List}
 use Prim.Native.Nat.{ℕ}
 use lib.Dec.{T}
 use Rattle.formats.specs.declared.Limits.{Limits}
-use Rattle.formats.specs.Reading.{Got, got, refused}
+use Rattle.formats.specs.Reading.{Got, got, refused, Reader, header}
 use Rattle.formats.specs.Model.{Model}
 use Rattle.formats.specs.ModelSheet.{limitsFit, Whole, readWhole, Few, readModel}
 
@@ -23,6 +24,11 @@ openAs true (got m next) = opens m
 
 unfoldable pub openModel : Limits → List ℕ → ModelOpened
 openModel limits s = openAs (limitsFit limits) (readModel limits s)
+
+-- how the second sheet of a paper opens, once its model is read: its header, and the version is handed on. What a second sheet has to share
+-- with its model is tested here too: nothing in version 1
+unfoldable pub openSecond : ℕ → Model → Reader ℕ
+openSecond kind m = header kind
 
 -- limits that fit, and that the model is within, where the sheet is a model: "A paper within both desks' limits gets the same answer at
 -- both"

@@ -7,9 +7,10 @@ use mathlib.Core.List.{List, _∷_, _++_}
 use Prim.Native.Nat.{ℕ, _≤_, _<_}
 use lib.Dec.{T}
 use lib.ListN.{length}
+use Rattle.rules.specs.Opening.{openSecond}
 use Rattle.rules.specs.declared.Answer.{Answer}
 use Rattle.farkas.specs.Farkas.{Proof, farkasTest}
-use Rattle.formats.specs.Reading.{got, refused, _>>_, many, header, finished}
+use Rattle.formats.specs.Reading.{got, refused, _>>_, many, finished}
 use Rattle.formats.specs.Rows.{Condition}
 use Rattle.formats.specs.Model.{Model}
 use Rattle.formats.specs.declared.Limits.{Limits}
@@ -57,18 +58,18 @@ pub record StepsStop (m : Model) (q : ℕ) (v : State) (n : ℕ) (s : List ℕ) 
 pub data CertificateEnds (limits : Limits) (model second : List ℕ) (a : Answer) : Type 0 where
   limits-unfit : limitsFit limits ≡ false → a ≡ answer 5 2 0 0 0 → CertificateEnds limits model second a
   model-unread : {number at : ℕ} → T (limitsFit limits) → readModel limits model ≡ refused number at → a ≡ answer number 0 at 0 0 → CertificateEnds limits model second a
-  regions-unread : {m : Model} {end number at : ℕ} → T (limitsFit limits) → readModel limits model ≡ got m end → (header 2 >> readRegions m) second 0 ≡ refused number at → a ≡ answer number 1 at 0 0 → CertificateEnds limits model second a
-  proof-fails : {m : Model} {end : ℕ} {regions : List Condition} {place number at done : ℕ} → T (limitsFit limits) → readModel limits model ≡ got m end → (header 2 >> readRegions m) second 0 ≡ got regions place → ProofsStop (obligations m regions) second place number at done → a ≡ answer number 1 at done (refusedScore done (length (obligations m regions))) → CertificateEnds limits model second a
-  bytes-left : {m : Model} {end : ℕ} {regions : List Condition} {place : ℕ} {proofs : List Proof} {next number at : ℕ} → T (limitsFit limits) → readModel limits model ≡ got m end → (header 2 >> readRegions m) second 0 ≡ got regions place → readProofs (obligations m regions) second place ≡ got proofs next → AllMeet (obligations m regions) proofs → finished second next ≡ refused number at → a ≡ answer number 1 at (length (obligations m regions)) (refusedScore (length (obligations m regions)) (length (obligations m regions))) → CertificateEnds limits model second a
+  regions-unread : {m : Model} {end number at : ℕ} → T (limitsFit limits) → readModel limits model ≡ got m end → (openSecond 2 m >> readRegions m) second 0 ≡ refused number at → a ≡ answer number 1 at 0 0 → CertificateEnds limits model second a
+  proof-fails : {m : Model} {end : ℕ} {regions : List Condition} {place number at done : ℕ} → T (limitsFit limits) → readModel limits model ≡ got m end → (openSecond 2 m >> readRegions m) second 0 ≡ got regions place → ProofsStop (obligations m regions) second place number at done → a ≡ answer number 1 at done (refusedScore done (length (obligations m regions))) → CertificateEnds limits model second a
+  bytes-left : {m : Model} {end : ℕ} {regions : List Condition} {place : ℕ} {proofs : List Proof} {next number at : ℕ} → T (limitsFit limits) → readModel limits model ≡ got m end → (openSecond 2 m >> readRegions m) second 0 ≡ got regions place → readProofs (obligations m regions) second place ≡ got proofs next → AllMeet (obligations m regions) proofs → finished second next ≡ refused number at → a ≡ answer number 1 at (length (obligations m regions)) (refusedScore (length (obligations m regions)) (length (obligations m regions))) → CertificateEnds limits model second a
   accepted : (h : CertificateHolds limits model second) → a ≡ answer 0 1 (length second) (length (obligations (h .m) (h .certificate .regions))) 100 → CertificateEnds limits model second a
 
 -- every end of a run's marking
 pub data RunEnds (limits : Limits) (model second : List ℕ) (a : Answer) : Type 0 where
   limits-unfit : limitsFit limits ≡ false → a ≡ answer 5 2 0 0 0 → RunEnds limits model second a
   model-unread : {number at : ℕ} → T (limitsFit limits) → readModel limits model ≡ refused number at → a ≡ answer number 0 at 0 0 → RunEnds limits model second a
-  opening-unread : {m : Model} {end number at : ℕ} → T (limitsFit limits) → readModel limits model ≡ got m end → (header 3 >> readOpening m) second 0 ≡ refused number at → a ≡ answer number 1 at 0 0 → RunEnds limits model second a
-  start-disallowed : {m : Model} {end : ℕ} {o : Opening} {place : ℕ} → T (limitsFit limits) → readModel limits model ≡ got m end → (header 3 >> readOpening m) second 0 ≡ got o place → startAllowed m (o .q) (firstState o) ≡ false → a ≡ answer 12 1 (o .place) 0 0 → RunEnds limits model second a
-  step-fails : {m : Model} {end : ℕ} {o : Opening} {place number at done : ℕ} → T (limitsFit limits) → readModel limits model ≡ got m end → (header 3 >> readOpening m) second 0 ≡ got o place → T (startAllowed m (o .q) (firstState o)) → StepsStop m (o .q) (firstState o) (o .steps) second place number at done → a ≡ answer number 1 at done 0 → RunEnds limits model second a
-  bytes-left : {m : Model} {end : ℕ} {o : Opening} {place : ℕ} {steps : List Step} {next number at : ℕ} → T (limitsFit limits) → readModel limits model ≡ got m end → (header 3 >> readOpening m) second 0 ≡ got o place → T (startAllowed m (o .q) (firstState o)) → many (o .steps) (readStep m) second place ≡ got steps next → T (stepsAllowed m (o .q) (firstState o) steps) → finished second next ≡ refused number at → a ≡ answer number 1 at (o .steps) 0 → RunEnds limits model second a
-  end-safe : {m : Model} {end : ℕ} {o : Opening} {place : ℕ} {steps : List Step} {next last : ℕ} → T (limitsFit limits) → readModel limits model ≡ got m end → (header 3 >> readOpening m) second 0 ≡ got o place → T (startAllowed m (o .q) (firstState o)) → many (o .steps) (readStep m) second place ≡ got steps next → T (stepsAllowed m (o .q) (firstState o) steps) → finished second next ≡ got tt last → isUnsafe m (o .q) (endOf m (firstState o) steps) ≡ false → a ≡ answer 14 1 (length second) (o .steps) 0 → RunEnds limits model second a
+  opening-unread : {m : Model} {end number at : ℕ} → T (limitsFit limits) → readModel limits model ≡ got m end → (openSecond 3 m >> readOpening m) second 0 ≡ refused number at → a ≡ answer number 1 at 0 0 → RunEnds limits model second a
+  start-disallowed : {m : Model} {end : ℕ} {o : Opening} {place : ℕ} → T (limitsFit limits) → readModel limits model ≡ got m end → (openSecond 3 m >> readOpening m) second 0 ≡ got o place → startAllowed m (o .q) (firstState o) ≡ false → a ≡ answer 12 1 (o .place) 0 0 → RunEnds limits model second a
+  step-fails : {m : Model} {end : ℕ} {o : Opening} {place number at done : ℕ} → T (limitsFit limits) → readModel limits model ≡ got m end → (openSecond 3 m >> readOpening m) second 0 ≡ got o place → T (startAllowed m (o .q) (firstState o)) → StepsStop m (o .q) (firstState o) (o .steps) second place number at done → a ≡ answer number 1 at done 0 → RunEnds limits model second a
+  bytes-left : {m : Model} {end : ℕ} {o : Opening} {place : ℕ} {steps : List Step} {next number at : ℕ} → T (limitsFit limits) → readModel limits model ≡ got m end → (openSecond 3 m >> readOpening m) second 0 ≡ got o place → T (startAllowed m (o .q) (firstState o)) → many (o .steps) (readStep m) second place ≡ got steps next → T (stepsAllowed m (o .q) (firstState o) steps) → finished second next ≡ refused number at → a ≡ answer number 1 at (o .steps) 0 → RunEnds limits model second a
+  end-safe : {m : Model} {end : ℕ} {o : Opening} {place : ℕ} {steps : List Step} {next last : ℕ} → T (limitsFit limits) → readModel limits model ≡ got m end → (openSecond 3 m >> readOpening m) second 0 ≡ got o place → T (startAllowed m (o .q) (firstState o)) → many (o .steps) (readStep m) second place ≡ got steps next → T (stepsAllowed m (o .q) (firstState o) steps) → finished second next ≡ got tt last → isUnsafe m (o .q) (endOf m (firstState o) steps) ≡ false → a ≡ answer 14 1 (length second) (o .steps) 0 → RunEnds limits model second a
   accepted : (h : RunHolds limits model second) → a ≡ answer 0 1 (length second) (h .sheet .opening .steps) 100 → RunEnds limits model second a

@@ -7,13 +7,14 @@ use lib.Dec.{T}
 use lib.ListN.{length}
 use Rattle.farkas.specs.Rows.{Row}
 use Rattle.farkas.specs.Farkas.{Proof, Meets}
-use Rattle.formats.specs.Reading.{Reader, got, _>>=_, _>>_, give, many, each, header, finished}
+use Rattle.formats.specs.Reading.{Reader, got, _>>=_, _>>_, give, many, each, finished}
 use Rattle.formats.specs.Rows.{Condition}
 use Rattle.formats.specs.Model.{Model}
 use Rattle.formats.specs.declared.Limits.{Limits}
 use Rattle.formats.specs.ModelSheet.{limitsFit, readModel}
 use Rattle.formats.specs.Certificate.{readRegions, readProof}
 use Rattle.formats.specs.RunSheet.{Step, Opening, readOpening, readStep}
+use Rattle.rules.specs.Opening.{openSecond}
 use Rattle.rules.specs.Runs.{startAllowed, stepsAllowed, endOf, isUnsafe}
 use Rattle.rules.specs.Obligations.{Obligation, zeroOnly, obligations}
 use Rattle.rules.specs.Marking.{firstState}
@@ -28,7 +29,7 @@ readProofs all = each (λ o. readProof (length (o .hypotheses)) (zeroOnly (o .ki
 
 unfoldable pub readCertificate : Model → Reader Certificate
 readCertificate m = do
-  header 2
+  openSecond 2 m
   regions ← readRegions m
   proofs ← readProofs (obligations m regions)
   finished
@@ -59,7 +60,7 @@ pub record RunSheet : Type 0 where
 
 unfoldable pub readRunSheet : Model → Reader RunSheet
 readRunSheet m = do
-  header 3
+  openSecond 3 m
   opening ← readOpening m
   steps ← many (opening .steps) (readStep m)
   finished

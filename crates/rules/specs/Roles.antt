@@ -5,12 +5,12 @@ use mathlib.Core.List.{List, [], _∷_, _++_, map}
 use Prim.Native.Nat.{ℕ, suc}
 use lib.Dec.{eqb, ltb}
 use lib.ListN.{length, getD}
-use Rattle.formats.specs.Reading.{Got, got, refused, _>>_, header}
+use Rattle.formats.specs.Reading.{Got, got, refused, _>>_}
 use Rattle.formats.specs.Rows.{Condition}
 use Rattle.formats.specs.Model.{Mode, Component, Unsafe, Model}
 use Rattle.formats.specs.Joint.{stays, switchOf, JointSwitch, joints, joinAll}
 use Rattle.formats.specs.declared.Limits.{Limits}
-use Rattle.rules.specs.Opening.{opens, shut, openModel}
+use Rattle.rules.specs.Opening.{opens, shut, openModel, openSecond}
 use Rattle.formats.specs.Certificate.{readRegions}
 use Rattle.rules.specs.Runs.{modesIn, stayingVariables}
 use Rattle.rules.specs.Obligations.{Kind, atStart, afterFlow, clearOfUnsafe, afterJump, Obligation, obligations, regionOf}
@@ -124,7 +124,7 @@ roleAfter m o h (got regions next) = roleIn (rolesOf m (regionOf regions)) (obli
 unfoldable pub hypothesisRole : Limits → List ℕ → List ℕ → ℕ → ℕ → Role
 hypothesisRole limits model second o h =
     elim (openModel limits model) [
-      | opens m ↦ roleAfter m o h ((header 2 >> readRegions m) second 0)
+      | opens m ↦ roleAfter m o h ((openSecond 2 m >> readRegions m) second 0)
       | shut number sheet at ↦ noRole
     ]
 

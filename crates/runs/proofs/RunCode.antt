@@ -260,7 +260,7 @@ module _ (limits : Limits) (model second : List ℕ) where
       ∙ open-refused limits 3 model second (λ n s p. answer n s p 0 0) readOpening (λ m. markOpening m second) (runBy second)
       (λ m number at. opening-stops m second (refused number at) number at refl) (λ number sheet at. refl) (λ m. refl) f
 
-  pub run-open : {index : List ℕ} → Open limits 3 model index second → markOpening (modelFrom model index) second (readOpening (modelFrom model index) second 4) ≡ markRun limits model second
+  pub run-open : {index : List ℕ} {body : ℕ} → Open limits 3 model index second body → markOpening (modelFrom model index) second (readOpening (modelFrom model index) second body) ≡ markRun limits model second
   unfolding markRun withModel
   run-open w =
       open-goes-on limits 3 model second (λ n s p. answer n s p 0 0) readOpening (λ m. markOpening m second) (runBy second)

@@ -14,6 +14,7 @@ use papers::opening::open_paper;
 use rules::Answer;
 use second_sheets::OpeningRead;
 use second_sheets::StepRead;
+use second_sheets::ranges::LOCATION_OFFSET;
 use second_sheets::run::opening;
 use second_sheets::run::step;
 use steps::jumps::modes_after;
@@ -131,18 +132,18 @@ fn close_run(model: &[u8], index: &Index, s: &[u8], q: u32, run: RunMarked, stat
     }
 }
 
-// A run sheet after its header: its opening, 12 at the location byte, then its steps and its end. The slice is free then.
-fn mark_body(model: &[u8], index: &Index, s: &[u8], state: &mut [i64]) -> Answer
+// A run sheet from its body on: its opening, 12 at the location byte, then its steps and its end. The slice is free then.
+fn mark_body(model: &[u8], index: &Index, s: &[u8], body: usize, state: &mut [i64]) -> Answer
     requires { ⌜ Accepted (now model) (now index) × (24 ≤ length (now state)) ⌝ }
-    requires { ⌜ (4 ≤ length (now s)) × (length (now s) ≤ 32768) ⌝ }
-    ensures { λ r. ⌜ r ≡ markedBody (now (model .entry)) (now (index .entry)) (now (s .entry)) 4 ⌝ }
+    requires { ⌜ (body ≤ length (now s)) × (length (now s) ≤ 32768) ⌝ }
+    ensures { λ r. ⌜ r ≡ markedBody (now (model .entry)) (now (index .entry)) (now (s .entry)) body ⌝ }
 {
-    match opening(index, location_count(model, index), s, 4, state) {
+    match opening(index, location_count(model, index), s, body, state) {
         OpeningRead::Refused(number, place) => on_second(number, place, 0, 0),
         OpeningRead::Opening(q, steps, location, next) => {
             let modes = modes_at(model, index, location);
             if !start_allowed(model, index, modes, q, state) {
-                return on_second(12, 10, 0, 0);
+                return on_second(12, body + LOCATION_OFFSET, 0, 0);
             }
             let first = RunMarked {
                 number: 0,
@@ -166,5 +167,5 @@ pub fn mark_run(model: &[u8], second: &[u8], limits: Limits) -> Answer
         return opened;
     }
     let mut state = [0i64; STATE_LENGTH];
-    mark_body(model, &index, second, &mut state)
+    mark_body(model, &index, second, opened.place as usize, &mut state)
 }

@@ -48,19 +48,19 @@ abbrev pub fittingOn : List ℕ → List ℕ → List ℕ → ℕ → List ℕ
 fittingOn model index modes u = numbersFrom u (λ w. modesFit (w .modes) (perComponent index modes)) (drop u (modelFrom model index .unsafe))
 
 module _ (model index : List ℕ) where
-  conditions-drop : (u : ℕ) → u < entry index 2 → drop u (modelFrom model index .unsafe) ≡ unsafeFrom model (entry index 0) (entry index 1) index (unsafePlace u) ∷ drop (u + 1) (modelFrom model index .unsafe)
+  conditions-drop : (u : ℕ) → u < entry index 2 → drop u (modelFrom model index .unsafe) ≡ unsafeFrom model (entry index 11) (entry index 0) (entry index 1) index (unsafePlace u) ∷ drop (u + 1) (modelFrom model index .unsafe)
   unfolding modelFrom
-  conditions-drop u h = counted-drop (λ u. unsafeFrom model (entry index 0) (entry index 1) index (unsafePlace u)) (entry index 2) u h
+  conditions-drop u h = counted-drop (λ u. unsafeFrom model (entry index 11) (entry index 0) (entry index 1) index (unsafePlace u)) (entry index 2) u h
 
   conditions-length : length (modelFrom model index .unsafe) ≡ entry index 2
   unfolding modelFrom
-  conditions-length = counted-length (λ u. unsafeFrom model (entry index 0) (entry index 1) index (unsafePlace u)) 0 (entry index 2)
+  conditions-length = counted-length (λ u. unsafeFrom model (entry index 11) (entry index 0) (entry index 1) index (unsafePlace u)) 0 (entry index 2)
 
-  pub fitting-turn : (modes : List ℕ) (u n : ℕ) {b : Bool} → u < entry index 2 → b ≡ modesFit (unsafeFrom model (entry index 0) (entry index 1) index (unsafePlace u) .modes) (perComponent index modes) → n ≡ bit b → length (fittingOn model index modes u) ≡ n + length (fittingOn model index modes (u + 1))
+  pub fitting-turn : (modes : List ℕ) (u n : ℕ) {b : Bool} → u < entry index 2 → b ≡ modesFit (unsafeFrom model (entry index 11) (entry index 0) (entry index 1) index (unsafePlace u) .modes) (perComponent index modes) → n ≡ bit b → length (fittingOn model index modes u) ≡ n + length (fittingOn model index modes (u + 1))
   fitting-turn modes u n h p q =
       let test : Unsafe → Bool = λ w. modesFit (w .modes) (perComponent index modes) in
       ap (λ (ws : List Unsafe). length (numbersFrom u test ws)) (conditions-drop u h)
-      ∙ numbers-length u test (unsafeFrom model (entry index 0) (entry index 1) index (unsafePlace u)) (drop (u + 1) (modelFrom model index .unsafe))
+      ∙ numbers-length u test (unsafeFrom model (entry index 11) (entry index 0) (entry index 1) index (unsafePlace u)) (drop (u + 1) (modelFrom model index .unsafe))
       ∙ ap (λ (k : ℕ). k + length (fittingOn model index modes (u + 1))) (sym (q ∙ ap bit p))
 
   pub fitting-end : (modes : List ℕ) (u : ℕ) → entry index 2 ≤ u → length (fittingOn model index modes u) ≡ 0
@@ -145,13 +145,13 @@ locations-few {model} {index} {second} {regions} g locations h =
     omega (arith, joined-few (locationObligations (modelFrom model index) (regionsOf model index second regions)) 48 (location-few g) (countUp 0 locations), count-length 0 locations, g .few)
 
 -- all obligations
-pub obligations-length : (model index second regions : List ℕ) (locations : ℕ) → locations ≡ locationCount (componentsFrom model index) → length (obligations (modelFrom model index) (regionsFrom second (entry index 0) regions locations)) ≡ length (joinAll (locationObligations (modelFrom model index) (regionsOf model index second regions)) (countUp 0 locations)) + length (targetRows (regionsOf model index second regions) (joints (componentsFrom model index)))
+pub obligations-length : (model index second regions : List ℕ) (locations : ℕ) → locations ≡ locationCount (componentsFrom model index) → length (obligations (modelFrom model index) (regionsFrom second (entry index 11) (entry index 0) regions locations)) ≡ length (joinAll (locationObligations (modelFrom model index) (regionsOf model index second regions)) (countUp 0 locations)) + length (targetRows (regionsOf model index second regions) (joints (componentsFrom model index)))
 unfolding obligations obligationsOver modelFrom regionsOf
 obligations-length model index second regions locations h =
     let m = modelFrom model index in
     let count = locationCount (componentsFrom model index) in
-    let regionAt = regionOf (regionsFrom second (entry index 0) regions count) in
-    ap (λ (n : ℕ). length (obligations m (regionsFrom second (entry index 0) regions n))) h
+    let regionAt = regionOf (regionsFrom second (entry index 11) (entry index 0) regions count) in
+    ap (λ (n : ℕ). length (obligations m (regionsFrom second (entry index 11) (entry index 0) regions n))) h
     ∙ length-append (joinAll (locationObligations m regionAt) (countUp 0 count)) (jumpsObligations m regionAt 0 (joints (componentsFrom model index)))
     ∙ ap₂ (λ (i k : ℕ). i + k) (ap (λ (n : ℕ). length (joinAll (locationObligations m regionAt) (countUp 0 n))) (sym h)) (jumps-length m regionAt 0 (joints (componentsFrom model index)))
 
@@ -163,13 +163,13 @@ pub goals-sum : (model index second regions : List ℕ) (location here into : �
 unfolding goalsAt modelFrom
 goals-sum model index second regions location here into p q = ap₂ (λ (i j : ℕ). i + j) p q
 
-pub goals-all : {model index : List ℕ} (second regions : List ℕ) → GoodIndex model index → (locations : ℕ) → locations ≡ locationCount (componentsFrom model index) → sumOver (goalsFor model index second regions) (countUp 0 locations) ≡ length (obligations (modelFrom model index) (regionsFrom second (entry index 0) regions locations))
+pub goals-all : {model index : List ℕ} (second regions : List ℕ) → GoodIndex model index → (locations : ℕ) → locations ≡ locationCount (componentsFrom model index) → sumOver (goalsFor model index second regions) (countUp 0 locations) ≡ length (obligations (modelFrom model index) (regionsFrom second (entry index 11) (entry index 0) regions locations))
 unfolding regionsOf modelFrom
 goals-all {model} {index} second regions g locations h =
     let count = locationCount (componentsFrom model index) in
     ap (λ (n : ℕ). sumOver (goalsFor model index second regions) (countUp 0 n)) h
-    ∙ sym (obligations-total (modelFrom model index) (regionsFrom second (entry index 0) regions count) (index-well-formed g))
-    ∙ ap (λ (n : ℕ). length (obligations (modelFrom model index) (regionsFrom second (entry index 0) regions n))) (sym h)
+    ∙ sym (obligations-total (modelFrom model index) (regionsFrom second (entry index 11) (entry index 0) regions count) (index-well-formed g))
+    ∙ ap (λ (n : ℕ). length (obligations (modelFrom model index) (regionsFrom second (entry index 11) (entry index 0) regions n))) (sym h)
 
 -- the rows of targets
 pub rows-few : (regionAt : ℕ → Condition) → ((l : ℕ) → length (regionAt l) ≤ 16) → (switches : List JointSwitch) → length (targetRows regionAt switches) ≤ 16 * length switches

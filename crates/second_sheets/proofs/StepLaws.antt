@@ -84,19 +84,19 @@ unfolding countUp
 length-count k zero = refl
 length-count k (suc n) = ap suc (length-count (suc k) n)
 
-switch-count : (model : List ℕ) (n : ℕ) (index : List ℕ) (block : ℕ) → length (componentFrom model n index block .switches) ≡ entry index (block + 2)
+switch-count : (model : List ℕ) (version n : ℕ) (index : List ℕ) (block : ℕ) → length (componentFrom model version n index block .switches) ≡ entry index (block + 2)
 unfolding componentFrom
-switch-count model n index block =
-    length-map (countUp 0 (entry index (block + 2))) (λ i. switchFrom model n index (switchPlace block i)) ∙ length-count 0 (entry index (block + 2))
+switch-count model version n index block =
+    length-map (countUp 0 (entry index (block + 2))) (λ i. switchFrom model version n index (switchPlace block i)) ∙ length-count 0 (entry index (block + 2))
 
 pub switches-same : (model index : List ℕ) → _≡_ {A = Reader (List ℕ)} (each (λ c. must (λ v. ltb v (length (c .switches)) || eqb v stays) 5 u8) (componentsFrom model index)) (switchBytes index)
 unfolding componentsFrom switchBytes switchByte
 switches-same model index =
-    let n = entry index 0 in
-    let part : ℕ → Component = λ k. componentFrom model n index (componentPlace k) in
+    let n = entry index 0 in let version = entry index 11 in
+    let part : ℕ → Component = λ k. componentFrom model version n index (componentPlace k) in
     let test : ℕ → Reader ℕ = λ count. must (λ v. ltb v count || eqb v stays) 5 u8 in
     each-map (λ c. test (length (c .switches))) part (countUp 0 (entry index 1))
-    ∙ λ i. each (λ k. test (switch-count model n index (componentPlace k) i)) (countUp 0 (entry index 1))
+    ∙ λ i. each (λ k. test (switch-count model version n index (componentPlace k) i)) (countUp 0 (entry index 1))
 
 -- as many switch bytes are read as there are components
 gives-each : {A B : Type 0} (f : A → Reader B) (xs : List A) → Gives (λ ys. length ys ≡ length xs) (each f xs)

@@ -13,21 +13,22 @@ use Rattle.formats.specs.Reading.{Got, got, refused, Reader, _>>=_, give, u8, u
 use Rattle.formats.specs.Rows.{Condition, readCondition}
 use Rattle.formats.specs.Joint.{countUp}
 use Rattle.models.specs.Index.{entry, spanRows}
+use Rattle.formats.specs.Versions.{rowBytes}
 
 -- the regions of a certificate, location by location: the rows of location l are kept at numbers 2 l and 2 l + 1
-unfoldable pub regionsFrom : List ℕ → ℕ → List ℕ → ℕ → List Condition
-regionsFrom s n regions count = map (λ l. spanRows s n regions (2 * l)) (countUp 0 count)
+unfoldable pub regionsFrom : List ℕ → ℕ → ℕ → List ℕ → ℕ → List Condition
+regionsFrom s version n regions count = map (λ l. spanRows s version n regions (2 * l)) (countUp 0 count)
 
 -- "u8 locations, equal to the model's; per location a region of 0..16 rows", by the numbers of locations and of variables alone
-unfoldable pub regionsFor : ℕ → ℕ → Reader (List Condition)
-regionsFor locations n = do
+unfoldable pub regionsFor : ℕ → ℕ → ℕ → Reader (List Condition)
+regionsFor locations version n = do
   count ← must (λ v. eqb v locations) 5 u8
-  many count (readCondition 16 n)
+  many count (readCondition version 16 n)
 
 -- what holds of the places of regions that were read: at most 16 rows each, and every row within the sheet
-pub record GoodRegions (s : List ℕ) (n count : ℕ) (regions : List ℕ) : Type 0 where
+pub record GoodRegions (s : List ℕ) (version n count : ℕ) (regions : List ℕ) : Type 0 where
   pub few : (l : ℕ) → l < count → entry regions (2 * l + 1) ≤ 16
-  pub within : (l : ℕ) → l < count → (j : ℕ) → j < entry regions (2 * l + 1) → entry regions (2 * l) + 4 * (n + 1) * (j + 1) ≤ length s
+  pub within : (l : ℕ) → l < count → (j : ℕ) → j < entry regions (2 * l + 1) → entry regions (2 * l) + rowBytes version n * (j + 1) ≤ length s
 
 -- how a proof begins: "u32 k, 0..2^24−1; u8 entries, 0..128", and "An unsafe goal has k = 0 only, else 5 at k"
 pub record Head : Type 0 where

@@ -24,15 +24,22 @@ ghost use Rattle.fields.specs.Answers.{gotAs};
 ghost use Rattle.second_sheets.specs.CertificateAnswers.{regionsFrom, regionsFor, readHead, gotHead, gotEntry};
 
 // So many regions of rows with n coefficients. Of each, the place of its first row and its row count are kept.
-fn regions_into(s: &[u8], at: usize, n: usize, count: usize, regions: &mut [u16]) -> Next
+fn regions_into(
+    s: &[u8],
+    at: usize,
+    version: u32,
+    n: usize,
+    count: usize,
+    regions: &mut [u16],
+) -> Next
     requires { ⌜ (length (now s) ≤ 32768) × ((n ≤ 8) × ((count ≤ 64) × (128 ≤ length (now regions)))) ⌝ }
-    ensures { λ r. ⌜ gotAs (regionsFrom (now (s .entry)) n (now (regions .exit)) count) r ≡ many count (readCondition 16 n) (now (s .entry)) at ⌝ }
+    ensures { λ r. ⌜ gotAs (regionsFrom (now (s .entry)) version n (now (regions .exit)) count) r ≡ many count (readCondition version 16 n) (now (s .entry)) at ⌝ }
     ensures { λ _. ⌜ Kept 0 (2 * count) (now (regions .entry)) (now (regions .exit)) ⌝ }
 {
     let mut place = at;
     let mut l: usize = 0;
     while l < count {
-        match condition(s, place, MOST_REGION_ROWS, n) {
+        match condition(s, place, version, MOST_REGION_ROWS, n) {
             Field::Refused(number, cut) => return Next::Refused(number, cut),
             Field::Value(rows, next) => {
                 let i = 2 * l;
@@ -48,9 +55,16 @@ fn regions_into(s: &[u8], at: usize, n: usize, count: usize, regions: &mut [u16]
 
 // The regions of a certificate for so many locations, kept at two numbers each: the place of the first row, and how many rows. Numbers
 // past those of the locations stay as they are; after a refusal the others are of no use.
-pub fn read_regions(s: &[u8], at: usize, n: usize, locations: u32, regions: &mut Regions) -> Next
+pub fn read_regions(
+    s: &[u8],
+    at: usize,
+    version: u32,
+    n: usize,
+    locations: u32,
+    regions: &mut Regions,
+) -> Next
     requires { ⌜ (length (now s) ≤ 32768) × ((n ≤ 8) × (locations ≤ 64)) ⌝ }
-    ensures { λ r. ⌜ gotAs (regionsFrom (now (s .entry)) n (now (regions .exit)) locations) r ≡ regionsFor locations n (now (s .entry)) at ⌝ }
+    ensures { λ r. ⌜ gotAs (regionsFrom (now (s .entry)) version n (now (regions .exit)) locations) r ≡ regionsFor locations version n (now (s .entry)) at ⌝ }
     ensures { λ _. ⌜ Kept 0 (2 * locations) (now (regions .entry)) (now (regions .exit)) ⌝ }
 {
     match byte(s, at) {
@@ -59,7 +73,7 @@ pub fn read_regions(s: &[u8], at: usize, n: usize, locations: u32, regions: &mut
             if count != locations {
                 return Next::Refused(5, at);
             }
-            regions_into(s, next, n, locations as usize, regions)
+            regions_into(s, next, version, n, locations as usize, regions)
         }
     }
 }

@@ -15,6 +15,9 @@ pub const MOST_VALUE: i64 = 134217728;
 
 pub const LEAST_VALUE: i64 = -134217728;
 
+// A run's location byte stands so far into the body: after four bytes of q and two of steps.
+pub const LOCATION_OFFSET: usize = 6;
+
 // Two numbers for each of up to 64 locations: the place of its region's first row, and how many rows it has.
 pub const REGIONS_LENGTH: usize = 128;
 

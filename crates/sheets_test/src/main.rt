@@ -12,6 +12,7 @@ use model_sheets::sheet::model_into;
 use models::layout::INDEX_LENGTH;
 use models::layout::Index;
 use models::layout::VARIABLES_AT;
+use models::layout::VERSION_AT;
 use second_sheets::EntryRead;
 use second_sheets::HeadRead;
 use second_sheets::OpeningRead;
@@ -55,13 +56,14 @@ fn try_regions(model: &[u8], index: &Index, s: &[u8])
     match header(s, 2) {
         Field::Refused(number, place) => answer(number, place),
         Field::Value(_, at) => {
+            let version = index[VERSION_AT] as u32;
             let n = index[VARIABLES_AT] as usize;
             let locations = location_count(model, index);
             if s.len() > 32768 || n > 8 || locations > 64 {
                 return;
             }
             let mut regions = [0u16; REGIONS_LENGTH];
-            answer_next(read_regions(s, at, n, locations, &mut regions));
+            answer_next(read_regions(s, at, version, n, locations, &mut regions));
         }
     }
 }

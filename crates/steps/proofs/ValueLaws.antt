@@ -12,11 +12,10 @@ use borrow.Author.Tests.{eq-eqb, ne-eqb}
 use lib.Dec.{T, eqb}
 use lib.IntN.{ℤ, pos, natAbs, _+ℤ_, _*ℤ_, +ℤ-assoc, +ℤ-comm, *ℤ-zero}
 use lib.ListN.{getD, take}
-use lib.Signed.{leZ}
 use mir.Syntax.{w64}
 use mir.Val.{SFits, ofZ}
 use Rattle.farkas.specs.Lists.{every}
-use Rattle.farkas.specs.Rows.{item, dot, rowHolds}
+use Rattle.farkas.specs.Rows.{item, dot, compared, rowHolds}
 use Rattle.farkas.specs.Farkas.{sameZ}
 use Rattle.farkas.proofs.Bits.{size-+*, same-bits}
 use Rattle.farkas.proofs.Promise.{same-means}
@@ -29,6 +28,7 @@ use Rattle.steps.specs.Held.{SmallPoint, modeHolds, moveHolds}
 use Rattle.rules.proofs.ListFacts.{is-true}
 use Rattle.rules.proofs.Points.{dot-nothing}
 use Rattle.steps.proofs.ValueLoops.{left-less, left-none, one-less}
+use Rattle.formats.specs.Versions.{rowBytes, strictAt}
 
 -- the sum with one more coefficient
 dot-first : (a p : ℤ) → a *ℤ p +ℤ pos 0 ≡ pos 0 +ℤ a *ℤ p
@@ -85,43 +85,43 @@ bound-room b q h k =
     omega (arith, mul-le-mul h below)
 
 -- a row is compared: its sum with q times its bound
-pub row-compared : (s : List ℕ) (at n q : ℕ) (ps : List ℤ) (sum b : ℤ) → sum ≡ dot (numbersAt s at n) ps → b ≡ signedAt s (at + 4 * n) *ℤ pos q → leZ sum b ≡ rowHolds q (take n ps) (rowAt s n at .row)
+pub row-compared : (s : List ℕ) (at version n q : ℕ) (ps : List ℤ) (sum b : ℤ) → sum ≡ dot (numbersAt s at n) ps → b ≡ signedAt s (at + 4 * n) *ℤ pos q → compared (strictAt version s at) sum b ≡ rowHolds q (take n ps) (rowAt s version n at .row)
 unfolding rowHolds rowAt
-row-compared s at n q ps sum b p r = rw (p, r, dot-take s at n ps) refl
+row-compared s at version n q ps sum b p r = rw (p, r, dot-take s at n ps) refl
 
 -- the rows that are left, and where they stand
-module _ (from n at j : ℕ) (here : at ≡ from + 4 * (n + 1) * j) where
-  pub row-room : (size : ℕ) → from + 4 * (n + 1) * (j + 1) ≤ size → at + 4 * (n + 1) ≤ size
-  row-room size h = omega (arith, mul-add (4 * (n + 1)) j 1, mul-one (4 * (n + 1)))
+module _ (from version n at j : ℕ) (here : at ≡ from + rowBytes version n * j) where
+  pub row-room : (size : ℕ) → from + rowBytes version n * (j + 1) ≤ size → at + rowBytes version n ≤ size
+  row-room size h = omega (arith, mul-add (rowBytes version n) j 1, mul-one (rowBytes version n))
 
-  pub row-next : at + 4 * (n + 1) ≡ from + 4 * (n + 1) * (j + 1)
-  row-next = omega (arith, mul-add (4 * (n + 1)) j 1, mul-one (4 * (n + 1)))
+  pub row-next : at + rowBytes version n ≡ from + rowBytes version n * (j + 1)
+  row-next = omega (arith, mul-add (rowBytes version n) j 1, mul-one (rowBytes version n))
 
 -- they hold exactly when all do: a row that holds is passed, one that fails decides, and after the last all hold
-module _ (s : List ℕ) (n q : ℕ) (ps : List ℤ) (whole : Bool) where
-  rows-first : (at left : ℕ) → 0 < left → conditionHolds q ps (rowsFrom s n at left) ≡ (rowHolds q ps (rowAt s n at .row) && conditionHolds q ps (rowsFrom s n (at + 4 * (n + 1)) (left - 1)))
+module _ (s : List ℕ) (version n q : ℕ) (ps : List ℤ) (whole : Bool) where
+  rows-first : (at left : ℕ) → 0 < left → conditionHolds q ps (rowsFrom s version n at left) ≡ (rowHolds q ps (rowAt s version n at .row) && conditionHolds q ps (rowsFrom s version n (at + rowBytes version n) (left - 1)))
   unfolding conditionHolds rowsFrom every
   rows-first at zero h = absurd (omega arith)
-  rows-first at (suc left) h = ap (λ (k : ℕ). rowHolds q ps (rowAt s n at .row) && conditionHolds q ps (rowsFrom s n (at + 4 * (n + 1)) k)) (one-less left)
+  rows-first at (suc left) h = ap (λ (k : ℕ). rowHolds q ps (rowAt s version n at .row) && conditionHolds q ps (rowsFrom s version n (at + rowBytes version n) k)) (one-less left)
 
-  pub rows-pass : (at rows j : ℕ) (r : Bool) → j < rows → r ≡ rowHolds q ps (rowAt s n at .row) → r ≡ true → conditionHolds q ps (rowsFrom s n at (rows - j)) ≡ whole → conditionHolds q ps (rowsFrom s n (at + 4 * (n + 1)) (rows - (j + 1))) ≡ whole
+  pub rows-pass : (at rows j : ℕ) (r : Bool) → j < rows → r ≡ rowHolds q ps (rowAt s version n at .row) → r ≡ true → conditionHolds q ps (rowsFrom s version n at (rows - j)) ≡ whole → conditionHolds q ps (rowsFrom s version n (at + rowBytes version n) (rows - (j + 1))) ≡ whole
   rows-pass at rows j r h p t e =
-      ap (λ (k : ℕ). conditionHolds q ps (rowsFrom s n (at + 4 * (n + 1)) k)) (left-less rows j h)
-      ∙ ap (λ b. b && conditionHolds q ps (rowsFrom s n (at + 4 * (n + 1)) (rows - j - 1))) (sym t ∙ p)
+      ap (λ (k : ℕ). conditionHolds q ps (rowsFrom s version n (at + rowBytes version n) k)) (left-less rows j h)
+      ∙ ap (λ b. b && conditionHolds q ps (rowsFrom s version n (at + rowBytes version n) (rows - j - 1))) (sym t ∙ p)
       ∙ sym (rows-first at (rows - j) (omega arith)) ∙ e
 
-  pub rows-fail : (at rows j : ℕ) (r : Bool) → j < rows → r ≡ rowHolds q ps (rowAt s n at .row) → r ≡ false → conditionHolds q ps (rowsFrom s n at (rows - j)) ≡ whole → false ≡ whole
+  pub rows-fail : (at rows j : ℕ) (r : Bool) → j < rows → r ≡ rowHolds q ps (rowAt s version n at .row) → r ≡ false → conditionHolds q ps (rowsFrom s version n at (rows - j)) ≡ whole → false ≡ whole
   rows-fail at rows j r h p t e =
-      ap (λ b. b && conditionHolds q ps (rowsFrom s n (at + 4 * (n + 1)) (rows - j - 1))) (sym t ∙ p)
+      ap (λ b. b && conditionHolds q ps (rowsFrom s version n (at + rowBytes version n) (rows - j - 1))) (sym t ∙ p)
       ∙ sym (rows-first at (rows - j) (omega arith)) ∙ e
 
-  pub rows-none : (at rows j : ℕ) → rows ≤ j → conditionHolds q ps (rowsFrom s n at (rows - j)) ≡ whole → true ≡ whole
+  pub rows-none : (at rows j : ℕ) → rows ≤ j → conditionHolds q ps (rowsFrom s version n at (rows - j)) ≡ whole → true ≡ whole
   unfolding conditionHolds rowsFrom every
-  rows-none at rows j h e = ap (λ (k : ℕ). conditionHolds q ps (rowsFrom s n at k)) (left-none rows j h) ∙ e
+  rows-none at rows j h e = ap (λ (k : ℕ). conditionHolds q ps (rowsFrom s version n at k)) (left-none rows j h) ∙ e
 
-pub rows-start : (s : List ℕ) (n q : ℕ) (ps : List ℤ) (index : List ℕ) (place at rows : ℕ) → at ≡ entry index place → rows ≡ entry index (place + 1) → conditionHolds q ps (rowsFrom s n at (rows - 0)) ≡ conditionHolds q ps (spanRows s n index place)
+pub rows-start : (s : List ℕ) (version n q : ℕ) (ps : List ℤ) (index : List ℕ) (place at rows : ℕ) → at ≡ entry index place → rows ≡ entry index (place + 1) → conditionHolds q ps (rowsFrom s version n at (rows - 0)) ≡ conditionHolds q ps (spanRows s version n index place)
 unfolding spanRows
-rows-start s n q ps index place at rows p r = rw (p, r) (ap (λ (k : ℕ). conditionHolds q ps (rowsFrom s n (entry index place) k)) (sub-zero (entry index (place + 1))))
+rows-start s version n q ps index place at rows p r = rw (p, r) (ap (λ (k : ℕ). conditionHolds q ps (rowsFrom s version n (entry index place) k)) (sub-zero (entry index (place + 1))))
 
 -- two values are the same where their bits are
 told-false : (b : Bool) → (T b → ⊥) → b ≡ false
@@ -164,43 +164,43 @@ module _ {s index modes : List ℕ} {offset : ℕ} (g : (offset ≤ 5) × GoodMo
   unfolding modePlace componentPlace
   mode-place = omega (arith, q, g .0, g .1 .small k h)
 
-  pub mode-span : GoodSpan s n index place
+  pub mode-span : GoodSpan s (entry index 11) n index place
   mode-span =
-      subst (λ (i : ℕ). GoodSpan s i index place) (sym p)
-      (subst (λ (i : ℕ). GoodSpan s (entry index 0) index i) (sym q) (g .1 .spans k h))
+      subst (λ (i : ℕ). GoodSpan s (entry index 11) i index place) (sym p)
+      (subst (λ (i : ℕ). GoodSpan s (entry index 11) (entry index 0) index i) (sym q) (g .1 .spans k h))
 
-  pub mode-told : (t : ℕ) (point : List ℤ) (r : Bool) → r ≡ conditionHolds t (take n point) (spanRows s n index place) → r ≡ modeHolds s index modes offset t point k
+  pub mode-told : (t : ℕ) (point : List ℤ) (r : Bool) → r ≡ conditionHolds t (take n point) (spanRows s (entry index 11) n index place) → r ≡ modeHolds s index modes offset t point k
   unfolding modeHolds
   mode-told t point r e =
       e
-      ∙ ap (λ (i : ℕ). conditionHolds t (take i point) (spanRows s i index place)) p
-      ∙ ap (λ (i : ℕ). conditionHolds t (take (entry index 0) point) (spanRows s (entry index 0) index i)) q
+      ∙ ap (λ (i : ℕ). conditionHolds t (take i point) (spanRows s (entry index 11) i index place)) p
+      ∙ ap (λ (i : ℕ). conditionHolds t (take (entry index 0) point) (spanRows s (entry index 11) (entry index 0) index i)) q
 
 module _ {s index : List ℕ} (g : GoodIndex s index) (n k i place : ℕ) (h : k < entry index 1) (l : i < entry index (componentPlace k + 2)) (p : n ≡ entry index 0) (q : place ≡ switchPlace (componentPlace k) i + 3) where
   pub switch-place : place + 1 < 1004
   unfolding switchPlace componentPlace
   switch-place = omega (arith, q, g .few, g .blocks k h .few)
 
-  pub switch-span : GoodSpan s (2 * n) index place
+  pub switch-span : GoodSpan s (entry index 11) (2 * n) index place
   switch-span =
-      subst (λ (m : ℕ). GoodSpan s (2 * m) index place) (sym p)
-      (subst (λ (m : ℕ). GoodSpan s (2 * entry index 0) index m) (sym q) (g .blocks k h .switches i l .jump))
+      subst (λ (m : ℕ). GoodSpan s (entry index 11) (2 * m) index place) (sym p)
+      (subst (λ (m : ℕ). GoodSpan s (entry index 11) (2 * entry index 0) index m) (sym q) (g .blocks k h .switches i l .jump))
 
-  pub switch-told : (t : ℕ) (point : List ℤ) (r : Bool) → eqb i stays ≡ false → r ≡ conditionHolds t (take (2 * n) point) (spanRows s (2 * n) index place) → r ≡ moveHolds s index t point k i
+  pub switch-told : (t : ℕ) (point : List ℤ) (r : Bool) → eqb i stays ≡ false → r ≡ conditionHolds t (take (2 * n) point) (spanRows s (entry index 11) (2 * n) index place) → r ≡ moveHolds s index t point k i
   unfolding moveHolds
   switch-told t point r f e =
-      first-false (eqb i stays) (conditionHolds t (take (2 * entry index 0) point) (spanRows s (2 * entry index 0) index (switchPlace (componentPlace k) i + 3))) r f
+      first-false (eqb i stays) (conditionHolds t (take (2 * entry index 0) point) (spanRows s (entry index 11) (2 * entry index 0) index (switchPlace (componentPlace k) i + 3))) r f
       (e
-      ∙ ap (λ (m : ℕ). conditionHolds t (take (2 * m) point) (spanRows s (2 * m) index place)) p
-      ∙ ap (λ (m : ℕ). conditionHolds t (take (2 * entry index 0) point) (spanRows s (2 * entry index 0) index m)) q)
+      ∙ ap (λ (m : ℕ). conditionHolds t (take (2 * m) point) (spanRows s (entry index 11) (2 * m) index place)) p
+      ∙ ap (λ (m : ℕ). conditionHolds t (take (2 * entry index 0) point) (spanRows s (entry index 11) (2 * entry index 0) index m)) q)
 
 module _ {s index : List ℕ} (g : GoodIndex s index) (n u : ℕ) (h : u < entry index 2) (p : n ≡ entry index 0) where
   pub unsafe-place : 892 + 6 * u + 4 + 1 < 1004
   unsafe-place = omega (arith, g .conditions)
 
-  pub unsafe-span : GoodSpan s n index (892 + 6 * u + 4)
+  pub unsafe-span : GoodSpan s (entry index 11) n index (892 + 6 * u + 4)
   unfolding unsafePlace
-  unsafe-span = subst (λ (m : ℕ). GoodSpan s m index (892 + 6 * u + 4)) (sym p) (g .unsafe u h)
+  unsafe-span = subst (λ (m : ℕ). GoodSpan s (entry index 11) m index (892 + 6 * u + 4)) (sym p) (g .unsafe u h)
 
 -- tests in a row, where the first are settled
 pub second-fails : (x a r : Bool) → a ≡ false → false ≡ (x && (a && r))

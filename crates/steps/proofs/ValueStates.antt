@@ -82,10 +82,10 @@ module _ (s index numbers : List ℕ) (long : entry index 1 ≤ length numbers) 
 -- the present modes
 module _ {s index : List ℕ} (g : GoodIndex s index) (location : ℕ) (modes : List ℕ) (stands : Stands s index location modes) (long : entry index 1 ≤ length modes) where
   -- a test of the present modes
-  present-is : (k : ℕ) → k < entry index 1 → modeOf (componentAt s index k) (getD modes k 0) ≡ modeFrom s (entry index 0) index (modePlace (componentPlace k) (getD modes k 0))
+  present-is : (k : ℕ) → k < entry index 1 → modeOf (componentAt s index k) (getD modes k 0) ≡ modeFrom s (entry index 11) (entry index 0) index (modePlace (componentPlace k) (getD modes k 0))
   present-is k h = mode-at s index k (getD modes k 0) (stands .known .known k h)
 
-  over-modes : (f : Mode → Bool) → every f (runs.modesIn (modelFrom s index) location) ≡ every (λ k. f (modeFrom s (entry index 0) index (modePlace (componentPlace k) (getD modes k 0)))) (countUp 0 (entry index 1))
+  over-modes : (f : Mode → Bool) → every f (runs.modesIn (modelFrom s index) location) ≡ every (λ k. f (modeFrom s (entry index 11) (entry index 0) index (modePlace (componentPlace k) (getD modes k 0)))) (countUp 0 (entry index 1))
   unfolding modelFrom runs.modesIn every present
   over-modes f =
       ap (λ ms. every f (present (componentsFrom s index) ms)) (sym (stands .here))
@@ -107,7 +107,7 @@ module _ {s index : List ℕ} (g : GoodIndex s index) (location : ℕ) (modes : 
 
   module _ (q : ℕ) (values point : List ℤ) (taken : take (entry index 0) point ≡ values) where
     rows-at : ℕ → List ℤ → ℕ → Bool
-    rows-at offset xs k = conditionHolds q xs (spanRows s (entry index 0) index (modePlace (componentPlace k) (getD modes k 0) + offset))
+    rows-at offset xs k = conditionHolds q xs (spanRows s (entry index 11) (entry index 0) index (modePlace (componentPlace k) (getD modes k 0) + offset))
 
     held-at : (offset : ℕ) → every (rows-at offset values) (countUp 0 (entry index 1)) ≡ every (modeHolds s index modes offset q point) (countUp 0 (entry index 1))
     unfolding rows-at modeHolds
@@ -154,17 +154,17 @@ module _ {s index : List ℕ} (g : GoodIndex s index) (location : ℕ) (modes : 
         ∙ start-is
 
     -- an unsafe state
-    unsafe-is : (u : ℕ) → (modesFit (unsafeFrom s (entry index 0) (entry index 1) index (unsafePlace u) .modes) (modesAt (componentsFrom s index) location) && conditionHolds q (take (entry index 0) values) (unsafeFrom s (entry index 0) (entry index 1) index (unsafePlace u) .rows)) ≡ unsafeAt s index modes q values u
+    unsafe-is : (u : ℕ) → (modesFit (unsafeFrom s (entry index 11) (entry index 0) (entry index 1) index (unsafePlace u) .modes) (modesAt (componentsFrom s index) location) && conditionHolds q (take (entry index 0) values) (unsafeFrom s (entry index 11) (entry index 0) (entry index 1) index (unsafePlace u) .rows)) ≡ unsafeAt s index modes q values u
     unfolding unsafeAt
     unsafe-is u =
-        let asked = unsafeFrom s (entry index 0) (entry index 1) index (unsafePlace u) in
+        let asked = unsafeFrom s (entry index 11) (entry index 0) (entry index 1) index (unsafePlace u) in
         ap (λ ms. modesFit (asked .modes) ms && conditionHolds q (take (entry index 0) values) (asked .rows)) (sym (stands .here))
 
     pub unsafe-told : some (unsafeAt s index modes q values) (countUp 0 (entry index 2)) ≡ runs.isUnsafe (modelFrom s index) q (stateOf index location values)
     unfolding runs.isUnsafe stateOf perVariable modelFrom
     unsafe-told =
         let f : Unsafe → Bool = λ u. modesFit (u .modes) (modesAt (componentsFrom s index) location) && conditionHolds q (take (entry index 0) values) (u .rows) in
-        let at : ℕ → Unsafe = λ u. unsafeFrom s (entry index 0) (entry index 1) index (unsafePlace u) in
+        let at : ℕ → Unsafe = λ u. unsafeFrom s (entry index 11) (entry index 0) (entry index 1) index (unsafePlace u) in
         sym (some-map f at (countUp 0 (entry index 2)) ∙ some-agree (λ u. f (at u)) (unsafeAt s index modes q values) (entry index 2) (λ u h. unsafe-is u))
 
   -- the rule of a flow
@@ -202,14 +202,14 @@ module _ {s index switches : List ℕ} (g : GoodIndex s index) (known : KnownSwi
       (over-all s index switches long (λ cs is. every f (movers cs is)) (λ c i. eqb i stays || f (switchOf c i)) (λ is. refl) (λ c cs i is. picked c cs i is f)
       ∙ each-agree (λ k. eqb (getD switches k 0) stays || f (switchOf (componentAt s index k) (getD switches k 0))) (moveAt s index switches q state) (entry index 1) (λ k h. move-is k h))
     where
-      jump-is : (k : ℕ) → getD switches k 0 < entry index (componentPlace k + 2) → switchOf (componentAt s index k) (getD switches k 0) .jump ≡ spanRows s (2 * entry index 0) index (switchPlace (componentPlace k) (getD switches k 0) + 3)
+      jump-is : (k : ℕ) → getD switches k 0 < entry index (componentPlace k + 2) → switchOf (componentAt s index k) (getD switches k 0) .jump ≡ spanRows s (entry index 11) (2 * entry index 0) index (switchPlace (componentPlace k) (getD switches k 0) + 3)
       jump-is k l = ap (λ w. w .jump) (switch-at s index k (getD switches k 0) l)
 
       move-is : (k : ℕ) → k < entry index 1 → (eqb (getD switches k 0) stays || conditionHolds q (take (entry index 0) state ++ take (entry index 0) (drop (entry index 0) state)) (switchOf (componentAt s index k) (getD switches k 0) .jump)) ≡ moveAt s index switches q state k
       move-is k h =
           either-same (eqb (getD switches k 0) stays) _ _
           (λ f. ap (conditionHolds q (take (entry index 0) state ++ take (entry index 0) (drop (entry index 0) state))) (jump-is k (known .known k h f))
-          ∙ ap (λ xs. conditionHolds q xs (spanRows s (2 * entry index 0) index (switchPlace (componentPlace k) (getD switches k 0) + 3))) (sym (both-taken (entry index 0) state)))
+          ∙ ap (λ xs. conditionHolds q xs (spanRows s (entry index 11) (2 * entry index 0) index (switchPlace (componentPlace k) (getD switches k 0) + 3))) (sym (both-taken (entry index 0) state)))
 
 -- the variables of staying components
 module _ {s index : List ℕ} (g : GoodIndex s index) (switches : List ℕ) (long : length switches ≡ 4) (location : ℕ) (state : List ℤ) where

@@ -15,7 +15,7 @@ use Rattle.farkas.specs.Farkas.{sameZ}
 use Rattle.formats.specs.Joint.{stays, modesAfter}
 use Rattle.formats.specs.Locations.{locationOf}
 use Rattle.formats.specs.RunSheet.{Step}
-use Rattle.models.specs.Index.{entry, ownerPlace, componentPlace, modePlace, switchPlace, unsafePlace, spanRows, unsafeFrom, componentsFrom, GoodIndex}
+use Rattle.models.specs.Index.{versionIn, entry, ownerPlace, componentPlace, modePlace, switchPlace, unsafePlace, spanRows, unsafeFrom, componentsFrom, GoodIndex}
 use Rattle.models.specs.Counts.{perComponent, KnownSwitches}
 use Rattle.second_sheets.specs.declared.Switches.{Switches}
 use Rattle.second_sheets.specs.declared.Step as coded
@@ -73,19 +73,19 @@ movedOn n state = paste state 0 (drop n state) n
 -- The rows of its mode at an offset hold
 unfoldable pub modeHolds : List ℕ → List ℕ → List ℕ → ℕ → ℕ → List ℤ → ℕ → Bool
 modeHolds s index modes offset q point k =
-    conditionHolds q (take (entry index 0) point) (spanRows s (entry index 0) index (modePlace (componentPlace k) (getD modes k 0) + offset))
+    conditionHolds q (take (entry index 0) point) (spanRows s (versionIn index) (entry index 0) index (modePlace (componentPlace k) (getD modes k 0) + offset))
 
 -- the modes and the rows of the unsafe condition fit
 unfoldable pub unsafeAt : List ℕ → List ℕ → List ℕ → ℕ → List ℤ → ℕ → Bool
 unsafeAt s index modes q point u =
-    modesFit (unsafeFrom s (entry index 0) (entry index 1) index (unsafePlace u) .modes) (perComponent index modes)
-    && conditionHolds q (take (entry index 0) point) (unsafeFrom s (entry index 0) (entry index 1) index (unsafePlace u) .rows)
+    modesFit (unsafeFrom s (versionIn index) (entry index 0) (entry index 1) index (unsafePlace u) .modes) (perComponent index modes)
+    && conditionHolds q (take (entry index 0) point) (unsafeFrom s (versionIn index) (entry index 0) (entry index 1) index (unsafePlace u) .rows)
 
 -- it stays, or the rows of its switch hold at the values before and after
 unfoldable pub moveHolds : List ℕ → List ℕ → ℕ → List ℤ → ℕ → ℕ → Bool
 moveHolds s index q point k i =
     eqb i stays
-    || conditionHolds q (take (2 * entry index 0) point) (spanRows s (2 * entry index 0) index (switchPlace (componentPlace k) i + 3))
+    || conditionHolds q (take (2 * entry index 0) point) (spanRows s (versionIn index) (2 * entry index 0) index (switchPlace (componentPlace k) i + 3))
 
 -- the same of its number among four
 unfoldable pub moveAt : List ℕ → List ℕ → List ℕ → ℕ → List ℤ → ℕ → Bool

@@ -1,15 +1,16 @@
 -- The entries of a proof, read one by one and summed as they are read: what one entry more gives, where reading them is refused, and that
 -- the sums of those so far leave room for the next. Assumes nothing.
 use mathlib.Core.Path.{_≡_, refl, sym, ap, ap₂, _∙_, subst}
+use mathlib.Core.Bool.{Bool, false}
 use mathlib.Core.List.{List, [], _∷_, _++_}
 use Prim.Native.Nat.{ℕ, zero, suc, _+_, _-_, _^_, _≤_, _<_}
 use native.Mathlib.Numerals.{add-one}
 use native.Mathlib.Omega.{arith}
 use lib.Dec.{leb→le, lit<}
 use lib.IntN.{ℤ, pos}
-use lib.ListN.{take, replicate}
-use Rattle.farkas.specs.Rows.{Row, rowOf}
-use Rattle.farkas.specs.Farkas.{Entry, addEntry, SumsOf}
+use lib.ListN.{getD, take, replicate}
+use Rattle.farkas.specs.Rows.{Row, rowOf, strictly, zeroRow}
+use Rattle.farkas.specs.Farkas.{Entry, strictAfter, addRow, addEntry, SumsOf}
 use Rattle.farkas.specs.Lists.{All, none, more}
 use Rattle.farkas.specs.Sizes.{Bytes, Within, Bounded}
 use Rattle.farkas.specs.Sums.{Spare}
@@ -26,6 +27,7 @@ use Rattle.hypotheses.specs.Tables.{TableLine, linesIn, hypothesisOf, hypothese
 use Rattle.sums.specs.declared.Reached.{Reached}
 use Rattle.sums.specs.Summing.{rowsIn, leastAfter, SoFar}
 use Rattle.sums.proofs.RowSizes.{hypothesis-within}
+use Rattle.sums.proofs.RowLaws.{hypothesis-plain}
 
 -- What an entry has: a hypothesis that is not too low and below the count, and a multiplier below 2 ^ 24
 pub record EntryWithin (hypotheses least : ℕ) (e : Entry) : Type 0 where
@@ -111,14 +113,24 @@ least-last least [] e = refl
 least-last least (x ∷ es) e = least-last (suc (x .hypothesis)) es e
 
 -- rows of sheets are of numbers of 32 bits and their opposites
-lines-within : (model second : List ℕ) (n : ℕ) → Bytes model → Bytes second → (ls : List TableLine) → All (λ l. Within (2 ^ 31) (hypothesisOf model second n l .row)) ls
+lines-within : (model second : List ℕ) (version n : ℕ) → Bytes model → Bytes second → (ls : List TableLine) → All (λ l. Within (2 ^ 31) (hypothesisOf model second version n l .row)) ls
 unfolding hypothesisOf
-lines-within model second n b c [] = none
-lines-within model second n b c (l ∷ ls) = more (hypothesis-within model second n (l .form) (l .place) (l .row) b c) (lines-within model second n b c ls)
+lines-within model second version n b c [] = none
+lines-within model second version n b c (l ∷ ls) = more (hypothesis-within model second version n (l .form) (l .place) (l .row) b c) (lines-within model second version n b c ls)
+
+-- and not strict
+lines-plain : (model second : List ℕ) (version n : ℕ) (ls : List TableLine) → All (λ l. hypothesisOf model second version n l .row .strict ≡ false) ls
+unfolding hypothesisOf
+lines-plain model second version n [] = none
+lines-plain model second version n (l ∷ ls) = more (hypothesis-plain model second version n (l .form) (l .place) (l .row)) (lines-plain model second version n ls)
+
+pub rows-plain : (model second : List ℕ) (n : ℕ) (table : List ℕ) (g : Group) → All (λ r. r .strict ≡ false) (rowsIn model second n table g)
+unfolding hypothesisRows hypothesesFrom
+rows-plain model second n table g = all-map (λ h. h .row) (all-map (hypothesisOf model second (g .version) n) (lines-plain model second (g .version) n (linesIn table (g .segments))))
 
 module _ {model second : List ℕ} {n : ℕ} {table : List ℕ} {g : Group} where
   -- Before the first entry
-  pub so-far-none : (at segment : ℕ) → SoFar model second n table g at 0 (record { place = at; least = 0; segment = segment; bound = pos 0 }) (replicate (g .width) (pos 0))
+  pub so-far-none : (at segment : ℕ) → SoFar model second n table g at 0 (record { place = at; least = 0; segment = segment; bound = pos 0; strict = false }) (replicate (g .width) (pos 0))
   unfolding readEntries give leastAfter
   so-far-none at segment = record { entries = []; read = refl; least = refl; held = none-summed (rowsIn model second n table g) (g .width) }
 
@@ -131,18 +143,20 @@ module _ {model second : List ℕ} {n : ℕ} {table : List ℕ} {g : Group} wher
 
     -- The next entry: its row is added as often as it says, and the sums are those of one entry more
     pub so-far-next :
-        (e : Entry) (place segment : ℕ) (after : List ℤ) (bound : ℤ)
+        (e : Entry) (place segment : ℕ) (after : List ℤ) (bound : ℤ) (strict : Bool)
         → readEntry (g .hypotheses) (reached .least) second (reached .place) ≡ got e place
-        → rowOf after bound ≡ addEntry (rowsIn model second n table g) (rowOf sums (reached .bound)) e
-        → SoFar model second n table g at (i + 1) (record { place = place; least = e .hypothesis + 1; segment = segment; bound = bound }) after
-    unfolding give
-    so-far-next e place segment after bound read added =
+        → rowOf after bound ≡ addRow (rowOf sums (reached .bound)) (e .multiplier) (strictly false (getD (rowsIn model second n table g) (e .hypothesis) zeroRow))
+        → strict ≡ strictAfter (reached .strict) (e .multiplier) (getD (rowsIn model second n table g) (e .hypothesis) zeroRow .strict)
+        → SoFar model second n table g at (i + 1) (record { place = place; least = e .hypothesis + 1; segment = segment; bound = bound; strict = strict }) after
+    unfolding give addEntry addRow
+    so-far-next e place segment after bound strict read added marked =
         let rows = rowsIn model second n table g in
+        let row : strictly strict (rowOf after bound) ≡ addEntry rows (strictly (reached .strict) (rowOf sums (reached .bound))) e = ap₂ strictly marked added in
         record {
           entries = so .entries ++ (e ∷ []);
           read = read-on ∙ bind-got (readEntry (g .hypotheses) (reached .least)) _ second (reached .place) read refl;
           least = add-one (e .hypothesis) ∙ sym (least-last 0 (so .entries) e);
-          held = subst (SumsOf rows (so .entries ++ (e ∷ []))) (sym added) (sums-next rows (so .entries) e (so .held));
+          held = subst (SumsOf rows (so .entries ++ (e ∷ []))) (sym row) (sums-next rows (so .entries) e (so .held));
         }
 
     -- or it is refused, and so are the entries
@@ -157,11 +171,12 @@ module _ {model second : List ℕ} {n : ℕ} {table : List ℕ} {g : Group} wher
         let known = entries-range (g .hypotheses) 0 i .holds second at (so .entries) (reached .place) (so .read) in
         let bounded : Bounded rows (so .entries) =
         record {
-          rows = all-map (λ h. h .row) (all-map (hypothesisOf model second n) (lines-within model second n b c (linesIn table (g .segments))));
+          rows = all-map (λ h. h .row) (all-map (hypothesisOf model second (g .version) n) (lines-within model second (g .version) n b c (linesIn table (g .segments))));
           multipliers = multipliers-small (known .1);
           few = omega (arith, known .0);
         } in
-        sums-room rows (so .entries) bounded (so .held) (2 ^ 24 - 1) (lit< tt) (omega (arith, known .0))
+        let room = sums-room rows (so .entries) bounded (so .held) (2 ^ 24 - 1) (lit< tt) (omega (arith, known .0)) in
+        record { coefficient = room .coefficient; bound = room .bound }
 
 -- room for the largest multiplier is room for any
 pub less-room : {m : ℕ} {r : Row} → m < 2 ^ 24 → Spare (2 ^ 24 - 1) r → Spare m r

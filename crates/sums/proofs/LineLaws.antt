@@ -44,11 +44,11 @@ module _ (table : List ℕ) (segments g h : ℕ) (s : Stacked table segments) (i
   line-there d = line-at table segments s g h d (i .least) (i .most) (i .from) (i .below)
 
   -- where all rows lie within their sheets, its row does
-  pub line-within : {model second : List ℕ} {n width : ℕ} → All (GoodLine model second n width) (linesIn table segments) → h < endOf table segments → GoodLine model second n width (tableLine (lineIn table g h))
+  pub line-within : {model second : List ℕ} {version n width : ℕ} → All (GoodLine model second version n width) (linesIn table segments) → h < endOf table segments → GoodLine model second version n width (tableLine (lineIn table g h))
   unfolding lineIn line
-  line-within {model} {second} {n} {width} all l =
+  line-within {model} {second} {version} {n} {width} all l =
       let d : TableLine = line 0 0 0 0 in
-      let good = subst (GoodLine model second n width) (line-there d) (all-below all h d (omega (arith, lines-length table segments s))) in
+      let good = subst (GoodLine model second version n width) (line-there d) (all-below all h d (omega (arith, lines-length table segments s))) in
       record {
         inModel = good .inModel;
         inSecond = good .inSecond;
@@ -59,21 +59,21 @@ module _ (table : List ℕ) (segments g h : ℕ) (s : Stacked table segments) (i
         timed = good .timed;
       }
 
-  pub row-listed : (model second : List ℕ) (n : ℕ) → h < endOf table segments → getD (hypothesisRows (hypothesesFrom model second n table segments)) h zeroRow ≡ hypothesisIn model second n (lineIn table g h .form) (lineIn table g h .place) (lineIn table g h .row) .row
+  pub row-listed : (model second : List ℕ) (version n : ℕ) → h < endOf table segments → getD (hypothesisRows (hypothesesFrom model second version n table segments)) h zeroRow ≡ hypothesisIn model second version n (lineIn table g h .form) (lineIn table g h .place) (lineIn table g h .row) .row
   unfolding hypothesisRows hypothesesFrom hypothesisOf lineIn line
-  row-listed model second n l =
+  row-listed model second version n l =
       let d : TableLine = line 0 0 0 0 in
       let lines = linesIn table segments in
-      let hs = map (hypothesisOf model second n) lines in
+      let hs = map (hypothesisOf model second version n) lines in
       let long : h < length lines = omega (arith, lines-length table segments s) in
-      mapped-at (λ k. k .row) hs h (hypothesisOf model second n d) zeroRow (omega (arith, length-map lines (hypothesisOf model second n)))
-      ∙ ap (λ (k : Hypothesis). k .row) (mapped-at (hypothesisOf model second n) lines h d (hypothesisOf model second n d) long ∙ ap (hypothesisOf model second n) (line-there d))
+      mapped-at (λ k. k .row) hs h (hypothesisOf model second version n d) zeroRow (omega (arith, length-map lines (hypothesisOf model second version n)))
+      ∙ ap (λ (k : Hypothesis). k .row) (mapped-at (hypothesisOf model second version n) lines h d (hypothesisOf model second version n d) long ∙ ap (hypothesisOf model second version n) (line-there d))
 
-pub rows-count : (model second : List ℕ) (n : ℕ) (table : List ℕ) (segments : ℕ) → Stacked table segments → length (hypothesisRows (hypothesesFrom model second n table segments)) ≡ endOf table segments
+pub rows-count : (model second : List ℕ) (version n : ℕ) (table : List ℕ) (segments : ℕ) → Stacked table segments → length (hypothesisRows (hypothesesFrom model second version n table segments)) ≡ endOf table segments
 unfolding hypothesisRows hypothesesFrom
-rows-count model second n table segments s =
-    length-map (map (hypothesisOf model second n) (linesIn table segments)) (λ h. h .row)
-    ∙ length-map (linesIn table segments) (hypothesisOf model second n)
+rows-count model second version n table segments s =
+    length-map (map (hypothesisOf model second version n) (linesIn table segments)) (λ h. h .row)
+    ∙ length-map (linesIn table segments) (hypothesisOf model second version n)
     ∙ lines-length table segments s
 
 -- where there is a hypothesis there is a segment

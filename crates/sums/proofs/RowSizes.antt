@@ -22,17 +22,17 @@ within-size : (size : ℕ) (r : Row) → Small size (r .coefficients) → natAbs
 within-size size r f h = record { coefficient = f; bound = h }
 
 -- the rows of a sheet on x, on the unknowns from `shift` on, and on rates
-plain-within : (s : List ℕ) (count at : ℕ) → Bytes s → Within (2 ^ 31) (rowAt s count at .row)
+plain-within : (s : List ℕ) (version count at : ℕ) → Bytes s → Within (2 ^ 31) (rowAt s version count at .row)
 unfolding rowAt rowIn onward
-plain-within s count at b = row-within s at 0 count b
+plain-within s version count at b = let w = row-within s at 0 count b in record { coefficient = w .coefficient; bound = w .bound }
 
-next-within : (s : List ℕ) (count at shift : ℕ) → Bytes s → Within (2 ^ 31) (onNext shift (rowAt s count at .row))
+next-within : (s : List ℕ) (version count at shift : ℕ) → Bytes s → Within (2 ^ 31) (onNext shift (rowAt s version count at .row))
 unfolding onNext rowAt rowIn onward
-next-within s count at shift b = row-within s at shift count b
+next-within s version count at shift b = let w = row-within s at shift count b in record { coefficient = w .coefficient; bound = w .bound }
 
-on-rates-within : (s : List ℕ) (n at : ℕ) → Bytes s → Within (2 ^ 31) (onRates (rowAt s n at .row))
+on-rates-within : (s : List ℕ) (version n at : ℕ) → Bytes s → Within (2 ^ 31) (onRates (rowAt s version n at .row))
 unfolding onRates rowAt rowIn onChange
-on-rates-within s n at b = rates-within s at n b
+on-rates-within s version n at b = rates-within s at n b
 
 time-within : (n : ℕ) → Within (2 ^ 31) (timeRow n)
 unfolding timeRow
@@ -61,14 +61,14 @@ keeps-within n v zero = up-within n v
 keeps-within n v (suc row) = down-within n v
 
 -- so the rows of every form
-pub hypothesis-within : (model second : List ℕ) (n form place row : ℕ) → Bytes model → Bytes second → Within (2 ^ 31) (hypothesisIn model second n form place row .row)
+pub hypothesis-within : (model second : List ℕ) (version n form place row : ℕ) → Bytes model → Bytes second → Within (2 ^ 31) (hypothesisIn model second version n form place row .row)
 unfolding hypothesisIn standing nowhere onX
-hypothesis-within model second n zero place row b c = plain-within model n (rowPlace n place row) b
-hypothesis-within model second n (suc zero) place row b c = plain-within second n (rowPlace n place row) c
-hypothesis-within model second n (suc (suc zero)) place row b c = plain-within model n (rowPlace n place row) b
-hypothesis-within model second n (suc (suc (suc zero))) place row b c = plain-within model n (rowPlace n place row) b
-hypothesis-within model second n (suc (suc (suc (suc zero)))) place row b c = next-within model n (rowPlace n place row) n b
-hypothesis-within model second n (suc (suc (suc (suc (suc zero))))) place row b c = on-rates-within model n (rowPlace n place row) b
-hypothesis-within model second n (suc (suc (suc (suc (suc (suc zero)))))) place row b c = time-within n
-hypothesis-within model second n (suc (suc (suc (suc (suc (suc (suc zero))))))) place row b c = plain-within model (2 * n) (rowPlace (2 * n) place row) b
-hypothesis-within model second n (suc (suc (suc (suc (suc (suc (suc (suc form)))))))) place row b c = keeps-within n place row
+hypothesis-within model second version n zero place row b c = plain-within model version n (rowPlace version n place row) b
+hypothesis-within model second version n (suc zero) place row b c = plain-within second version n (rowPlace version n place row) c
+hypothesis-within model second version n (suc (suc zero)) place row b c = plain-within model version n (rowPlace version n place row) b
+hypothesis-within model second version n (suc (suc (suc zero))) place row b c = plain-within model version n (rowPlace version n place row) b
+hypothesis-within model second version n (suc (suc (suc (suc zero)))) place row b c = next-within model version n (rowPlace version n place row) n b
+hypothesis-within model second version n (suc (suc (suc (suc (suc zero))))) place row b c = on-rates-within model version n (rowPlace version n place row) b
+hypothesis-within model second version n (suc (suc (suc (suc (suc (suc zero)))))) place row b c = time-within n
+hypothesis-within model second version n (suc (suc (suc (suc (suc (suc (suc zero))))))) place row b c = plain-within model version (2 * n) (rowPlace version (2 * n) place row) b
+hypothesis-within model second version n (suc (suc (suc (suc (suc (suc (suc (suc form)))))))) place row b c = keeps-within n place row

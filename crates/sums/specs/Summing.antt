@@ -7,7 +7,7 @@ use Prim.Native.Nat.{ℕ, zero, suc, _-_, _≤_, _<_}
 use lib.Dec.{ltb}
 use lib.IntN.{ℤ, pos}
 use lib.ListN.{replicate}
-use Rattle.farkas.specs.Rows.{Row, rowOf, zeroRow}
+use Rattle.farkas.specs.Rows.{Row, rowOf, strictly, zeroRow}
 use Rattle.farkas.specs.Farkas.{Entry, SumsOf}
 use Rattle.fields.specs.declared.Next.{Next}
 use Rattle.fields.specs.declared.Next.the-variants as next
@@ -50,12 +50,12 @@ unfoldable pub goalAt : List ℕ → ℕ → Group → ℕ → Row
 goalAt second n g at =
     elim (g .zero) [
       | true ↦ zeroRow
-      | false ↦ onNext (g .shift) (rowAt second n at .row)
+      | false ↦ onNext (g .shift) (rowAt second (g .version) n at .row)
     ]
 
 -- the hypotheses of a group's table, as rows
 abbrev pub rowsIn : List ℕ → List ℕ → ℕ → List ℕ → Group → List Row
-rowsIn model second n table g = hypothesisRows (hypothesesFrom model second n table (g .segments))
+rowsIn model second n table g = hypothesisRows (hypothesesFrom model second (g .version) n table (g .segments))
 
 -- the least hypothesis that the next entry may name: one more than the last entry's or, after none, the one given
 unfoldable pub leastAfter : ℕ → List Entry → ℕ
@@ -64,12 +64,12 @@ leastAfter least (e ∷ es) = leastAfter (suc (e .hypothesis)) es
 
 -- "after each entry the sums at all unknowns and the summed bound are those of the entries so far" (02, order 3). Of a proof whose entries
 -- begin at a place, the first i were read, and the next stands where they end and names a hypothesis after theirs; the sums held are theirs,
--- at every unknown, and so is the summed bound
+-- at every unknown, and so are the summed bound and whether a strict row is among the summed
 pub record SoFar (model second : List ℕ) (n : ℕ) (table : List ℕ) (g : Group) (at i : ℕ) (reached : Reached) (sums : List ℤ) : Type 0 where
   pub entries : List Entry
   pub read : readEntries (g .hypotheses) 0 i second at ≡ got entries (reached .place)
   pub least : reached .least ≡ leastAfter 0 entries
-  pub held : SumsOf (rowsIn model second n table g) entries (rowOf sums (reached .bound))
+  pub held : SumsOf (rowsIn model second n table g) entries (strictly (reached .strict) (rowOf sums (reached .bound)))
 
 -- the next hypothesis is sought from a segment that does not come after it
 pub record SoughtFrom (table : List ℕ) (g : Group) (reached : Reached) : Type 0 where

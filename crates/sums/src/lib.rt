@@ -9,13 +9,14 @@ pub struct Line {
     pub row: usize,
 }
 
-// How far the entries of a proof are read: the place of the next, the least hypothesis that it may name, the segment to seek that from, and
-// the summed bound.
+// How far the entries of a proof are read: the place of the next, the least hypothesis that it may name, the segment to seek that from, the
+// summed bound, and whether a strict row is among the summed.
 pub struct Reached {
     pub place: usize,
     pub least: u32,
     pub segment: usize,
     pub bound: i64,
+    pub strict: bool,
 }
 
 // What reading and summing entries finds: a refusal, by its number and place, or how far they are read.

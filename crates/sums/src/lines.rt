@@ -5,10 +5,13 @@ use farkas::add_rates;
 use farkas::add_row;
 use farkas::opposite;
 use farkas::times;
+use fields::versions::is_strict;
+use fields::versions::rows_bytes;
 ghost use mathlib.Core.Path.{_≡_};
+ghost use mathlib.Core.Bool.{false};
 ghost use Prim.Native.Nat.{_+_, _*_, _-_, _≤_, _<_};
 ghost use lib.ListN.{length};
-ghost use Rattle.farkas.specs.Rows.{rowOf};
+ghost use Rattle.farkas.specs.Rows.{rowOf, strictly};
 ghost use Rattle.farkas.specs.Farkas.{addRow};
 ghost use Rattle.farkas.specs.Sums.{Spare};
 ghost use Rattle.hypotheses.specs.Tables.{endOf, rowPlace, keeps, hypothesisIn, GoodLine};
@@ -40,11 +43,11 @@ pub fn line_at(table: &[u16], g: usize, segments: usize, h: u32) -> Line
 }
 
 // Where the row of a hypothesis stands: so many rows of n coefficients after the first.
-fn row_place(n: usize, line: Line) -> usize
+fn row_place(version: u32, n: usize, line: Line) -> usize
     requires { ⌜ (n ≤ 16) × ((line .place < 65536) × (line .row < 65536)) ⌝ }
-    ensures { λ r. ⌜ r ≡ rowPlace n (line .place) (line .row) ⌝ }
+    ensures { λ r. ⌜ r ≡ rowPlace version n (line .place) (line .row) ⌝ }
 {
-    line.place + 4 * (n + 1) * line.row
+    line.place + rows_bytes(version, n, line.row)
 }
 
 // A row of a variable that stays, added m times: "x'−x ≤ 0", or "x−x' ≤ 0".
@@ -64,25 +67,59 @@ fn add_staying(sums: &mut [i64], n: usize, v: usize, row: usize, m: u32, bound: 
 }
 
 // A hypothesis of form 6 and above, added m times: the time, a jump row, or a row of a variable that stays.
-fn add_later(model: &[u8], n: usize, line: Line, m: u32, sums: &mut [i64], bound: i64) -> i64
+fn add_later(
+    model: &[u8],
+    version: u32,
+    n: usize,
+    line: Line,
+    m: u32,
+    sums: &mut [i64],
+    bound: i64,
+) -> i64
     requires { ⌜ (length (now model) ≤ 32768) × ((n ≤ 8) × ((line .place < 65536) × ((line .row < 65536) × (6 ≤ line .form)))) ⌝ }
-    requires { ⌜ GoodLine (now model) (now model) n (length (now sums)) (tableLine line) × Spare m (rowOf (now sums) bound) ⌝ }
-    ensures { λ r. ⌜ rowOf (now (sums .exit)) r ≡ addRow (rowOf (now (sums .entry)) bound) m (hypothesisIn (now (model .entry)) (now (model .entry)) n (line .form) (line .place) (line .row) .row) ⌝ }
+    requires { ⌜ GoodLine (now model) (now model) version n (length (now sums)) (tableLine line) × Spare m (rowOf (now sums) bound) ⌝ }
+    ensures { λ r. ⌜ rowOf (now (sums .exit)) r ≡ addRow (rowOf (now (sums .entry)) bound) m (strictly false (hypothesisIn (now (model .entry)) (now (model .entry)) version n (line .form) (line .place) (line .row) .row)) ⌝ }
 {
     if line.form == 6 {
         add_one(sums, n + n, opposite(m));
         return bound;
     }
     if line.form == 7 {
-        return add_row(sums, bound, m, 0, model, row_place(2 * n, line), 2 * n);
+        return add_row(
+            sums,
+            bound,
+            m,
+            0,
+            model,
+            row_place(version, 2 * n, line),
+            2 * n,
+        );
     }
     add_staying(sums, n, line.place, line.row, m, bound)
 }
 
-// A hypothesis, added m times: a row on x, a row on x', a flow row, or a later form.
+// Whether a hypothesis is strict: the row of a sheet as it is marked; a flow row, the time and a staying variable never.
+pub fn line_strict(model: &[u8], second: &[u8], version: u32, n: usize, line: Line) -> bool
+    requires { ⌜ (n ≤ 8) × ((line .place < 65536) × (line .row < 65536)) ⌝ }
+    ensures { λ r. ⌜ r ≡ hypothesisIn (now (model .entry)) (now (second .entry)) version n (line .form) (line .place) (line .row) .row .strict ⌝ }
+{
+    if line.form == 1 {
+        return is_strict(version, second, row_place(version, n, line));
+    }
+    if line.form < 5 {
+        return is_strict(version, model, row_place(version, n, line));
+    }
+    if line.form == 7 {
+        return is_strict(version, model, row_place(version, 2 * n, line));
+    }
+    false
+}
+
+// A hypothesis, its mark aside, added m times: a row on x, a row on x', a flow row, or a later form.
 pub fn add_line(
     model: &[u8],
     second: &[u8],
+    version: u32,
     n: usize,
     line: Line,
     m: u32,
@@ -90,21 +127,21 @@ pub fn add_line(
     bound: i64,
 ) -> i64
     requires { ⌜ (length (now model) ≤ 32768) × ((length (now second) ≤ 32768) × ((n ≤ 8) × ((line .place < 65536) × (line .row < 65536)))) ⌝ }
-    requires { ⌜ GoodLine (now model) (now second) n (length (now sums)) (tableLine line) × Spare m (rowOf (now sums) bound) ⌝ }
-    ensures { λ r. ⌜ rowOf (now (sums .exit)) r ≡ addRow (rowOf (now (sums .entry)) bound) m (hypothesisIn (now (model .entry)) (now (second .entry)) n (line .form) (line .place) (line .row) .row) ⌝ }
+    requires { ⌜ GoodLine (now model) (now second) version n (length (now sums)) (tableLine line) × Spare m (rowOf (now sums) bound) ⌝ }
+    ensures { λ r. ⌜ rowOf (now (sums .exit)) r ≡ addRow (rowOf (now (sums .entry)) bound) m (strictly false (hypothesisIn (now (model .entry)) (now (second .entry)) version n (line .form) (line .place) (line .row) .row)) ⌝ }
 {
     if line.form == 1 {
-        return add_row(sums, bound, m, 0, second, row_place(n, line), n);
+        return add_row(sums, bound, m, 0, second, row_place(version, n, line), n);
     }
     if line.form < 4 {
-        return add_row(sums, bound, m, 0, model, row_place(n, line), n);
+        return add_row(sums, bound, m, 0, model, row_place(version, n, line), n);
     }
     if line.form == 4 {
-        return add_row(sums, bound, m, n, model, row_place(n, line), n);
+        return add_row(sums, bound, m, n, model, row_place(version, n, line), n);
     }
     if line.form == 5 {
-        add_rates(sums, m, model, row_place(n, line), n);
+        add_rates(sums, m, model, row_place(version, n, line), n);
         return bound;
     }
-    add_later(model, n, line, m, sums, bound)
+    add_later(model, version, n, line, m, sums, bound)
 }

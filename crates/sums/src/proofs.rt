@@ -3,11 +3,15 @@ use crate::Reached;
 use crate::Summed;
 use crate::lines::add_line;
 use crate::lines::line_at;
+use crate::lines::line_strict;
 use crate::lines::segment_of;
+use farkas::Bound;
 use farkas::Verdict;
 use farkas::judge;
 use farkas::judge_zero;
+use farkas::strict_after;
 use fields::Next;
+use fields::versions::is_strict;
 use hypotheses::Group;
 use second_sheets::EntryRead;
 use second_sheets::HeadRead;
@@ -15,10 +19,11 @@ use second_sheets::certificate::entry;
 use second_sheets::certificate::proof_head;
 ghost use mathlib.Core.Bool.{true, false};
 ghost use mathlib.Core.Path.{_≡_};
-ghost use Prim.Native.Nat.{ℕ, _+_, _*_, _-_, _^_, _≤_, _<_};
+ghost use Prim.Native.Nat.{ℕ, _+_, _-_, _^_, _≤_, _<_};
 ghost use lib.IntN.{pos};
 ghost use lib.ListN.{length, replicate};
-ghost use Rattle.farkas.specs.Rows.{rowOf};
+ghost use Rattle.formats.specs.Versions.{rowBytes};
+ghost use Rattle.farkas.specs.Rows.{rowOf, strictly};
 ghost use Rattle.farkas.specs.Farkas.{sumsTest, numberOf};
 ghost use Rattle.farkas.specs.Sums.{Spare};
 ghost use Rattle.hypotheses.specs.Tables.{markWith};
@@ -28,7 +33,7 @@ ghost use Rattle.sums.specs.Summing.{rowsIn, SoFar, SoughtFrom, SummedAf
 
 // The next entry of a proof, read and added to the sums. Where the sums at all unknowns and the summed bound were those of the first i
 // entries, they are now those of the first i + 1 (document 02, order 3), from whatever place the entries begin at. After a refusal the sums
-// are of no use.
+// are of no use. No row of a sheet is strict.
 fn add_entry(
     model: &[u8],
     second: &[u8],
@@ -48,13 +53,25 @@ fn add_entry(
         EntryRead::Entry(hypothesis, multiplier, place) => {
             let segment = segment_of(table, reached.segment, group.segments, hypothesis);
             let line = line_at(table, segment, group.segments, hypothesis);
-            let bound = add_line(model, second, n, line, multiplier, sums, reached.bound);
+            let bound = add_line(
+                model,
+                second,
+                group.version,
+                n,
+                line,
+                multiplier,
+                sums,
+                reached.bound,
+            );
+            let marked = line_strict(model, second, group.version, n, line);
+            let strict = strict_after(reached.strict, multiplier, marked);
             let least = hypothesis + 1;
             Summed::At(Reached {
                 place,
                 least,
                 segment,
                 bound,
+                strict,
             })
         }
     }
@@ -80,6 +97,7 @@ fn sum_entries(
         least: 0,
         segment: 1,
         bound: 0,
+        strict: false,
     };
     let mut i: u32 = 0;
     while i < count {
@@ -94,7 +112,7 @@ fn sum_entries(
     Summed::At(reached)
 }
 
-// The test of the sums of a proof with this k, whose goal stands at a place, or is no row.
+// The test of the sums of a proof with this k, whose goal stands at a place, or is no row. No goal is strict.
 fn verdict(
     second: &[u8],
     n: usize,
@@ -103,16 +121,22 @@ fn verdict(
     k: u32,
     sums: &mut [i64],
     bound: i64,
+    strict: bool,
 ) -> Verdict
     requires { ⌜ (length (now second) ≤ 32768) × ((n ≤ 8) × (group .shift + n ≤ length (now sums))) ⌝ }
-    requires { ⌜ ((group .zero ≡ false) → goal + 4 * (n + 1) ≤ length (now second)) × ((group .zero ≡ true) → k ≡ 0) ⌝ }
-    ensures { λ r. ⌜ numberOf r ≡ sumsTest k (rowOf (now (sums .entry)) bound) (goalAt (now (second .entry)) n group goal) ⌝ }
+    requires { ⌜ ((group .zero ≡ false) → goal + rowBytes (group .version) n ≤ length (now second)) × ((group .zero ≡ true) → k ≡ 0) ⌝ }
+    ensures { λ r. ⌜ numberOf r ≡ sumsTest k (strictly strict (rowOf (now (sums .entry)) bound)) (goalAt (now (second .entry)) n group goal) ⌝ }
     ensures { λ r. ⌜ (r ≡ Verdict.Holds → now (sums .exit) ≡ replicate (length (now (sums .entry))) (pos 0)) ⌝ }
 {
+    let summed = Bound {
+        value: bound,
+        strict,
+    };
     if group.zero {
-        return judge_zero(sums, bound);
+        return judge_zero(sums, summed);
     }
-    judge(sums, bound, k, group.shift, second, goal, n)
+    let must = is_strict(group.version, second, goal);
+    judge(sums, summed, k, group.shift, second, goal, n, must)
 }
 
 // What a proof that begins and ends at these places is answered.
@@ -140,7 +164,7 @@ pub fn mark_proof(
 ) -> Next
     requires { ⌜ (length (now model) ≤ 32768) × ((length (now second) ≤ 32768) × (n ≤ 8)) ⌝ }
     requires { ⌜ (96 ≤ length (now table)) × (GoodGroup (now model) (now second) n (now table) group × NoSums group (now sums)) ⌝ }
-    requires { ⌜ ((group .zero ≡ false) → goal + 4 * (n + 1) ≤ length (now second)) ⌝ }
+    requires { ⌜ ((group .zero ≡ false) → goal + rowBytes (group .version) n ≤ length (now second)) ⌝ }
     ensures { λ r. ⌜ r ≡ heldNext (markWith (rowsIn (now (model .entry)) (now (second .entry)) n (now (table .entry)) group) (group .zero) (goalAt (now (second .entry)) n group goal) (now (second .entry)) at) ⌝ }
     ensures { λ r. ⌜ ((end : ℕ) → r ≡ Next.At end → NoSums group (now (sums .exit))) ⌝ }
 {
@@ -151,7 +175,16 @@ pub fn mark_proof(
                 Summed::Refused(number, place) => Next::Refused(number, place),
                 Summed::At(reached) => {
                     judged(
-                        verdict(second, n, group, goal, k, sums, reached.bound),
+                        verdict(
+                            second,
+                            n,
+                            group,
+                            goal,
+                            k,
+                            sums,
+                            reached.bound,
+                            reached.strict,
+                        ),
                         at,
                         reached.place,
                     )

@@ -1,5 +1,5 @@
 -- Three calls add −a on x, a on x', −b on d; each finds its unknowns as they were. Assumes nothing.
-use mathlib.Core.Path.{_≡_, sym, ap, ap₂, _∙_, subst}
+use mathlib.Core.Path.{_≡_, refl, sym, ap, ap₂, _∙_, subst}
 use mathlib.Core.List.{List, [], _∷_}
 use Prim.Native.Nat.{_+_, _*_, _≤_}
 use native.Mathlib.Omega.{arith}
@@ -12,9 +12,8 @@ use mir.Val.{toZ, ofZ}
 use mir.Facts.{toZ-ofZ}
 use Rattle.farkas.specs.Rows.{rowOf, onChange}
 use Rattle.farkas.specs.Words.{signedAt, numbersAt, rowIn}
-use Rattle.farkas.specs.Farkas.{addRow}
 use Rattle.farkas.specs.Sums.{plusFrom, RoomAt}
-use Rattle.farkas.proofs.SumLaws.{plus-rates, numbers-length, rates-first, rates-second, rates-third, no-bound}
+use Rattle.farkas.proofs.SumLaws.{plus-rates, numbers-length, rates-first, rates-second, rates-third, no-bound, add-plain}
 use Rattle.farkas.proofs.add_rates.Statement.{statement}
 use Rattle.farkas.proofs.add_rates.Tie as tie
 
@@ -101,7 +100,7 @@ same-length : tie.Need-same-length
 same-length c = search needs
 
 returns : tie.Need-returns
-unfolding addRow onChange rowIn numbersAt
+unfolding onChange rowIn numbersAt
 returns c =
     let t = c .before .before .before .before in
     let s = t .before .before .before .before .before .before .before .before in
@@ -112,6 +111,7 @@ returns c =
     ∙ ap₂ (λ (m : ℤ) (ys : List ℤ). plusFrom (n + n) m ys (b ∷ [])) (less (t .before .before .before .before .before .before)) (both t)
     ∙ sym (plus-rates (s .args .m) (now (s .args .sums)) (row s) b n (as-many s) (s .pre .0 .0)))
     (no-bound (pos 0) (s .args .m))
+    ∙ add-plain (now (s .args .sums)) (pos 0) (s .args .m) (onChange (rowIn (now (s .args .words)) (s .args .at) n)) refl
 
 pub add-rates-spec : {M : Type 1} → statement M
 add-rates-spec =

@@ -1,5 +1,5 @@
 -- The coefficients are added by `add_numbers`, the bound by one product more. Assumes nothing.
-use mathlib.Core.Path.{_≡_, sym, ap, ap₂, _∙_}
+use mathlib.Core.Path.{_≡_, refl, sym, ap, ap₂, _∙_}
 use Prim.Native.Nat.{_+_, _^_, _≤_}
 use native.Mathlib.Nat.{mul-le-mul-left}
 use native.Mathlib.Omega.{arith}
@@ -12,9 +12,8 @@ use mir.Val.{toZ, ofZ}
 use mir.Facts.{toZ-ofZ}
 use Rattle.farkas.specs.Rows.{rowOf, onward}
 use Rattle.farkas.specs.Words.{numbersAt, rowIn}
-use Rattle.farkas.specs.Farkas.{addRow}
 use Rattle.farkas.specs.Sums.{plusFrom}
-use Rattle.farkas.proofs.SumLaws.{plus-onward, numbers-length, room-all}
+use Rattle.farkas.proofs.SumLaws.{plus-onward, numbers-length, room-all, add-plain}
 use Rattle.farkas.proofs.add_row.Statement.{statement}
 use Rattle.farkas.proofs.add_row.Tie as tie
 
@@ -52,7 +51,7 @@ same-length : tie.Need-same-length
 same-length c = search needs
 
 returns : tie.Need-returns
-unfolding addRow onward rowIn
+unfolding onward rowIn
 returns c =
     let s = c .before .before .before .before .before .before .before in
     let a = s .args in
@@ -69,6 +68,7 @@ returns c =
     ∙ c .multiply-add .ensures
     ∙ ap₂ (λ (b m : ℤ). b +ℤ m *ℤ toZ w64 (ofZ w64 (c .before .signed-word .result))) (toZ-ofZ (s .fits .bound)) (often t)
     ∙ ap (λ (y : ℤ). a .bound +ℤ pos (a .m) *ℤ y) (word ∙ c .before .signed-word .ensures .0))
+    ∙ add-plain (now (a .sums)) (a .bound) (a .m) (onward (a .shift) (rowIn (now (a .words)) (a .at) (a .count))) refl
 
 pub add-row-spec : {M : Type 1} → statement M
 add-row-spec =

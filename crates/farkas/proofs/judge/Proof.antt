@@ -1,5 +1,5 @@
 -- Each answer is the arm of `sumsTest` that the two tests pick. Assumes nothing.
-use mathlib.Core.Path.{_≡_, sym, _∙_}
+use mathlib.Core.Path.{_≡_, sym, ap₂, _∙_}
 use mathlib.Core.Bool.{true}
 use mathlib.Core.List.{_++_}
 use Prim.Native.Nat.{ℕ, _+_, _*_}
@@ -9,6 +9,8 @@ use borrow.Author.Tests.{not-true, not-false}
 use denote.Ref.{now}
 use lib.IntN.{pos}
 use lib.ListN.{replicate}
+use mir.Syntax.{w64}
+use mir.Val.{SFits}
 use mir.Facts.{toZ-ofZ}
 use Rattle.farkas.specs.Rows.{onward}
 use Rattle.farkas.specs.Words.{signedAt, numbersAt, rowIn}
@@ -36,16 +38,24 @@ signed-word-requires : tie.Need-signed-word-requires
 signed-word-requires c κs = search needs
 
 bound-passes-requires : tie.Need-bound-passes-requires
-bound-passes-requires c κs = rw (toZ-ofZ {z = c .signed-word .result} (record { sfits = c .signed-word .ok })) (c .signed-word .ensures .1)
+bound-passes-requires c κs = rw (toZ-ofZ {z = c .before .signed-word .result} (record { sfits = c .before .signed-word .ok })) (c .before .signed-word .ensures .1)
 
 -- where the second test is made: the sums agree, and the test is that of the definition
-agreed : (c : tie.After-bound-passes) → coefficientsAgree (c .before .before .before .before .before .before .before .args .k) (now (c .before .before .before .before .before .before .before .args .sums)) (replicate (c .before .before .before .before .before .before .before .args .shift) (pos 0) ++ numbersAt (now (c .before .before .before .before .before .before .before .args .words)) (c .before .before .before .before .before .before .before .args .at) (c .before .before .before .before .before .before .before .args .count)) ≡ true
-agreed c = sym (c .before .before .before .before .agree .ensures .0) ∙ not-false _ (c .before .before .if1 .left)
+abbrev begun : tie.After-bound-passes → tie.Start
+begun c = c .before .before .before .before .before .before .before .before
 
-tested : (c : tie.After-bound-passes) → c .bound-passes .result ≡ boundPasses (c .before .before .before .before .before .before .before .args .k) (c .before .before .before .before .before .before .before .args .bound) (signedAt (now (c .before .before .before .before .before .before .before .args .words)) (c .before .before .before .before .before .before .before .args .at + 4 * c .before .before .before .before .before .before .before .args .count))
+agreed : (c : tie.After-bound-passes) → coefficientsAgree (begun c .args .k) (now (begun c .args .sums)) (replicate (begun c .args .shift) (pos 0) ++ numbersAt (now (begun c .args .words)) (begun c .args .at) (begun c .args .count)) ≡ true
+agreed c = sym (c .before .before .before .before .before .agree .ensures .0) ∙ not-false _ (c .before .before .before .if1 .left)
+
+value-fits : (c : tie.After-bound-passes) → SFits w64 (begun c .args .bound .value)
+value-fits c = search needs
+
+tested : (c : tie.After-bound-passes) → c .bound-passes .result ≡ boundPasses (begun c .args .k) (begun c .args .bound .value) (begun c .args .bound .strict) (signedAt (now (begun c .args .words)) (begun c .args .at + 4 * begun c .args .count)) (begun c .args .must)
 tested c =
-    let s = c .before .before .before .before .before .before .before in
-    rw (c .bound-passes .ensures, toZ-ofZ (s .fits .bound), toZ-ofZ {z = c .before .signed-word .result} (record { sfits = c .before .signed-word .ok }), c .before .signed-word .ensures .0)
+    let k = c .before .before .signed-word in
+    let a = begun c .args in
+    c .bound-passes .ensures
+    ∙ ap₂ (λ sum goal. boundPasses (a .k) sum (a .bound .strict) goal (a .must)) (toZ-ofZ (value-fits c)) (toZ-ofZ {z = k .result} (record { sfits = k .ok }) ∙ k .ensures .0)
 
 same-length-2 : tie.Need-same-length-2
 same-length-2 c = search needs
@@ -54,7 +64,7 @@ returns-2 : tie.Need-returns-2
 unfolding sumsTest numberOf onward rowIn
 returns-2 c = (
   rw (agreed (c .before), sym (tested (c .before)) ∙ c .if2 .taken),
-  λ e. c .before .before .before .before .before .agree .ensures .1 (not-false _ (c .before .before .before .if1 .left)),
+  λ e. c .before .before .before .before .before .before .agree .ensures .1 (not-false _ (c .before .before .before .before .if1 .left)),
 )
 
 same-length-3 : tie.Need-same-length-3

@@ -1,11 +1,12 @@
 -- Farkas' test of sums of 0 with k 0 computes to 11, against 0 ≤ 0 and against a row of zeros in bytes. Assumes nothing.
 use mathlib.Core.Path.{_≡_, refl, _∙_}
+use mathlib.Core.Bool.{false}
 use mathlib.Core.List.{List, [], _∷_}
 use Prim.Native.Nat.{ℕ}
 use borrow.Author.Needs.{needs}
 use borrow.Author.Tests.{eq-eqb}
 use lib.IntN.{pos}
-use Rattle.farkas.specs.Rows.{rowOf, zeroRow, onward}
+use Rattle.farkas.specs.Rows.{rowOf, strictly, compared, zeroRow, onward}
 use Rattle.farkas.specs.Lists.{every}
 use Rattle.farkas.specs.Farkas.{sameZ, coefficientsAgree, boundPasses, sumsTest}
 use Rattle.farkas.specs.Words.{bigEndian, signed, signedAt, numbersAt, rowIn}
@@ -13,14 +14,14 @@ use Rattle.farkas_test.proofs.none_refused.Statement.{statement}
 use Rattle.farkas_test.proofs.none_refused.Tie as tie
 
 no-goal : sumsTest 0 (rowOf (pos 0 ∷ []) (pos 0)) zeroRow ≡ 11
-unfolding zeroRow sumsTest coefficientsAgree sameZ every boundPasses
+unfolding zeroRow sumsTest coefficientsAgree sameZ every boundPasses compared
 no-goal = refl
 
 abbrev zeros : List ℕ
 zeros = 0 ∷ 0 ∷ 0 ∷ 0 ∷ 0 ∷ 0 ∷ 0 ∷ 0 ∷ []
 
-zero-goal : sumsTest 0 (rowOf (pos 0 ∷ []) (pos 0)) (onward 0 (rowIn zeros 0 1)) ≡ 11
-unfolding onward rowIn numbersAt signedAt signed bigEndian sumsTest coefficientsAgree sameZ every boundPasses
+zero-goal : sumsTest 0 (rowOf (pos 0 ∷ []) (pos 0)) (onward 0 (strictly false (rowIn zeros 0 1))) ≡ 11
+unfolding onward rowIn numbersAt signedAt signed bigEndian sumsTest coefficientsAgree sameZ every boundPasses compared
 zero-goal = refl
 
 slice-aggregate-judge-zero : tie.Need-slice-aggregate-judge-zero

@@ -1,6 +1,7 @@
--- The index of a model has at most 8 variables. Assumes nothing.
+-- The index of a model has at most 8 variables, and its version is a byte. Assumes nothing.
 use native.Mathlib.Omega.{arith}
 use borrow.Author.Needs.{needs}
+use Rattle.formats.proofs.Versions.{version-small}
 use Rattle.models.specs.Index.{entry}
 use Rattle.sheets_test.proofs.try_regions.Statement.{statement}
 use Rattle.sheets_test.proofs.try_regions.Tie as tie
@@ -17,12 +18,19 @@ answer-requires c κs = search needs
 enum-known-at : tie.Need-enum-known-at
 enum-known-at c = search needs
 
+element-copy-out-version : tie.Need-element-copy-out-version
+element-copy-out-version c = search needs
+
+cast-version : tie.Need-cast-version
+unfolding entry
+cast-version c = omega (arith, version-small 1 _ (c .before .before .before .before .before .before .before .pre .version))
+
 element-copy-out-n : tie.Need-element-copy-out-n
 element-copy-out-n c = search needs
 
 cast-n : tie.Need-cast-n
 unfolding entry
-cast-n c = omega (arith, c .before .before .before .before .before .before .before .pre .most)
+cast-n c = omega (arith, c .before .before .before .before .before .before .before .before .pre .most)
 
 location-count-requires : tie.Need-location-count-requires
 location-count-requires c κs = search needs
@@ -50,6 +58,8 @@ try-regions-spec =
     enum-known-number
     answer-requires
     enum-known-at
+    element-copy-out-version
+    cast-version
     element-copy-out-n
     cast-n
     location-count-requires

@@ -17,16 +17,19 @@ returns c =
     let e = o .open-paper .ensures .0 in
     e ∙ certificate-refused (a .limits) (now (a .model)) (now (a .second)) (λ z. c .if1 .taken (ap (λ (x : Answer). x .number) e ∙ z))
 
+cast-mark-body : tie.Need-cast-mark-body
+cast-mark-body c = search needs
+
 mark-body-requires : tie.Need-mark-body-requires
 mark-body-requires c κs =
-    let w = c .before .before .before .open-paper .ensures .1 .1 (c .before .if1 .left) in
+    let w = c .before .before .before .before .open-paper .ensures .1 .1 (c .before .before .if1 .left) in
     (w .first .accepted, (w .bodied, w .brief))
 
 returns-2 : tie.Need-returns-2
 returns-2 c =
-    let o = c .before .before .before .before in
+    let o = c .before .before .before .before .before in
     let a = o .before .before .before .before .args in
-    c .mark-body .ensures ∙ certificate-open (a .limits) (now (a .model)) (now (a .second)) (o .open-paper .ensures .1 .1 (c .before .before .if1 .left))
+    c .mark-body .ensures ∙ certificate-open (a .limits) (now (a .model)) (now (a .second)) (o .open-paper .ensures .1 .1 (c .before .before .before .if1 .left))
 
 pub mark-certificate-spec : {M : Type 1} → statement M
-mark-certificate-spec = tie.close (tie.spec open-paper-requires returns mark-body-requires returns-2)
+mark-certificate-spec = tie.close (tie.spec open-paper-requires returns cast-mark-body mark-body-requires returns-2)

@@ -19,7 +19,7 @@ stop-certificate-requires c κs =
     let p = c .before .before .before .before .before .pre in
     let index = now (a .index) in
     let s = now (a .second) in
-    let all = obligations (modelFrom (now (a .model)) index) (regionsFrom s (entry index 0) (now (a .regions)) (a .locations)) in
+    let all = obligations (modelFrom (now (a .model)) index) (regionsFrom s (entry index 11) (entry index 0) (now (a .regions)) (a .locations)) in
     let marked = c .before .before .mark-obligations in
     let within = marked-within all s (a .at) (p .1 .1) (marked .result) (marked .ensures) in
     (p .0, (p .1 .0, (omega (arith, within .0, p .0 .brief), omega (arith, within .1, obligations-few (p .0) (a .locations) (p .1 .0 .0) (p .1 .0 .1)))))
@@ -30,7 +30,7 @@ returns c =
     let p = c .before .before .before .before .before .before .pre in
     let index = now (a .index) in
     let s = now (a .second) in
-    let all = obligations (modelFrom (now (a .model)) index) (regionsFrom s (entry index 0) (now (a .regions)) (a .locations)) in
+    let all = obligations (modelFrom (now (a .model)) index) (regionsFrom s (entry index 11) (entry index 0) (now (a .regions)) (a .locations)) in
     let marked = c .before .before .before .mark-obligations in
     c .stop-certificate .ensures ∙ rest-stops all s (a .at) (p .1 .1) (marked .result) (marked .ensures) (c .before .if1 .taken)
 
@@ -40,7 +40,7 @@ end-certificate-requires c κs =
     let p = c .before .before .before .before .before .pre in
     let index = now (a .index) in
     let s = now (a .second) in
-    let all = obligations (modelFrom (now (a .model)) index) (regionsFrom s (entry index 0) (now (a .regions)) (a .locations)) in
+    let all = obligations (modelFrom (now (a .model)) index) (regionsFrom s (entry index 11) (entry index 0) (now (a .regions)) (a .locations)) in
     let marked = c .before .before .mark-obligations in
     (p .0 .brief, marked-within all s (a .at) (p .1 .1) (marked .result) (marked .ensures) .0)
 
@@ -50,7 +50,7 @@ returns-2 c =
     let p = c .before .before .before .before .before .before .pre in
     let index = now (a .index) in
     let s = now (a .second) in
-    let all = obligations (modelFrom (now (a .model)) index) (regionsFrom s (entry index 0) (now (a .regions)) (a .locations)) in
+    let all = obligations (modelFrom (now (a .model)) index) (regionsFrom s (entry index 11) (entry index 0) (now (a .regions)) (a .locations)) in
     let marked = c .before .before .before .mark-obligations in
     c .end-certificate .ensures ∙ rest-passes all s (a .at) (p .1 .1) (marked .result) (marked .ensures) (c .before .if1 .left)
 

@@ -121,7 +121,8 @@ one-of-requires : tie.Need-one-of-requires Inv-loop2 μ-loop2 Inv-loop μ-loop I
 unfolding entry
 one-of-requires c κs =
     let s = c .before .before .before .before .before .before .before .before .before .before .before .before .before .before .before .before .before in
-    (s .pre .0 .good .most, goal-low (c .before .before .loop2 .goal) (s .pre .0 .good .most) (s .pre .0 .brief) (c .before .loop2-test .taken) (c .before .before .before .before .before .group-at .ensures .1))
+    let good = c .before .before .before .before .before .group-at .ensures .1 in
+    (s .pre .0 .good .most, (omega (arith, c .before .loop2-test .taken, good .counted), goal-low (c .before .before .loop2 .goal) (s .pre .0 .good .most) (s .pre .0 .brief) (c .before .loop2-test .taken) good))
 
 mark-group-requires : tie.Need-mark-group-requires Inv-loop2 μ-loop2 Inv-loop μ-loop Inv-marking μ-marking
 unfolding entry

@@ -81,7 +81,7 @@ returns c =
     let lines : linesIn table (k .result) ≡ jumpLines index regions location (perComponent index modes) (perComponent index (told .result)) switches =
     k .ensures .0 ∙ ap (λ (ls : List TableLine). ls ++ landingLines index (perComponent index (told .result)) switches) (here .told ∙ ap (hereLines index regions location) (sym (stands .here))) in
     let fine = jump-fine model index second regions modes location long (stands .known) (s .pre .0) (here .below) (told .result) switches wide (there .known) broad (s .pre .1 .0 .1) in
-    let same : c .region-group .result ≡ regionGroup regions to table (k .result) n (n + n) = c .region-group .ensures in (
+    let same : c .region-group .result ≡ regionGroup (entry index 11) regions to table (k .result) n (n + n) = c .region-group .ensures in (
       ap (tasksOf model second n table) same ∙ jump-tasks model index second regions modes location long stands table (k .result) (n + n) to (told .result) switches wide there broad (s .pre .1 .0 .1) (s .pre .0 .good) lines,
       (
         subst (λ (g : Group). GoodGroup model second n table g) (sym same) (region-good model index second regions table to (k .result) n (n + n) _ (s .pre .0) (s .pre .1 .0 .0) (k .ensures .1 .stacked) (omega (arith, k .ensures .1 .few, here .few)) lines fine (omega arith) (omega (arith, s .pre .0 .good .most))),

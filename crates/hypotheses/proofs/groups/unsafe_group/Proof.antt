@@ -37,27 +37,30 @@ unsafe-table-requires c κs = let s = c .before .before .before .before .before 
 lines-requires : tie.Need-lines-requires
 lines-requires c κs = let k = c .before .before .before .unsafe-table in (omega (arith, k .kept .1 .1 .1 .1 .1 .1 .1 .0, c .before .before .before .before .before .before .before .before .before .before .pre .1 .1 .1 .0), omega (arith, k .ensures .1 .few))
 
-element-copy-out-t19 : tie.Need-element-copy-out-t19
-element-copy-out-t19 c = search needs
+version-of-requires : tie.Need-version-of-requires
+version-of-requires c κs = search needs
 
-cast-t20 : tie.Need-cast-t20
+element-copy-out-t20 : tie.Need-element-copy-out-t20
+element-copy-out-t20 c = search needs
+
+cast-t21 : tie.Need-cast-t21
 unfolding entry
-cast-t20 c = omega (arith, c .before .before .before .before .before .before .before .before .before .before .before .before .pre .0 .good .most)
+cast-t21 c = omega (arith, c .before .before .before .before .before .before .before .before .before .before .before .before .before .pre .0 .good .most)
 
 same-length : tie.Need-same-length
-same-length c = c .before .before .before .before .before .unsafe-table .kept .1 .1 .1 .1 .1 .1 .1 .0
+same-length c = c .before .before .before .before .before .before .unsafe-table .kept .1 .1 .1 .1 .1 .1 .1 .0
 
 returns-2 : tie.Need-returns-2
 unfolding entry unsafeGroup
 returns-2 c =
-    let s = c .before .before .before .before .before .before .before .before .before .before .before .before in
+    let s = c .before .before .before .before .before .before .before .before .before .before .before .before .before in
     let p = s .pre in
-    let k = c .before .before .before .before .before .unsafe-table in
+    let k = c .before .before .before .before .before .before .unsafe-table in
     let lines = lines-start (pushed (k .ensures)) in
-    let fits = c .before .before .before .before .before .before .before .before .modes-fit in
+    let fits = c .before .before .before .before .before .before .before .before .before .modes-fit in
     let fine = unsafe-fine (now (s .args .model)) (now (s .args .index)) (now (s .args .second)) (now (s .args .regions)) (s .args .modes) (s .args .location) (long s) (p .1 .0 .known) (p .0) (p .1 .0 .below) (s .args .u) (p .1 .1 .0) in
-    rw (c .before .lines .ensures) (
-      unsafe-tasks _ _ _ _ (s .args .modes) _ (long s) (p .1 .0) _ (k .result) _ (s .args .u) (p .1 .1 .0) lines (sym (test-passed (fits .result) (c .before .before .before .before .before .before .before .if1 .left) (fits .ensures))),
+    rw (c .before .before .lines .ensures, c .before .version-of .ensures) (
+      unsafe-tasks _ _ _ _ (s .args .modes) _ (long s) (p .1 .0) _ (k .result) _ (s .args .u) (p .1 .1 .0) lines (sym (test-passed (fits .result) (c .before .before .before .before .before .before .before .before .if1 .left) (fits .ensures))),
       unsafe-good _ (now (s .args .index)) _ _ (k .result) _ _ (k .ensures .1 .stacked) (omega (arith, k .ensures .1 .few)) lines fine (omega arith) (omega (arith, p .0 .good .most)),
     )
 
@@ -70,7 +73,8 @@ unsafe-group-spec =
     returns
     unsafe-table-requires
     lines-requires
-    element-copy-out-t19
-    cast-t20
+    version-of-requires
+    element-copy-out-t20
+    cast-t21
     same-length
     returns-2)

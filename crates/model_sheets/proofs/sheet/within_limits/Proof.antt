@@ -23,7 +23,7 @@ returns c =
     let a = located .before .before .before .args in
     let s = now (a .s) in
     let components = componentsFrom s (now (a .index)) in
-    (sym (limits-seven (a .limits) components s (a .next) (subst (λ (n : ℕ). a .limits .locations < n) (located .location-count .ensures) (c .if1 .taken))), (no-counts (now (a .index)), refused-uncounted s (now (a .index)) 7 4))
+    (sym (limits-seven (a .limits) components (a .body) s (a .next) (subst (λ (n : ℕ). a .limits .locations < n) (located .location-count .ensures) (c .if1 .taken))), (no-counts (now (a .index)), refused-uncounted s (now (a .index)) 7 (a .body)))
 
 event-totals-requires : tie.Need-event-totals-requires
 event-totals-requires c κs = search needs
@@ -41,7 +41,7 @@ returns-2 c =
     let s = now (a .s) in
     let components = componentsFrom s (now (a .index)) in
     let few : locationCount components ≤ a .limits .locations = subst (λ (n : ℕ). n ≤ a .limits .locations) (located .location-count .ensures) (totals .before .before .if1 .left) in
-    (sym (limits-eight (a .limits) components s (a .next) few (omega (arith, c .if2 .taken, joined .joint-total .ensures))), (no-counts (now (a .index)), refused-uncounted s (now (a .index)) 8 4))
+    (sym (limits-eight (a .limits) components (a .body) s (a .next) few (omega (arith, c .if2 .taken, joined .joint-total .ensures))), (no-counts (now (a .index)), refused-uncounted s (now (a .index)) 8 (a .body)))
 
 keep-counts-requires : tie.Need-keep-counts-requires
 keep-counts-requires c κs =
@@ -64,7 +64,7 @@ returns-3 c =
     let components = componentsFrom s (now (a .index)) in
     let few : locationCount components ≤ a .limits .locations = subst (λ (n : ℕ). n ≤ a .limits .locations) (located .location-count .ensures) (totals .before .before .if1 .left) in
     let kept = c .keep-counts .ensures in (
-      sym (tests-pass (a .limits) components 4 s (a .next) (record { locations = few; joined = omega (arith, c .before .before .if2 .left, joined .joint-total .ensures) })),
+      sym (tests-pass (a .limits) components (a .body) s (a .next) (record { locations = few; joined = omega (arith, c .before .before .if2 .left, joined .joint-total .ensures) })),
       (kept .1, λ end e. counted (start .pre .0) (totals .event-totals .result) (joined .joint-total .result) (located .location-count .result) (totals .event-totals .ensures) (joined .joint-total .ensures) (located .location-count .ensures) (kept .0) (kept .1 .same)),
     )
 

@@ -25,7 +25,7 @@ enum-known-second c = search needs
 
 slice-read-n : tie.Need-slice-read-n
 slice-read-n c =
-    omega (arith, c .before .before .before .before .before .before .before .before .before .before .pre .long, c .before .before .before .before .before .before .totals-into .kept .1 .1 .0)
+    omega (arith, c .before .before .before .before .before .before .before .before .before .before .pre .0 .long, c .before .before .before .before .before .before .totals-into .kept .1 .1 .0)
 
 cast-n : tie.Need-cast-n
 cast-n c =
@@ -33,7 +33,7 @@ cast-n c =
 
 slice-read-c : tie.Need-slice-read-c
 slice-read-c c =
-    omega (arith, c .before .before .before .before .before .before .before .before .before .before .before .pre .long, c .before .before .before .before .before .before .before .totals-into .kept .1 .1 .0)
+    omega (arith, c .before .before .before .before .before .before .before .before .before .before .before .pre .0 .long, c .before .before .before .before .before .before .before .totals-into .kept .1 .1 .0)
 
 cast-c : tie.Need-cast-c
 cast-c c =
@@ -41,7 +41,7 @@ cast-c c =
 
 slice-read-count : tie.Need-slice-read-count
 slice-read-count c =
-    omega (arith, c .before .before .before .before .before .before .before .before .before .before .before .before .pre .long, c .before .before .before .before .before .before .before .before .totals-into .kept .1 .1 .0)
+    omega (arith, c .before .before .before .before .before .before .before .before .before .before .before .before .pre .0 .long, c .before .before .before .before .before .before .before .before .totals-into .kept .1 .1 .0)
 
 cast-count : tie.Need-cast-count
 cast-count c =
@@ -57,7 +57,7 @@ owners-into-requires c κs =
     let second = c .before .before .before .before .before .second .given .0 .0 in
     let one : readTotals s (a .at) ≡ got t second = told-at t (readTotals s (a .at)) (c .before .before .before .before .before .before .before .before .before .totals-into .ensures .0) (c .before .before .before .before .before .second .given .1) in
     let small = totals-small s (a .at) t second one in
-    (record { short = c .before .before .before .before .before .before .before .before .before .before .before .before .before .pre .short; long = omega (arith, c .before .before .before .before .before .before .before .before .before .before .before .before .before .pre .long, c .before .before .before .before .before .before .before .before .before .totals-into .kept .1 .1 .0) }, (small .most, small .few))
+    (record { short = c .before .before .before .before .before .before .before .before .before .before .before .before .before .pre .0 .short; long = omega (arith, c .before .before .before .before .before .before .before .before .before .before .before .before .before .pre .0 .long, c .before .before .before .before .before .before .before .before .before .totals-into .kept .1 .1 .0) }, (small .most, small .few))
 
 enum-known-number-2 : tie.Need-enum-known-number-2
 enum-known-number-2 c = search needs
@@ -90,7 +90,7 @@ parts-into-requires c κs =
     let y = c .before .before .before .before .before .before .owners-into .last .1 .1 .1 .1 .0 in
     let k₁ = c .before .before .before .before .before .before .owners-into .ensures .1 in
     let os = map (λ v. entry y (ownerPlace v)) (countUp 0 (entry x 0)) in
-    (record { short = c .before .before .before .before .before .before .before .before .before .before .before .before .before .before .before .before .before .before .before .before .pre .short; long = omega (arith, c .before .before .before .before .before .before .before .before .before .before .before .before .before .before .before .before .before .before .before .before .pre .long, c .before .before .before .before .before .before .before .before .before .before .before .before .before .before .before .before .totals-into .kept .1 .1 .0, c .before .before .before .before .before .before .owners-into .kept .1 .1 .1 .1 .0) }, ((small .most, (small .few, small .conditions)), (sym (k₁ .kept 0 (λ p q. omega arith)), sym (k₁ .kept 1 (λ p q. omega arith)))))
+    (record { short = c .before .before .before .before .before .before .before .before .before .before .before .before .before .before .before .before .before .before .before .before .pre .0 .short; long = omega (arith, c .before .before .before .before .before .before .before .before .before .before .before .before .before .before .before .before .before .before .before .before .pre .0 .long, c .before .before .before .before .before .before .before .before .before .before .before .before .before .before .before .before .totals-into .kept .1 .1 .0, c .before .before .before .before .before .before .owners-into .kept .1 .1 .1 .1 .0) }, ((small .most, (small .few, small .conditions)), (sym (k₁ .kept 0 (λ p q. omega arith)), (sym (k₁ .kept 1 (λ p q. omega arith)), c .before .before .before .before .before .before .before .before .before .before .before .before .before .before .before .before .before .before .before .before .pre .1 ∙ sym (c .before .before .before .before .before .before .before .before .before .before .before .before .before .before .before .before .totals-into .ensures .1 .kept 11 (λ p q. omega arith)) ∙ sym (k₁ .kept 11 (λ p q. omega arith))))))
 
 same-length : tie.Need-same-length
 same-length c = search needs
@@ -101,7 +101,7 @@ returns c =
     let a = c .before .before .before .before .before .before .before .before .before .args in
     let s = now (a .s) in
     let x = c .before .before .before .before .before .totals-into .last .1 .1 .0 in
-    (sym (body-first s (a .at) (c .before .number .given .0 .0) (c .before .number .given .0 .1 .0) (told-refused (totalsFrom x) (readTotals s (a .at)) (c .before .before .before .before .before .totals-into .ensures .0) (c .before .number .given .1))), kept-wider (omega arith) (omega arith) (c .before .before .before .before .before .totals-into .ensures .1))
+    (sym (body-first (a .version) s (a .at) (c .before .number .given .0 .0) (c .before .number .given .0 .1 .0) (told-refused (totalsFrom x) (readTotals s (a .at)) (c .before .before .before .before .before .totals-into .ensures .0) (c .before .number .given .1))), kept-wider (omega arith) (omega arith) (c .before .before .before .before .before .totals-into .ensures .1))
 
 same-length-2 : tie.Need-same-length-2
 same-length-2 c = search needs
@@ -119,7 +119,7 @@ returns-2 c =
     let y = c .before .before .before .before .before .owners-into .last .1 .1 .1 .1 .0 in
     let k₁ = c .before .before .before .before .before .owners-into .ensures .1 in
     let os = map (λ v. entry y (ownerPlace v)) (countUp 0 (entry x 0)) in
-    (sym (body-second s (a .at) t second one (c .before .number2 .given .0 .0) (c .before .number2 .given .0 .1 .0) (told-refused os (many (entry x 0) (below (entry x 1) u8) s second) (c .before .before .before .before .before .owners-into .ensures .0) (c .before .number2 .given .1))), kept-then (kept-wider (omega arith) (omega arith) (c .before .before .before .before .before .before .before .before .before .before .before .before .before .before .before .totals-into .ensures .1)) (kept-wider (omega arith) (omega arith) (k₁)))
+    (sym (body-second (a .version) s (a .at) t second one (c .before .number2 .given .0 .0) (c .before .number2 .given .0 .1 .0) (told-refused os (many (entry x 0) (below (entry x 1) u8) s second) (c .before .before .before .before .before .owners-into .ensures .0) (c .before .number2 .given .1))), kept-then (kept-wider (omega arith) (omega arith) (c .before .before .before .before .before .before .before .before .before .before .before .before .before .before .before .totals-into .ensures .1)) (kept-wider (omega arith) (omega arith) (k₁)))
 
 same-length-3 : tie.Need-same-length-3
 same-length-3 c = search needs
@@ -137,12 +137,12 @@ returns-3 c =
     let y = c .before .before .before .before .before .before .before .before .before .owners-into .last .1 .1 .1 .1 .0 in
     let k₁ = c .before .before .before .before .before .before .before .before .before .owners-into .ensures .1 in
     let os = map (λ v. entry y (ownerPlace v)) (countUp 0 (entry x 0)) in
-    let z = c .before .before .parts-into .last .1 .1 .1 .1 .1 .0 in
+    let z = c .before .before .parts-into .last .1 .1 .1 .1 .1 .1 .0 in
     let third = c .before .before .before .before .before .third .given .0 .0 in
     let two = told-at os (many (entry x 0) (below (entry x 1) u8) s second) (c .before .before .before .before .before .before .before .before .before .owners-into .ensures .0) (c .before .before .before .before .before .third .given .1) in
-    let p = partsFrom s (entry x 0) (entry x 1) (entry x 2) z in
-    let e = body-read s (a .at) t second one os third two p (c .before .before .parts-into .result) (c .before .before .parts-into .ensures .0) in
-    (ap (λ w. gotAs w (c .before .before .parts-into .result)) (model-whole s x y z os refl k₁ (c .before .before .parts-into .ensures .1) (small .most)) ∙ e, kept-then (kept-wider (omega arith) (omega arith) (c .before .before .before .before .before .before .before .before .before .before .before .before .before .before .before .before .before .before .before .totals-into .ensures .1)) (kept-then (kept-wider (omega arith) (omega arith) (k₁)) (kept-wider (omega arith) (omega arith) (c .before .before .parts-into .ensures .1))))
+    let p = partsFrom s (a .version) (entry x 0) (entry x 1) (entry x 2) z in
+    let e = body-read (a .version) s (a .at) t second one os third two p (c .before .before .parts-into .result) (c .before .before .parts-into .ensures .0) in
+    (ap (λ w. gotAs w (c .before .before .parts-into .result)) (model-whole (a .version) s x y z os (c .before .before .before .before .before .before .before .before .before .before .before .before .before .before .before .before .before .before .before .before .before .before .before .pre .1 ∙ sym (c .before .before .before .before .before .before .before .before .before .before .before .before .before .before .before .before .before .before .before .totals-into .ensures .1 .kept 11 (λ p q. omega arith))) refl k₁ (c .before .before .parts-into .ensures .1) (small .most)) ∙ e, kept-then (kept-wider (omega arith) (omega arith) (c .before .before .before .before .before .before .before .before .before .before .before .before .before .before .before .before .before .before .before .totals-into .ensures .1)) (kept-then (kept-wider (omega arith) (omega arith) (k₁)) (kept-wider (omega arith) (omega arith) (c .before .before .parts-into .ensures .1))))
 
 pub body-into-spec : {M : Type 1} → statement M
 body-into-spec =

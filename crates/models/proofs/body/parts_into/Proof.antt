@@ -31,17 +31,19 @@ unsafes-into-requires c κs =
     let a = c .before .before .before .before .before .before .before .before .before .before .args in
     let s = now (a .s) in
     let n = a .n in
+    let version = a .version in
     let m = a .c in
     let x = now (a .index) in
-    let y = c .before .before .before .before .before .before .components-into .last .1 .1 .1 .0 in
+    let y = c .before .before .before .before .before .before .components-into .last .1 .1 .1 .1 .0 in
     let k₁ = c .before .before .before .before .before .before .components-into .ensures .1 in
     let e₀ : n ≡ entry y 0 = c .before .before .before .before .before .before .before .before .before .before .pre .1 .1 .0 ∙ sym (k₁ .kept 0 (λ p q. omega arith)) in
-    let e₁ : m ≡ entry y 1 = c .before .before .before .before .before .before .before .before .before .before .pre .1 .1 .1 ∙ sym (k₁ .kept 1 (λ p q. omega arith)) in
-    let cs = map (λ k. componentFrom s n y (componentPlace k)) (countUp 0 m) in
+    let e₁ : m ≡ entry y 1 = c .before .before .before .before .before .before .before .before .before .before .pre .1 .1 .1 .0 ∙ sym (k₁ .kept 1 (λ p q. omega arith)) in
+    let e₂ : version ≡ entry y 11 = c .before .before .before .before .before .before .before .before .before .before .pre .1 .1 .1 .1 ∙ sym (k₁ .kept 11 (λ p q. omega arith)) in
+    let cs = map (λ k. componentFrom s version n y (componentPlace k)) (countUp 0 m) in
     let next = c .before .before .next .given .0 .0 in
-    let one : many m (readComponent n) s (a .at) ≡ got cs next = told-at cs (many m (readComponent n) s (a .at)) (c .before .before .before .before .before .before .components-into .ensures .0) (c .before .before .next .given .1) in
-    let small = blocks-read s n m (a .at) y next one in
-    (record { short = c .before .before .before .before .before .before .before .before .before .before .pre .0 .short; long = omega (arith, c .before .before .before .before .before .before .before .before .before .before .pre .0 .long, c .before .before .before .before .before .before .components-into .kept .1 .1 .1 .0) }, ((c .before .before .before .before .before .before .before .before .before .before .pre .1 .0 .0, (e₁, (c .before .before .before .before .before .before .before .before .before .before .pre .1 .0 .1 .0, c .before .before .before .before .before .before .before .before .before .before .pre .1 .0 .1 .1))), small))
+    let one : many m (readComponent version n) s (a .at) ≡ got cs next = told-at cs (many m (readComponent version n) s (a .at)) (c .before .before .before .before .before .before .components-into .ensures .0) (c .before .before .next .given .1) in
+    let small = blocks-read s version n m (a .at) y next one in
+    (record { short = c .before .before .before .before .before .before .before .before .before .before .pre .0 .short; long = omega (arith, c .before .before .before .before .before .before .before .before .before .before .pre .0 .long, c .before .before .before .before .before .before .components-into .kept .1 .1 .1 .1 .0) }, ((c .before .before .before .before .before .before .before .before .before .before .pre .1 .0 .0, (e₁, (c .before .before .before .before .before .before .before .before .before .before .pre .1 .0 .1 .0, c .before .before .before .before .before .before .before .before .before .before .pre .1 .0 .1 .1))), small))
 
 same-length : tie.Need-same-length
 same-length c = search needs
@@ -52,13 +54,15 @@ returns c =
     let a = c .before .before .before .before .before .before .before .before .before .args in
     let s = now (a .s) in
     let n = a .n in
+    let version = a .version in
     let m = a .c in
     let x = now (a .index) in
-    let y = c .before .before .before .before .before .components-into .last .1 .1 .1 .0 in
+    let y = c .before .before .before .before .before .components-into .last .1 .1 .1 .1 .0 in
     let k₁ = c .before .before .before .before .before .components-into .ensures .1 in
     let e₀ : n ≡ entry y 0 = c .before .before .before .before .before .before .before .before .before .pre .1 .1 .0 ∙ sym (k₁ .kept 0 (λ p q. omega arith)) in
-    let e₁ : m ≡ entry y 1 = c .before .before .before .before .before .before .before .before .before .pre .1 .1 .1 ∙ sym (k₁ .kept 1 (λ p q. omega arith)) in
-    (sym (parts-first n m (a .count) s (a .at) (c .before .number .given .0 .0) (c .before .number .given .0 .1 .0) (told-refused (map (λ k. componentFrom s n y (componentPlace k)) (countUp 0 m)) (many m (readComponent n) s (a .at)) (c .before .before .before .before .before .components-into .ensures .0) (c .before .number .given .1))), kept-wider (omega arith) (omega arith) k₁)
+    let e₁ : m ≡ entry y 1 = c .before .before .before .before .before .before .before .before .before .pre .1 .1 .1 .0 ∙ sym (k₁ .kept 1 (λ p q. omega arith)) in
+    let e₂ : version ≡ entry y 11 = c .before .before .before .before .before .before .before .before .before .pre .1 .1 .1 .1 ∙ sym (k₁ .kept 11 (λ p q. omega arith)) in
+    (sym (parts-first version n m (a .count) s (a .at) (c .before .number .given .0 .0) (c .before .number .given .0 .1 .0) (told-refused (map (λ k. componentFrom s version n y (componentPlace k)) (countUp 0 m)) (many m (readComponent version n) s (a .at)) (c .before .before .before .before .before .components-into .ensures .0) (c .before .number .given .1))), kept-wider (omega arith) (omega arith) k₁)
 
 same-length-2 : tie.Need-same-length-2
 same-length-2 c = search needs
@@ -69,22 +73,24 @@ returns-2 c =
     let a = c .before .before .before .before .before .before .before .before .before .before .before .before .before .args in
     let s = now (a .s) in
     let n = a .n in
+    let version = a .version in
     let m = a .c in
     let x = now (a .index) in
-    let y = c .before .before .before .before .before .before .before .before .before .components-into .last .1 .1 .1 .0 in
+    let y = c .before .before .before .before .before .before .before .before .before .components-into .last .1 .1 .1 .1 .0 in
     let k₁ = c .before .before .before .before .before .before .before .before .before .components-into .ensures .1 in
     let e₀ : n ≡ entry y 0 = c .before .before .before .before .before .before .before .before .before .before .before .before .before .pre .1 .1 .0 ∙ sym (k₁ .kept 0 (λ p q. omega arith)) in
-    let e₁ : m ≡ entry y 1 = c .before .before .before .before .before .before .before .before .before .before .before .before .before .pre .1 .1 .1 ∙ sym (k₁ .kept 1 (λ p q. omega arith)) in
-    let cs = map (λ k. componentFrom s n y (componentPlace k)) (countUp 0 m) in
+    let e₁ : m ≡ entry y 1 = c .before .before .before .before .before .before .before .before .before .before .before .before .before .pre .1 .1 .1 .0 ∙ sym (k₁ .kept 1 (λ p q. omega arith)) in
+    let e₂ : version ≡ entry y 11 = c .before .before .before .before .before .before .before .before .before .before .before .before .before .pre .1 .1 .1 .1 ∙ sym (k₁ .kept 11 (λ p q. omega arith)) in
+    let cs = map (λ k. componentFrom s version n y (componentPlace k)) (countUp 0 m) in
     let next = c .before .before .before .before .before .next .given .0 .0 in
-    let one : many m (readComponent n) s (a .at) ≡ got cs next = told-at cs (many m (readComponent n) s (a .at)) (c .before .before .before .before .before .before .before .before .before .components-into .ensures .0) (c .before .before .before .before .before .next .given .1) in
-    let small = blocks-read s n m (a .at) y next one in
-    let z = c .before .before .unsafes-into .last .1 .1 .1 .1 .1 .0 in
+    let one : many m (readComponent version n) s (a .at) ≡ got cs next = told-at cs (many m (readComponent version n) s (a .at)) (c .before .before .before .before .before .before .before .before .before .components-into .ensures .0) (c .before .before .before .before .before .next .given .1) in
+    let small = blocks-read s version n m (a .at) y next one in
+    let z = c .before .before .unsafes-into .last .1 .1 .1 .1 .1 .1 .0 in
     let k₂ = c .before .before .unsafes-into .ensures .1 in
-    let us = map (λ u. unsafeFrom s n m z (unsafePlace u)) (countUp 0 (a .count)) in
-    let same : componentsFrom s y ≡ cs = ap (λ (i : ℕ). map (λ k. componentFrom s i y (componentPlace k)) (countUp 0 (entry y 1))) (sym e₀) ∙ ap (λ (i : ℕ). map (λ k. componentFrom s n y (componentPlace k)) (countUp 0 i)) (sym e₁) in
-    let e = parts-read n m (a .count) s (a .at) cs next one us (c .before .before .unsafes-into .result) (c .before .before .unsafes-into .ensures .0 ∙ ap (λ xs. many (a .count) (readUnsafe n xs) s next) same) in
-    let first : map (λ k. componentFrom s n z (componentPlace k)) (countUp 0 m) ≡ cs = components-kept s n m y z (c .before .before .before .before .before .before .before .before .before .before .before .before .before .pre .1 .0 .1 .0) small k₂ in (
+    let us = map (λ u. unsafeFrom s version n m z (unsafePlace u)) (countUp 0 (a .count)) in
+    let same : componentsFrom s y ≡ cs = ap (λ (i : ℕ). map (λ k. componentFrom s i (entry y 0) y (componentPlace k)) (countUp 0 (entry y 1))) (sym e₂) ∙ ap (λ (i : ℕ). map (λ k. componentFrom s version i y (componentPlace k)) (countUp 0 (entry y 1))) (sym e₀) ∙ ap (λ (i : ℕ). map (λ k. componentFrom s version n y (componentPlace k)) (countUp 0 i)) (sym e₁) in
+    let e = parts-read version n m (a .count) s (a .at) cs next one us (c .before .before .unsafes-into .result) (c .before .before .unsafes-into .ensures .0 ∙ ap (λ xs. many (a .count) (readUnsafe version n xs) s next) same) in
+    let first : map (λ k. componentFrom s version n z (componentPlace k)) (countUp 0 m) ≡ cs = components-kept s version n m y z (c .before .before .before .before .before .before .before .before .before .before .before .before .before .pre .1 .0 .1 .0) small k₂ in (
       ap (λ w. gotAs w (c .before .before .unsafes-into .result)) (λ i. record { components = first i; unsafe = us }) ∙ e,
       kept-then (kept-wider (omega arith) (omega arith) k₁) (kept-wider (omega arith) (omega arith) k₂),
     )

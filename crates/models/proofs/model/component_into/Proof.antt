@@ -99,7 +99,7 @@ unfolding entry countsFrom
 switches-into-requires c κs =
     let p = c .before .before .before .before .before .before .before .before .before .before .before .before .before .before .before .before .before .before .before .before .pre in
     let few = small (c .before .before .before .before .before .before .before .before .before .before .before .before) in
-    (record { short = p .0 .short; long = omega (arith, p .0 .long, c .before .before .before .before .before .before .before .before .before .before .before .before .before .before .before .before .counts-into .kept .1 .1 .0, c .before .before .before .before .before .before .modes-into .kept .1 .1 .1 .0) }, (p .1 .0, (few .most, (p .1 .1, few .few))))
+    (record { short = p .0 .short; long = omega (arith, p .0 .long, c .before .before .before .before .before .before .before .before .before .before .before .before .before .before .before .before .counts-into .kept .1 .1 .0, c .before .before .before .before .before .before .modes-into .kept .1 .1 .1 .1 .0) }, (p .1 .0, (few .most, (p .1 .1, few .few))))
 
 same-length : tie.Need-same-length
 same-length c = search needs
@@ -110,7 +110,7 @@ returns c =
     let a = c .before .before .before .before .before .before .before .before .before .args in
     let s = now (a .s) in
     let x = c .before .before .before .before .before .counts-into .last .1 .1 .0 in
-    (sym (component-first (a .n) s (a .at) (c .before .number .given .0 .0) (c .before .number .given .0 .1 .0) (told-refused (countsFrom x (a .block)) (readCounts s (a .at)) (c .before .before .before .before .before .counts-into .ensures .0) (c .before .number .given .1))), kept-wider (omega arith) (omega arith) (c .before .before .before .before .before .counts-into .ensures .1))
+    (sym (component-first (a .version) (a .n) s (a .at) (c .before .number .given .0 .0) (c .before .number .given .0 .1 .0) (told-refused (countsFrom x (a .block)) (readCounts s (a .at)) (c .before .before .before .before .before .counts-into .ensures .0) (c .before .number .given .1))), kept-wider (omega arith) (omega arith) (c .before .before .before .before .before .counts-into .ensures .1))
 
 same-length-2 : tie.Need-same-length-2
 same-length-2 c = search needs
@@ -122,8 +122,8 @@ returns-2 c =
     let a = s at .args in
     let size = counts at .modes in
     let modes = c .before .before .before .before .before .modes-into in
-    let ms = map (λ j. modeFrom (now (a .s)) (a .n) (modes .last .1 .1 .1 .0) (modePlace (a .block) j)) (countUp 0 size) in (
-      sym (component-second _ _ _ _ _ (one at) _ _ (told-refused ms (many size (readMode (a .n)) (now (a .s)) (at .second .given .0 .0)) (modes .ensures .0) (c .before .number2 .given .1))),
+    let ms = map (λ j. modeFrom (now (a .s)) (a .version) (a .n) (modes .last .1 .1 .1 .1 .0) (modePlace (a .block) j)) (countUp 0 size) in (
+      sym (component-second _ _ _ _ _ _ (one at) _ _ (told-refused ms (many size (readMode (a .version) (a .n)) (now (a .s)) (at .second .given .0 .0)) (modes .ensures .0) (c .before .number2 .given .1))),
       kept-then (kept-wider (omega arith) (omega arith) (at .before .before .before .before .counts-into .ensures .1)) (kept-wider (omega arith) (omega arith) (modes .ensures .1)),
     )
 
@@ -139,14 +139,14 @@ returns-3 c =
     let switches = c .before .before .switches-into in
     let size = counts at .modes in
     let x = at .before .before .before .before .counts-into .last .1 .1 .0 in
-    let y = modes .last .1 .1 .1 .0 in
-    let z = switches .last .1 .1 .1 .1 .1 .0 in
-    let ms = map (λ j. modeFrom (now (a .s)) (a .n) y (modePlace (a .block) j)) (countUp 0 size) in
+    let y = modes .last .1 .1 .1 .1 .0 in
+    let z = switches .last .1 .1 .1 .1 .1 .1 .0 in
+    let ms = map (λ j. modeFrom (now (a .s)) (a .version) (a .n) y (modePlace (a .block) j)) (countUp 0 size) in
     let third = c .before .before .before .before .before .third .given .0 .0 in
-    let two : many size (readMode (a .n)) (now (a .s)) (at .second .given .0 .0) ≡ got ms third = told-at ms (many size (readMode (a .n)) (now (a .s)) (at .second .given .0 .0)) (modes .ensures .0) (c .before .before .before .before .before .third .given .1) in
-    let ws = map (λ i. switchFrom (now (a .s)) (a .n) z (switchPlace (a .block) i)) (countUp 0 (counts at .switches)) in
-    let e = component-read (a .n) (now (a .s)) (a .at) (counts at) (at .second .given .0 .0) (one at) ms third two ws (switches .result) (switches .ensures .0) in (
-      ap (λ w. gotAs w (switches .result)) (component-whole (now (a .s)) (a .n) x y z (a .block) (small at) (modes .ensures .1) (switches .ensures .1)) ∙ e,
+    let two : many size (readMode (a .version) (a .n)) (now (a .s)) (at .second .given .0 .0) ≡ got ms third = told-at ms (many size (readMode (a .version) (a .n)) (now (a .s)) (at .second .given .0 .0)) (modes .ensures .0) (c .before .before .before .before .before .third .given .1) in
+    let ws = map (λ i. switchFrom (now (a .s)) (a .version) (a .n) z (switchPlace (a .block) i)) (countUp 0 (counts at .switches)) in
+    let e = component-read (a .version) (a .n) (now (a .s)) (a .at) (counts at) (at .second .given .0 .0) (one at) ms third two ws (switches .result) (switches .ensures .0) in (
+      ap (λ w. gotAs w (switches .result)) (component-whole (now (a .s)) (a .version) (a .n) x y z (a .block) (small at) (modes .ensures .1) (switches .ensures .1)) ∙ e,
       kept-then (kept-wider (omega arith) (omega arith) (at .before .before .before .before .counts-into .ensures .1)) (kept-then (kept-wider (omega arith) (omega arith) (modes .ensures .1)) (kept-wider (omega arith) (omega arith) (switches .ensures .1))),
     )
 

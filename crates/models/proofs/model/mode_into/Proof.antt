@@ -63,11 +63,11 @@ returns : tie.Need-returns
 unfolding gotAs
 returns c =
     let a = c .before .before .before .before .before .before .args in
-    (sym (mode-refused (a .n) (now (a .s)) (a .at) (c .before .number .given .0 .0) (c .before .number .given .0 .1 .0) (sym (c .before .before .before .byte-within .ensures) ∙ field-refused (c .before .number .given .1))), kept-none (a .i) (a .i + 7) (now (a .index)))
+    (sym (mode-refused (a .version) (a .n) (now (a .s)) (a .at) (c .before .number .given .0 .0) (c .before .number .given .0 .1 .0) (sym (c .before .before .before .byte-within .ensures) ∙ field-refused (c .before .number .given .1))), kept-none (a .i) (a .i + 7) (now (a .index)))
 
 same-length : tie.Need-same-length
 same-length c =
-    c .before .before .conditions-into .kept .1 .1 .1 .1 .0 ∙ length-set (now (c .before .before .before .before .before .before .before .before .before .before .before .args .index)) (c .before .before .before .before .before .before .before .before .before .before .before .args .i) (c .before .before .before .before .before .before .start .given .0 .0)
+    c .before .before .conditions-into .kept .1 .1 .1 .1 .1 .0 ∙ length-set (now (c .before .before .before .before .before .before .before .before .before .before .before .args .index)) (c .before .before .before .before .before .before .before .before .before .before .before .args .i) (c .before .before .before .before .before .before .start .given .0 .0)
 
 returns-2 : tie.Need-returns-2
 unfolding modeFrom threeFrom
@@ -80,13 +80,13 @@ returns-2 c =
     let w = range-read u8 0 1 s (a .at) start next one in
     let old = now (a .index) in
     let put = set old (a .i) start in
-    let z = c .before .before .conditions-into .last .1 .1 .1 .1 .0 in
+    let z = c .before .before .conditions-into .last .1 .1 .1 .1 .1 .0 in
     let k = c .before .before .conditions-into .ensures .1 in
     let first : entry z (a .i) ≡ start = kept-at k (a .i) (λ p q. omega arith) ∙ entry-same old (a .i) start (omega (arith, c .before .before .before .before .before .before .before .before .before .before .before .pre .0 .long, c .before .before .before .before .before .before .before .before .before .before .before .pre .1)) in
-    let three = threeFrom s (a .n) z (a .i + 1) in
-    let e = mode-read (a .n) s (a .at) start next one three (c .before .before .conditions-into .result) (c .before .before .conditions-into .ensures .0 ∙ ap (λ (m : ℕ). readThree m (a .n) s next) (c .before .before .before .before .most-initial .ensures)) in
-    let second : spanRows s (a .n) z (a .i + 3) ≡ three .invariant = ap (λ (j : ℕ). spanRows s (a .n) z j) (three-on (a .i)) in
-    let third : spanRows s (a .n) z (a .i + 5) ≡ three .flow = ap (λ (j : ℕ). spanRows s (a .n) z j) (five-on (a .i)) in (
+    let three = threeFrom s (a .version) (a .n) z (a .i + 1) in
+    let e = mode-read (a .version) (a .n) s (a .at) start next one three (c .before .before .conditions-into .result) (c .before .before .conditions-into .ensures .0 ∙ ap (λ (m : ℕ). readThree (a .version) m (a .n) s next) (c .before .before .before .before .most-initial .ensures)) in
+    let second : spanRows s (a .version) (a .n) z (a .i + 3) ≡ three .invariant = ap (λ (j : ℕ). spanRows s (a .version) (a .n) z j) (three-on (a .i)) in
+    let third : spanRows s (a .version) (a .n) z (a .i + 5) ≡ three .flow = ap (λ (j : ℕ). spanRows s (a .version) (a .n) z j) (five-on (a .i)) in (
       ap (λ w. gotAs w (c .before .before .conditions-into .result)) (λ j. record { start = first j; initial = three .initial; invariant = second j; flow = third j }) ∙ e,
       kept-then (kept-set (a .i) (a .i + 7) old (a .i) start (omega arith) (omega arith)) (kept-wider (omega arith) (omega arith) k),
     )

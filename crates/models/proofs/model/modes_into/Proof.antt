@@ -13,18 +13,18 @@ use Rattle.models.proofs.model.modes_into.Statement.{statement}
 use Rattle.models.proofs.model.modes_into.Tie as tie
 
 abbrev Inv-loop : tie.InvT-loop
-Inv-loop s at n index₀ block count place₀ j₀ index place j =
-    Filled (readMode n) (λ x i. modeFrom s n x (modePlace block i)) count s at (block + 3) (block + 59) index₀ index j place
+Inv-loop s at version n index₀ block count place₀ j₀ index place j =
+    Filled (readMode version n) (λ x i. modeFrom s version n x (modePlace block i)) count s at (block + 3) (block + 59) index₀ index j place
 
 abbrev μ-loop : tie.MeasureT-loop
-μ-loop s at n index₀ block count place₀ j₀ index place j =
+μ-loop s at version n index₀ block count place₀ j₀ index place j =
     count - j
 
 loop-holds : tie.Need-loop-holds Inv-loop μ-loop
 loop-holds c =
     let a = c .before .before .args in
     let s = now (a .s) in
-    fill-starts (readMode (a .n)) (λ x i. modeFrom s (a .n) x (modePlace (a .block) i)) (a .count) s (a .at) (a .block + 3) (a .block + 59) (now (a .index))
+    fill-starts (readMode (a .version) (a .n)) (λ x i. modeFrom s (a .version) (a .n) x (modePlace (a .block) i)) (a .count) s (a .at) (a .block + 3) (a .block + 59) (now (a .index))
 
 add-mode-into : tie.Need-add-mode-into Inv-loop μ-loop
 add-mode-into c =
@@ -48,7 +48,7 @@ enum-known-number c =
 
 same-length : tie.Need-same-length Inv-loop μ-loop
 same-length c =
-    c .before .before .before .before .before .mode-into .kept .1 .1 .1 .0 ∙ c .before .before .before .before .before .before .before .before .loop .inv .1 .0
+    c .before .before .before .before .before .mode-into .kept .1 .1 .1 .1 .0 ∙ c .before .before .before .before .before .before .before .before .loop .inv .1 .0
 
 returns : tie.Need-returns Inv-loop μ-loop
 unfolding gotAs modePlace
@@ -58,8 +58,8 @@ returns c =
     let loop = c .before .before .before .before .before .before .before .before .loop in
     let into = c .before .before .before .before .before .mode-into in
     let x = loop .index in
-    let y = into .last .1 .1 .1 .0 in
-    fill-stops (readMode (a .n)) (λ x i. modeFrom s (a .n) x (modePlace (a .block) i)) (a .count) s (a .at) (a .block + 3) (a .block + 59) (now (a .index)) x y (loop .j) (loop .place) (loop .inv) (c .before .before .before .before .before .before .before .loop-test .taken) (into .result) (into .ensures .0) (a .block + 3 + 7 * loop .j) (a .block + 3 + 7 * loop .j + 7) (omega arith) (omega (arith, c .before .before .before .before .before .before .before .before .before .before .before .pre .1, c .before .before .before .before .before .before .before .loop-test .taken)) (into .ensures .1) (c .before .number .given .1)
+    let y = into .last .1 .1 .1 .1 .0 in
+    fill-stops (readMode (a .version) (a .n)) (λ x i. modeFrom s (a .version) (a .n) x (modePlace (a .block) i)) (a .count) s (a .at) (a .block + 3) (a .block + 59) (now (a .index)) x y (loop .j) (loop .place) (loop .inv) (c .before .before .before .before .before .before .before .loop-test .taken) (into .result) (into .ensures .0) (a .block + 3 + 7 * loop .j) (a .block + 3 + 7 * loop .j + 7) (omega arith) (omega (arith, c .before .before .before .before .before .before .before .before .before .before .before .pre .1, c .before .before .before .before .before .before .before .loop-test .taken)) (into .ensures .1) (c .before .number .given .1)
 
 enum-known-next : tie.Need-enum-known-next Inv-loop μ-loop
 enum-known-next c =
@@ -81,10 +81,10 @@ loop-again c =
     let loop = c .before .before .before .before .before .before .before .before .loop in
     let into = c .before .before .before .before .before .mode-into in
     let x = loop .index in
-    let y = into .last .1 .1 .1 .0 in
-    fill-goes-on (readMode (a .n)) (λ x i. modeFrom s (a .n) x (modePlace (a .block) i)) (a .count) s (a .at) (a .block + 3) (a .block + 59) (now (a .index)) x y (loop .j) (loop .place) (loop .inv) (c .before .before .before .before .before .before .before .loop-test .taken) (into .result) (into .ensures .0) (a .block + 3 + 7 * loop .j) (a .block + 3 + 7 * loop .j + 7) (omega arith) (omega (arith, c .before .before .before .before .before .before .before .before .before .before .before .pre .1, c .before .before .before .before .before .before .before .loop-test .taken)) (into .ensures .1) (c .before .next .given .1)
-    (into .kept .1 .1 .1 .0)
-    (λ i h. mode-same s (a .n) x y (a .block + 3 + 7 * i) (agree-low (into .ensures .1) (omega arith)))
+    let y = into .last .1 .1 .1 .1 .0 in
+    fill-goes-on (readMode (a .version) (a .n)) (λ x i. modeFrom s (a .version) (a .n) x (modePlace (a .block) i)) (a .count) s (a .at) (a .block + 3) (a .block + 59) (now (a .index)) x y (loop .j) (loop .place) (loop .inv) (c .before .before .before .before .before .before .before .loop-test .taken) (into .result) (into .ensures .0) (a .block + 3 + 7 * loop .j) (a .block + 3 + 7 * loop .j + 7) (omega arith) (omega (arith, c .before .before .before .before .before .before .before .before .before .before .before .pre .1, c .before .before .before .before .before .before .before .loop-test .taken)) (into .ensures .1) (c .before .next .given .1)
+    (into .kept .1 .1 .1 .1 .0)
+    (λ i h. mode-same s (a .version) (a .n) x y (a .block + 3 + 7 * i) (agree-low (into .ensures .1) (omega arith)))
 
 same-length-2 : tie.Need-same-length-2 Inv-loop μ-loop
 same-length-2 c =
@@ -96,7 +96,7 @@ returns-2 c =
     let a = c .before .before .before .before .args in
     let s = now (a .s) in
     let loop = c .before .loop in
-    fill-ends (readMode (a .n)) (λ x i. modeFrom s (a .n) x (modePlace (a .block) i)) (a .count) s (a .at) (a .block + 3) (a .block + 59) (now (a .index)) (loop .index) (loop .j) (loop .place) (loop .inv) (omega (arith, c .loop-test .left))
+    fill-ends (readMode (a .version) (a .n)) (λ x i. modeFrom s (a .version) (a .n) x (modePlace (a .block) i)) (a .count) s (a .at) (a .block + 3) (a .block + 59) (now (a .index)) (loop .index) (loop .j) (loop .place) (loop .inv) (omega (arith, c .loop-test .left))
 
 pub modes-into-spec : {M : Type 1} → statement M
 modes-into-spec =

@@ -85,7 +85,7 @@ returns : tie.Need-returns
 unfolding gotAs
 returns c =
     let a = c .before .before .before .before .before .before .args in
-    (sym (switch-first (a .n) (a .alphabet) (a .modes) (now (a .s)) (a .at) (c .before .number .given .0 .0) (c .before .number .given .0 .1 .0) (sym (c .before .before .before .byte-below .ensures) ∙ field-refused (c .before .number .given .1))), kept-none (a .i) (a .i + 5) (now (a .index)))
+    (sym (switch-first (a .version) (a .n) (a .alphabet) (a .modes) (now (a .s)) (a .at) (c .before .number .given .0 .0) (c .before .number .given .0 .1 .0) (sym (c .before .before .before .byte-below .ensures) ∙ field-refused (c .before .number .given .1))), kept-none (a .i) (a .i + 5) (now (a .index)))
 
 returns-2 : tie.Need-returns-2
 unfolding gotAs
@@ -95,11 +95,11 @@ returns-2 c =
     let source = c .before .before .before .before .before .source .given .0 .0 in
     let second = c .before .before .before .before .before .source .given .0 .1 .0 in
     let one : below (a .modes) u8 s (a .at) ≡ got source second = sym (c .before .before .before .before .before .before .before .byte-below .ensures) ∙ field-value (c .before .before .before .before .before .source .given .1) in
-    (sym (switch-second (a .n) (a .alphabet) (a .modes) s (a .at) source second one (c .before .number2 .given .0 .0) (c .before .number2 .given .0 .1 .0) (sym (c .before .before .before .byte-below2 .ensures) ∙ field-refused (c .before .number2 .given .1))), kept-none (a .i) (a .i + 5) (now (a .index)))
+    (sym (switch-second (a .version) (a .n) (a .alphabet) (a .modes) s (a .at) source second one (c .before .number2 .given .0 .0) (c .before .number2 .given .0 .1 .0) (sym (c .before .before .before .byte-below2 .ensures) ∙ field-refused (c .before .number2 .given .1))), kept-none (a .i) (a .i + 5) (now (a .index)))
 
 same-length : tie.Need-same-length
 same-length c =
-    c .before .before .labelled-into .kept .1 .1 .1 .1 .0 ∙ length-set (set (now (c .before .before .before .before .before .before .before .before .before .before .before .before .before .before .args .index)) (c .before .before .before .before .before .before .before .before .before .before .before .before .before .before .args .i) (c .before .before .before .before .before .before .before .before .before .source .given .0 .0)) (c .before .before .before .before .before .before .before .before .before .before .before .before .before .before .args .i + 1) (c .before .before .before .before .before .target .given .0 .0) ∙ length-set (now (c .before .before .before .before .before .before .before .before .before .before .before .before .before .before .args .index)) (c .before .before .before .before .before .before .before .before .before .before .before .before .before .before .args .i) (c .before .before .before .before .before .before .before .before .before .source .given .0 .0)
+    c .before .before .labelled-into .kept .1 .1 .1 .1 .1 .0 ∙ length-set (set (now (c .before .before .before .before .before .before .before .before .before .before .before .before .before .before .args .index)) (c .before .before .before .before .before .before .before .before .before .before .before .before .before .before .args .i) (c .before .before .before .before .before .before .before .before .before .source .given .0 .0)) (c .before .before .before .before .before .before .before .before .before .before .before .before .before .before .args .i + 1) (c .before .before .before .before .before .target .given .0 .0) ∙ length-set (now (c .before .before .before .before .before .before .before .before .before .before .before .before .before .before .args .index)) (c .before .before .before .before .before .before .before .before .before .before .before .before .before .before .args .i) (c .before .before .before .before .before .before .before .before .before .source .given .0 .0)
 
 returns-3 : tie.Need-returns-3
 unfolding switchFrom labelledFrom
@@ -114,13 +114,13 @@ returns-3 c =
     let two : below (a .modes) u8 s second ≡ got target third = sym (c .before .before .before .before .before .before .before .byte-below2 .ensures) ∙ field-value (c .before .before .before .before .before .target .given .1) in
     let old = now (a .index) in
     let put = set old (a .i) source in
-    let z = c .before .before .labelled-into .last .1 .1 .1 .1 .0 in
+    let z = c .before .before .labelled-into .last .1 .1 .1 .1 .1 .0 in
     let k = c .before .before .labelled-into .ensures .1 in
     let long : a .i + 1 < length put = simp length-set (omega (arith, c .before .before .before .before .before .before .before .before .before .before .before .before .before .before .pre .0 .long, c .before .before .before .before .before .before .before .before .before .before .before .before .before .before .pre .1)) in
     let first : entry z (a .i) ≡ source = kept-at k (a .i) (λ p q. omega arith) ∙ entry-other put (a .i + 1) (a .i) target (λ q. omega arith) ∙ entry-same old (a .i) source (omega (arith, c .before .before .before .before .before .before .before .before .before .before .before .before .before .before .pre .0 .long, c .before .before .before .before .before .before .before .before .before .before .before .before .before .before .pre .1)) in
     let next : entry z (a .i + 1) ≡ target = kept-at k (a .i + 1) (λ p q. omega arith) ∙ entry-same put (a .i + 1) target long in
-    let rows : spanRows s (2 * a .n) z (a .i + 3) ≡ spanRows s (2 * a .n) z (a .i + 2 + 1) = ap (λ (j : ℕ). spanRows s (2 * a .n) z j) (three-more (a .i)) in
-    let e = switch-read (a .n) (a .alphabet) (a .modes) s (a .at) source second one target third two (labelledFrom s (a .n) z (a .i + 2)) (c .before .before .labelled-into .result) (c .before .before .labelled-into .ensures .0) in (
+    let rows : spanRows s (a .version) (2 * a .n) z (a .i + 3) ≡ spanRows s (a .version) (2 * a .n) z (a .i + 2 + 1) = ap (λ (j : ℕ). spanRows s (a .version) (2 * a .n) z j) (three-more (a .i)) in
+    let e = switch-read (a .version) (a .n) (a .alphabet) (a .modes) s (a .at) source second one target third two (labelledFrom s (a .version) (a .n) z (a .i + 2)) (c .before .before .labelled-into .result) (c .before .before .labelled-into .ensures .0) in (
       ap (λ w. gotAs w (c .before .before .labelled-into .result)) (λ j. record { source = first j; target = next j; label = entry z (a .i + 2); jump = rows j }) ∙ e,
       kept-then (kept-set (a .i) (a .i + 5) old (a .i) source (omega arith) (omega arith)) (kept-then (kept-set (a .i) (a .i + 5) put (a .i + 1) target (omega arith) (omega arith)) (kept-wider (omega arith) (omega arith) k)),
     )

@@ -41,7 +41,7 @@ returns c =
     let s = now (a .s) in
     let all = componentsFrom s (now (a .index)) in
     let x = c .before .before .before .before .before .unsafe-modes-into .last .1 .1 .1 .0 in (
-      sym (unsafe-refused (a .n) all s (a .at) (c .before .number .given .0 .0) (c .before .number .given .0 .1 .0) (told-refused (upTo (λ k. entry x (a .i + k)) (a .c)) (each readModeByte all s (a .at)) (c .before .before .before .before .before .unsafe-modes-into .ensures .0) (c .before .number .given .1))),
+      sym (unsafe-refused (a .version) (a .n) all s (a .at) (c .before .number .given .0 .0) (c .before .number .given .0 .1 .0) (told-refused (upTo (λ k. entry x (a .i + k)) (a .c)) (each readModeByte all s (a .at)) (c .before .before .before .before .before .unsafe-modes-into .ensures .0) (c .before .number .given .1))),
       kept-wider (omega arith) (omega arith) (c .before .before .before .before .before .unsafe-modes-into .ensures .1),
     )
 
@@ -56,12 +56,12 @@ returns-2 c =
     let i = a .i in
     let all = componentsFrom s (now (a .index)) in
     let x = c .before .before .before .before .before .before .before .before .before .unsafe-modes-into .last .1 .1 .1 .0 in
-    let y = c .before .before .condition-into .last .1 .1 .1 .1 .0 in
+    let y = c .before .before .condition-into .last .1 .1 .1 .1 .1 .0 in
     let k₁ = c .before .before .before .before .before .before .before .before .before .unsafe-modes-into .ensures .1 in
     let k₂ = c .before .before .condition-into .ensures .1 in
-    let rows = spanRows s (a .n) y (i + 4) in
+    let rows = spanRows s (a .version) (a .n) y (i + 4) in
     let one = told-at (upTo (λ k. entry x (i + k)) (a .c)) (each readModeByte all s (a .at)) (c .before .before .before .before .before .before .before .before .before .unsafe-modes-into .ensures .0) (c .before .before .before .before .before .next .given .1) in
-    let e = unsafe-read (a .n) all s (a .at) (upTo (λ k. entry x (i + k)) (a .c)) (c .before .before .before .before .before .next .given .0 .0) one rows (c .before .before .condition-into .result) (c .before .before .condition-into .ensures .0) in
+    let e = unsafe-read (a .version) (a .n) all s (a .at) (upTo (λ k. entry x (i + k)) (a .c)) (c .before .before .before .before .before .next .given .0 .0) one rows (c .before .before .condition-into .result) (c .before .before .condition-into .ensures .0) in
     let modes : upTo (λ k. entry y (i + k)) (a .c) ≡ upTo (λ k. entry x (i + k)) (a .c) = bytes-same (a .c) x y i (c .before .before .before .before .before .before .before .before .before .before .before .before .before .pre .1 .0 .1 .1 .0) (agree-low k₂ (omega arith)) in (
       ap (λ w. gotAs w (c .before .before .condition-into .result)) (λ j. record { modes = modes j; rows = rows }) ∙ e,
       kept-then (kept-wider (omega arith) (omega arith) k₁) (kept-wider (omega arith) (omega arith) k₂),

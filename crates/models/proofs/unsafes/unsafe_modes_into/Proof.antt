@@ -80,7 +80,7 @@ unfolding gotAs entry
 returns c =
     let at = c .before .before .before .before .before in
     let inv = at .before .loop .inv in
-    (each-stops readModeByte _ _ _ _ _ _ _ _ _ (inv .1 .1 .0) (component-next _ _ _ (low at)) (mode-of _ _ _ _ _ _ (kept at) (sym (c .before .before .before .byte-numbered .ensures) ∙ field-refused (c .before .number .given .1))), inv .1 .1 .1)
+    (each-stops readModeByte _ _ _ _ _ _ _ _ _ (inv .1 .1 .0) (component-next _ _ _ (low at)) (mode-of _ _ _ _ _ _ _ (kept at) (sym (c .before .before .before .byte-numbered .ensures) ∙ field-refused (c .before .number .given .1))), inv .1 .1 .1)
 
 enum-known-mode : tie.Need-enum-known-mode Inv-loop μ-loop
 enum-known-mode c =
@@ -128,7 +128,7 @@ loop-again c =
       (
         length-set x (i + k) mode ∙ inv .1 .0,
         (
-          each-goes-on readModeByte _ _ _ (λ j. entry x (i + j)) (λ j. entry (set x (i + k) mode) (i + j)) k _ next _ (inv .1 .1 .0) (component-next _ _ _ (low at)) (mode-of _ _ _ _ _ _ (kept at) (mode-read (c .before)) ∙ ap (λ (v : ℕ). got v next) (sym put)) (λ j h. entry-other x (i + k) (i + j) mode (λ q. omega arith)),
+          each-goes-on readModeByte _ _ _ (λ j. entry x (i + j)) (λ j. entry (set x (i + k) mode) (i + j)) k _ next _ (inv .1 .1 .0) (component-next _ _ _ (low at)) (mode-of _ _ _ _ _ _ _ (kept at) (mode-read (c .before)) ∙ ap (λ (v : ℕ). got v next) (sym put)) (λ j h. entry-other x (i + k) (i + j) mode (λ q. omega arith)),
           kept-then (inv .1 .1 .1) (kept-set i (i + 4) x (i + k) mode (omega arith) (omega (arith, p .1 .0, at .loop-test .taken))),
         ),
       ),

@@ -15,27 +15,27 @@ use Rattle.models.proofs.unsafes.unsafes_into.Statement.{statement}
 use Rattle.models.proofs.unsafes.unsafes_into.Tie as tie
 
 abbrev Inv-loop : tie.InvT-loop
-Inv-loop s at n c count index₀ place₀ u₀ index place u =
-    Filled (readUnsafe n (componentsFrom s index₀)) (λ x j. unsafeFrom s n c x (unsafePlace j)) count s at 892 988 index₀ index u place
+Inv-loop s at version n c count index₀ place₀ u₀ index place u =
+    Filled (readUnsafe version n (componentsFrom s index₀)) (λ x j. unsafeFrom s version n c x (unsafePlace j)) count s at 892 988 index₀ index u place
 
 abbrev μ-loop : tie.MeasureT-loop
-μ-loop s at n c count index₀ place₀ u₀ index place u =
+μ-loop s at version n c count index₀ place₀ u₀ index place u =
     count - u
 
 -- how an index tells an unsafe condition by its number
 abbrev told-by : tie.Start Inv-loop μ-loop → List ℕ → ℕ → Unsafe
-told-by s x j = unsafeFrom (now (s .args .s)) (s .args .n) (s .args .c) x (unsafePlace j)
+told-by s x j = unsafeFrom (now (s .args .s)) (s .args .version) (s .args .n) (s .args .c) x (unsafePlace j)
 
 -- what a turn read is told of the components as they were before the loop
 module _ (c : tie.After-unsafe-into Inv-loop μ-loop) where
   abbrev s : tie.Start Inv-loop μ-loop
   s = c .before .before .before .before .before .before
 
-  told : gotAs (unsafeFrom (now (s .args .s)) (s .args .n) (s .args .c) (c .unsafe-into .last .1 .1 .1 .1 .0) (892 + 6 * c .before .before .before .loop .u)) (c .unsafe-into .result) ≡ readUnsafe (s .args .n) (componentsFrom (now (s .args .s)) (now (s .args .index))) (now (s .args .s)) (c .before .before .before .loop .place)
+  told : gotAs (unsafeFrom (now (s .args .s)) (s .args .version) (s .args .n) (s .args .c) (c .unsafe-into .last .1 .1 .1 .1 .1 .0) (892 + 6 * c .before .before .before .loop .u)) (c .unsafe-into .result) ≡ readUnsafe (s .args .version) (s .args .n) (componentsFrom (now (s .args .s)) (now (s .args .index))) (now (s .args .s)) (c .before .before .before .loop .place)
   told =
       let l = c .before .before .before .loop in
       let pre = s .pre .1 in
-      subst (λ all. gotAs (unsafeFrom (now (s .args .s)) (s .args .n) (s .args .c) (c .unsafe-into .last .1 .1 .1 .1 .0) (892 + 6 * l .u)) (c .unsafe-into .result) ≡ readUnsafe (s .args .n) all (now (s .args .s)) (l .place))
+      subst (λ all. gotAs (unsafeFrom (now (s .args .s)) (s .args .version) (s .args .n) (s .args .c) (c .unsafe-into .last .1 .1 .1 .1 .1 .0) (892 + 6 * l .u)) (c .unsafe-into .result) ≡ readUnsafe (s .args .version) (s .args .n) all (now (s .args .s)) (l .place))
       (components-same (now (s .args .s)) (now (s .args .index)) (l .index) (omega (arith, pre .0)) (λ j l. pre .1 j (omega (arith, pre .0))) (agree-low (l .inv .1 .1 .1) (omega arith)))
       (c .unsafe-into .ensures .0)
 
@@ -44,7 +44,7 @@ loop-holds c =
     let a = c .before .before .args in
     let s = now (a .s) in
     let old = now (a .index) in
-    fill-starts (readUnsafe (a .n) (componentsFrom s old)) (λ x j. unsafeFrom s (a .n) (a .c) x (unsafePlace j)) (a .count) s (a .at) 892 988 old
+    fill-starts (readUnsafe (a .version) (a .n) (componentsFrom s old)) (λ x j. unsafeFrom s (a .version) (a .n) (a .c) x (unsafePlace j)) (a .count) s (a .at) 892 988 old
 
 mul-unsafe-into : tie.Need-mul-unsafe-into Inv-loop μ-loop
 mul-unsafe-into c =
@@ -73,7 +73,7 @@ enum-known-number c =
 
 same-length : tie.Need-same-length Inv-loop μ-loop
 same-length c =
-    c .before .before .before .before .before .unsafe-into .kept .1 .1 .1 .1 .0 ∙ c .before .before .before .before .before .before .before .before .loop .inv .1 .0
+    c .before .before .before .before .before .unsafe-into .kept .1 .1 .1 .1 .1 .0 ∙ c .before .before .before .before .before .before .before .before .loop .inv .1 .0
 
 returns : tie.Need-returns Inv-loop μ-loop
 unfolding gotAs unsafePlace
@@ -104,8 +104,8 @@ loop-again c =
     let taken = at .before .before .loop-test .taken in
     let into = at .unsafe-into in
     fill-goes-on _ (told-by (s at)) _ _ _ 892 988 _ _ _ (l .u) _ (l .inv) taken _ (told at) (892 + 6 * l .u) (892 + 6 * l .u + 6) (omega arith) (omega (arith, s at .pre .1 .0, taken)) (into .ensures .1) (c .before .next .given .1)
-    (into .kept .1 .1 .1 .1 .0)
-    (λ j h. unsafe-same (now (a .s)) (a .n) (a .c) (l .index) (into .last .1 .1 .1 .1 .0) (892 + 6 * j) (s at .pre .1 .0 .1 .1 .0) (agree-low (into .ensures .1) (omega arith)))
+    (into .kept .1 .1 .1 .1 .1 .0)
+    (λ j h. unsafe-same (now (a .s)) (a .version) (a .n) (a .c) (l .index) (into .last .1 .1 .1 .1 .1 .0) (892 + 6 * j) (s at .pre .1 .0 .1 .1 .0) (agree-low (into .ensures .1) (omega arith)))
 
 same-length-2 : tie.Need-same-length-2 Inv-loop μ-loop
 same-length-2 c =
@@ -118,7 +118,7 @@ returns-2 c =
     let s = now (a .s) in
     let old = now (a .index) in
     let loop = c .before .loop in
-    fill-ends (readUnsafe (a .n) (componentsFrom s old)) (λ x j. unsafeFrom s (a .n) (a .c) x (unsafePlace j)) (a .count) s (a .at) 892 988 old (loop .index) (loop .u) (loop .place) (loop .inv) (omega (arith, c .loop-test .left))
+    fill-ends (readUnsafe (a .version) (a .n) (componentsFrom s old)) (λ x j. unsafeFrom s (a .version) (a .n) (a .c) x (unsafePlace j)) (a .count) s (a .at) 892 988 old (loop .index) (loop .u) (loop .place) (loop .inv) (omega (arith, c .loop-test .left))
 
 pub unsafes-into-spec : {M : Type 1} → statement M
 unsafes-into-spec =

@@ -24,7 +24,7 @@ returns : tie.Need-returns
 returns c =
     let a = c .before .before .before .before .before .before .args in
     c .refused-row .ensures
-    ∙ row-beyond (now (a .model)) (now (a .second)) (a .n) (now (a .table)) (a .segments) (c .before .before .before .before .before .before .pre .1 .1 .0) (a .h) (omega (arith, c .before .if1 .taken, c .before .before .lines .ensures))
+    ∙ row-beyond (now (a .model)) (now (a .second)) (a .version) (a .n) (now (a .table)) (a .segments) (c .before .before .before .before .before .before .pre .1 .1 .0) (a .h) (omega (arith, c .before .if1 .taken, c .before .before .lines .ensures))
 
 segment-of-requires : tie.Need-segment-of-requires
 segment-of-requires c κs =
@@ -71,7 +71,7 @@ returns-2 c =
     let a = s .args in
     let told = c .before .before .before .segment-of in
     let low : a .h < endOf (now (a .table)) (a .segments) = omega (arith, c .before .before .before .before .if1 .left, c .before .before .before .before .before .lines .ensures) in
-    row-there (now (a .model)) (now (a .second)) (a .n) (now (a .table)) (a .segments) (s .pre .1 .1 .0) (told .result) (a .h) (told .ensures .1) low (c .before .before .line-at .ensures) (c .line-row .ensures)
+    row-there (now (a .model)) (now (a .second)) (a .version) (a .n) (now (a .table)) (a .segments) (s .pre .1 .1 .0) (told .result) (a .h) (told .ensures .1) low (c .before .before .line-at .ensures) (c .line-row .ensures)
 
 pub row-in-spec : {M : Type 1} → statement M
 row-in-spec =

@@ -1,6 +1,6 @@
 -- The opening is read, its state tested, then the steps and the end. Assumes nothing.
 use mathlib.Core.Path.{_≡_, refl, ap, _∙_}
-use Prim.Native.Nat.{ℕ, _*_, _-_, _≤_}
+use Prim.Native.Nat.{ℕ, _+_, _*_, _-_, _≤_}
 use native.Mathlib.Omega.{arith}
 use borrow.Author.Needs.{needs}
 use denote.Ref.{now}
@@ -11,6 +11,7 @@ use Rattle.formats.specs.RunSheet.{readOpening}
 use Rattle.papers.specs.Standing.{Stands}
 use Rattle.steps.specs.Held.{stateIn}
 use Rattle.rules.specs.Marking.{closeRun}
+use Rattle.rules.proofs.MarkedRanges.{opening-place}
 use Rattle.rules.proofs.ListFacts.{test-failed, test-passed}
 use Rattle.papers.proofs.StandingLaws.{stands-at}
 use Rattle.second_sheets.proofs.StepLaws.{opening-of}
@@ -29,33 +30,33 @@ enum-known-number : tie.Need-enum-known-number
 enum-known-number c = search needs
 
 -- the opening was refused
-cut : (c : tie.After-known-told) → readOpening (modelFrom (now (c .before .before .before .before .before .before .before .before .before .args .model)) (now (c .before .before .before .before .before .before .before .before .before .args .index))) (now (c .before .before .before .before .before .before .before .before .before .args .s)) 4 ≡ refused (c .before .number .given .0 .0) (c .before .number .given .0 .1 .0)
+cut : (c : tie.After-known-told) → readOpening (modelFrom (now (c .before .before .before .before .before .before .before .before .before .args .model)) (now (c .before .before .before .before .before .before .before .before .before .args .index))) (now (c .before .before .before .before .before .before .before .before .before .args .s)) (c .before .before .before .before .before .before .before .before .before .args .body) ≡ refused (c .before .number .given .0 .0) (c .before .number .given .0 .1 .0)
 cut c =
     let begun = c .before .before .before .before in
     let a = begun .before .before .before .before .before .args in
     let index = now (a .index) in
     let read = begun .opening in
     let told = c .before .number .given in
-    opening-refused index 4 (readOpening (modelFrom (now (a .model)) index) (now (a .s)) 4) (read .last .1 .1 .1 .1 .0) (read .result) (read .ensures .0 ∙ opening-of (now (a .model)) index (now (a .s)) 4 (begun .before .before .location-count .result) (begun .before .before .location-count .ensures)) (told .0 .0) (told .0 .1 .0) (told .1)
+    opening-refused index (a .body) (readOpening (modelFrom (now (a .model)) index) (now (a .s)) (a .body)) (read .last .1 .1 .1 .1 .0) (read .result) (read .ensures .0 ∙ opening-of (now (a .model)) index (now (a .s)) (a .body) (begun .before .before .location-count .result) (begun .before .before .location-count .ensures)) (told .0 .0) (told .0 .1 .0) (told .1)
 
 on-second-requires : tie.Need-on-second-requires
 on-second-requires c κs =
     let s = c .before .before .before .before .before .before .before .before .before in
     let told = c .before .number .given in
-    omega (arith, opening-placed (modelFrom (now (s .args .model)) (now (s .args .index))) (now (s .args .s)) 4 (told .0 .0) (told .0 .1 .0) (s .pre .1 .0) (cut c), s .pre .1 .1)
+    omega (arith, opening-placed (modelFrom (now (s .args .model)) (now (s .args .index))) (now (s .args .s)) (s .args .body) (told .0 .0) (told .0 .1 .0) (s .pre .1 .0) (cut c), s .pre .1 .1)
 
 enum-known-q : tie.Need-enum-known-q
 enum-known-q c = search needs
 
 -- the opening that was read: its values are the first numbers of the slice, and it is in its ranges
-reads : (c : tie.After-known-told2) → readOpening (modelFrom (now (c .before .before .before .before .before .before .before .before .before .args .model)) (now (c .before .before .before .before .before .before .before .before .before .args .index))) (now (c .before .before .before .before .before .before .before .before .before .args .s)) 4 ≡ got (record { q = c .before .q .given .0 .0; steps = c .before .q .given .0 .1 .0; place = 10; location = c .before .q .given .0 .1 .1 .0; values = take (entry (now (c .before .before .before .before .before .before .before .before .before .args .index)) 0) (c .before .before .before .before .opening .last .1 .1 .1 .1 .0) }) (c .before .q .given .0 .1 .1 .1 .0)
+reads : (c : tie.After-known-told2) → readOpening (modelFrom (now (c .before .before .before .before .before .before .before .before .before .args .model)) (now (c .before .before .before .before .before .before .before .before .before .args .index))) (now (c .before .before .before .before .before .before .before .before .before .args .s)) (c .before .before .before .before .before .before .before .before .before .args .body) ≡ got (record { q = c .before .q .given .0 .0; steps = c .before .q .given .0 .1 .0; place = c .before .before .before .before .before .before .before .before .before .args .body + 6; location = c .before .q .given .0 .1 .1 .0; values = take (entry (now (c .before .before .before .before .before .before .before .before .before .args .index)) 0) (c .before .before .before .before .opening .last .1 .1 .1 .1 .0) }) (c .before .q .given .0 .1 .1 .1 .0)
 reads c =
     let begun = c .before .before .before .before in
     let a = begun .before .before .before .before .before .args in
     let index = now (a .index) in
     let read = begun .opening in
     let told = c .before .q .given in
-    opening-read index 4 (readOpening (modelFrom (now (a .model)) index) (now (a .s)) 4) (read .last .1 .1 .1 .1 .0) (read .result) (read .ensures .0 ∙ opening-of (now (a .model)) index (now (a .s)) 4 (begun .before .before .location-count .result) (begun .before .before .location-count .ensures)) (told .0 .0) (told .0 .1 .0) (told .0 .1 .1 .0) (told .0 .1 .1 .1 .0) (told .1)
+    opening-read index (a .body) (readOpening (modelFrom (now (a .model)) index) (now (a .s)) (a .body)) (read .last .1 .1 .1 .1 .0) (read .result) (read .ensures .0 ∙ opening-of (now (a .model)) index (now (a .s)) (a .body) (begun .before .before .location-count .result) (begun .before .before .location-count .ensures)) (told .0 .0) (told .0 .1 .0) (told .0 .1 .1 .0) (told .0 .1 .1 .1 .0) (told .1)
 
 room : (c : tie.After-opening) → 3 * entry (now (c .before .before .before .before .before .args .index)) 0 ≤ length (c .opening .last .1 .1 .1 .1 .0)
 room c =
@@ -67,7 +68,7 @@ held c =
     let begun = c .before .before .before .before in
     let s = begun .before .before .before .before .before in
     let told = c .before .q .given in
-    opening-known (now (s .args .model)) (now (s .args .index)) (now (s .args .s)) 4 (begun .opening .last .1 .1 .1 .1 .0) (told .0 .0) (told .0 .1 .0) 10 (told .0 .1 .1 .0) (told .0 .1 .1 .1 .0) (s .pre .1 .0) (omega (arith, room begun)) (reads c)
+    opening-known (now (s .args .model)) (now (s .args .index)) (now (s .args .s)) (s .args .body) (begun .opening .last .1 .1 .1 .1 .0) (told .0 .0) (told .0 .1 .0) (s .args .body + 6) (told .0 .1 .1 .0) (told .0 .1 .1 .1 .0) (s .pre .1 .0) (omega (arith, room begun)) (reads c)
 
 modes-at-requires : tie.Need-modes-at-requires
 modes-at-requires c κs = (c .before .before .before .before .before .before .before .before .before .pre .0 .0 .good, held c .located)
@@ -88,8 +89,18 @@ start-allowed-requires c κs =
     let k = held told in
     (record { good = w .good; short = w .short; known = standing at .known }, (k .small, k .below))
 
+-- the location byte stands in the sheet
+located : (c : tie.Then1) → c .before .before .before .before .before .before .before .before .before .before .before .before .before .args .body + 6 ≤ 32768
+located c =
+    let told = c .before .before .before .before in
+    let s = told .before .before .before .before .before .before .before .before .before in
+    omega (arith, opening-place _ _ _ _ _ (s .pre .1 .0) (reads told), s .pre .1 .1)
+
+add-on-second : tie.Need-add-on-second
+add-on-second c = omega (arith, located c)
+
 on-second-requires-2 : tie.Need-on-second-requires-2
-on-second-requires-2 c κs = search needs
+on-second-requires-2 c κs = located c
 
 same-length : tie.Need-same-length
 same-length c = search needs
@@ -109,7 +120,7 @@ returns c =
     let xs = begun .opening .last .1 .1 .1 .1 .0 in
     let fails = test-failed (starts .start-allowed .result) (c .before .if1 .taken) (starts .start-allowed .ensures) in
     c .on-second2 .ensures
-    ∙ opening-fails m (now (a .s)) (readOpening m (now (a .s)) 4) (f .0) (f .1 .0) 10 (f .1 .1 .0) (f .1 .1 .1 .0) (take (entry index 0) xs) (reads told) (stateIn model index (at .modes-at .result) xs) (first-state (f .1 .1 .0) (at .modes-at .result) xs (s .pre .0 .0 .good) (standing at)) fails
+    ∙ opening-fails m (now (a .s)) (readOpening m (now (a .s)) (a .body)) (f .0) (f .1 .0) (a .body + 6) (f .1 .1 .0) (f .1 .1 .1 .0) (take (entry index 0) xs) (reads told) (stateIn model index (at .modes-at .result) xs) (first-state (f .1 .1 .0) (at .modes-at .result) xs (s .pre .0 .0 .good) (standing at)) fails
 
 mark-steps-requires : tie.Need-mark-steps-requires
 mark-steps-requires c κs =
@@ -135,7 +146,7 @@ returns-2 c =
     let told = c .before .before .number .given in
     let a = c .before .before .before .before .before .before .before .before .before .before .args in
     let m = modelFrom (now (a .model)) (now (a .index)) in
-    c .on-second .ensures ∙ opening-stops m (now (a .s)) (readOpening m (now (a .s)) 4) (told .0 .0) (told .0 .1 .0) (cut (c .before))
+    c .on-second .ensures ∙ opening-stops m (now (a .s)) (readOpening m (now (a .s)) (a .body)) (told .0 .0) (told .0 .1 .0) (cut (c .before))
 
 same-length-3 : tie.Need-same-length-3
 same-length-3 c = search needs
@@ -157,7 +168,7 @@ returns-3 c =
     let passes = test-passed (starts .start-allowed .result) (marked .before .before .if1 .left) (starts .start-allowed .ensures) in
     c .close-run .ensures
     ∙ ap (closeRun m (f .0) (now (a .s))) (marked .mark-steps .ensures .0)
-    ∙ opening-runs m (now (a .s)) (readOpening m (now (a .s)) 4) (f .0) (f .1 .0) 10 (f .1 .1 .0) (f .1 .1 .1 .0) (take (entry index 0) xs) (reads told) (stateIn model index (at .modes-at .result) xs) (first-state (f .1 .1 .0) (at .modes-at .result) xs (s .pre .0 .0 .good) (standing at)) passes
+    ∙ opening-runs m (now (a .s)) (readOpening m (now (a .s)) (a .body)) (f .0) (f .1 .0) (a .body + 6) (f .1 .1 .0) (f .1 .1 .1 .0) (take (entry index 0) xs) (reads told) (stateIn model index (at .modes-at .result) xs) (first-state (f .1 .1 .0) (at .modes-at .result) xs (s .pre .0 .0 .good) (standing at)) passes
 
 pub mark-body-spec : {M : Type 1} → statement M
 mark-body-spec =
@@ -170,6 +181,7 @@ mark-body-spec =
     enum-known-q
     modes-at-requires
     start-allowed-requires
+    add-on-second
     on-second-requires-2
     same-length
     returns

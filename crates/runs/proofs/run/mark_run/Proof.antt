@@ -17,21 +17,24 @@ returns c =
     let e = o .open-paper .ensures .0 in
     e ∙ run-refused (a .limits) (now (a .model)) (now (a .second)) (λ z. c .if1 .taken (ap (λ (x : Answer). x .number) e ∙ z))
 
+cast-mark-body : tie.Need-cast-mark-body
+cast-mark-body c = search needs
+
 slice-aggregate-mark-body : tie.Need-slice-aggregate-mark-body
 slice-aggregate-mark-body c = search needs
 
 mark-body-requires : tie.Need-mark-body-requires
 mark-body-requires c κs =
-    let w = c .before .before .before .before .open-paper .ensures .1 .1 (c .before .before .if1 .left) in
+    let w = c .before .before .before .before .before .open-paper .ensures .1 .1 (c .before .before .before .if1 .left) in
     ((w .first .accepted, search needs), (w .bodied, w .brief))
 
 returns-2 : tie.Need-returns-2
 returns-2 c =
-    let o = c .before .before .before .before .before .before in
+    let o = c .before .before .before .before .before .before .before in
     let a = o .before .before .before .before .args in
-    c .before .mark-body .ensures ∙ run-open (a .limits) (now (a .model)) (now (a .second)) (o .open-paper .ensures .1 .1 (c .before .before .before .before .if1 .left))
+    c .before .mark-body .ensures ∙ run-open (a .limits) (now (a .model)) (now (a .second)) (o .open-paper .ensures .1 .1 (c .before .before .before .before .before .if1 .left))
 
 pub mark-run-spec : {M : Type 1} → statement M
 mark-run-spec =
     tie.close
-    (tie.spec open-paper-requires returns slice-aggregate-mark-body mark-body-requires returns-2)
+    (tie.spec open-paper-requires returns cast-mark-body slice-aggregate-mark-body mark-body-requires returns-2)

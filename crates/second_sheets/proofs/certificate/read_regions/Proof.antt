@@ -53,7 +53,7 @@ returns-3 c =
     let next = c .before .before .before .before .count .given .0 .1 .0 in
     let e : u8 s (a .at) ≡ got count next = sym (c .before .before .before .before .before .before .byte .ensures) ∙ field-value (c .before .before .before .before .count .given .1) in
     let one : must (λ v. eqb v (a .locations)) 5 u8 s (a .at) ≡ got (a .locations) next = ap (passing (λ v. eqb v (a .locations)) 5 (a .at)) e ∙ equal-in (a .locations) count 5 (a .at) next (c .before .before .if1 .left) ∙ ap (λ (v : ℕ). got v next) (c .before .before .if1 .left) in
-    (regions-then s (a .n) (a .locations) (a .at) next one _ (c .regions-into .result) (c .regions-into .ensures .0), c .regions-into .ensures .1)
+    (regions-then s (a .version) (a .n) (a .locations) (a .at) next one _ (c .regions-into .result) (c .regions-into .ensures .0), c .regions-into .ensures .1)
 
 pub read-regions-spec : {M : Type 1} → statement M
 read-regions-spec =

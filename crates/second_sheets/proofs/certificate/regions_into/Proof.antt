@@ -18,16 +18,16 @@ use Rattle.second_sheets.proofs.certificate.regions_into.Statement.{sta
 use Rattle.second_sheets.proofs.certificate.regions_into.Tie as tie
 
 abbrev Inv-loop : tie.InvT-loop
-Inv-loop s at n count regions₀ place₀ l₀ regions place l =
-    (l ≤ count) × ((length regions ≡ length regions₀) × (Kept 0 (2 * count) regions₀ regions × Regions s n count at regions l place))
+Inv-loop s at version n count regions₀ place₀ l₀ regions place l =
+    (l ≤ count) × ((length regions ≡ length regions₀) × (Kept 0 (2 * count) regions₀ regions × Regions s version n count at regions l place))
 
 abbrev μ-loop : tie.MeasureT-loop
-μ-loop s at n count regions₀ place₀ l₀ regions place l = count - l
+μ-loop s at version n count regions₀ place₀ l₀ regions place l = count - l
 
 loop-holds : tie.Need-loop-holds Inv-loop μ-loop
 loop-holds c =
     let a = c .before .before .args in
-    (omega arith, (refl, (kept-none 0 (2 * a .count) (now (a .regions)), regions-start (now (a .s)) (a .n) (a .count) (a .at) (now (a .regions)))))
+    (omega arith, (refl, (kept-none 0 (2 * a .count) (now (a .regions)), regions-start (now (a .s)) (a .version) (a .n) (a .count) (a .at) (now (a .regions)))))
 
 condition-requires : tie.Need-condition-requires Inv-loop μ-loop
 condition-requires c κs = (omega arith, omega arith)
@@ -43,18 +43,18 @@ unfolding gotAs
 returns c =
     let a = c .before .before .before .before .before .before .before .before .args in
     let l = c .before .before .before .before .before .loop in
-    let cut = sym (c .before .before .before .condition .ensures) ∙ rows-refused (now (a .s)) (a .n) (l .place) (c .before .number .given .1) in
-    (regions-stop (now (a .s)) (a .n) (a .count) (a .at) (l .regions) (l .l) (l .place) (l .inv .1 .1 .1) (c .before .before .before .before .loop-test .taken) (c .before .number .given .0 .0) (c .before .number .given .0 .1 .0) cut, l .inv .1 .1 .0)
+    let cut = sym (c .before .before .before .condition .ensures) ∙ rows-refused (now (a .s)) (a .version) (a .n) (l .place) (c .before .number .given .1) in
+    (regions-stop (now (a .s)) (a .version) (a .n) (a .count) (a .at) (l .regions) (l .l) (l .place) (l .inv .1 .1 .1) (c .before .before .before .before .loop-test .taken) (c .before .number .given .0 .0) (c .before .number .given .0 .1 .0) cut, l .inv .1 .1 .0)
 
 enum-known-rows : tie.Need-enum-known-rows Inv-loop μ-loop
 enum-known-rows c = search needs
 
 -- what this turn read, and that its count byte was there and is at most 16
-rows-read : (c : tie.After-known-told2 Inv-loop μ-loop) → readCondition 16 (c .before .before .before .before .before .before .before .before .args .n) (now (c .before .before .before .before .before .before .before .before .args .s)) (c .before .before .before .before .before .loop .place) ≡ got (rowsFrom (now (c .before .before .before .before .before .before .before .before .args .s)) (c .before .before .before .before .before .before .before .before .args .n) (c .before .before .before .before .before .loop .place + 1) (c .before .rows .given .0 .0)) (c .before .rows .given .0 .1 .0)
-rows-read c = sym (c .before .before .before .condition .ensures) ∙ rows-value (now (c .before .before .before .before .before .before .before .before .args .s)) (c .before .before .before .before .before .before .before .before .args .n) (c .before .before .before .before .before .loop .place) (c .before .rows .given .1)
+rows-read : (c : tie.After-known-told2 Inv-loop μ-loop) → readCondition (c .before .before .before .before .before .before .before .before .args .version) 16 (c .before .before .before .before .before .before .before .before .args .n) (now (c .before .before .before .before .before .before .before .before .args .s)) (c .before .before .before .before .before .loop .place) ≡ got (rowsFrom (now (c .before .before .before .before .before .before .before .before .args .s)) (c .before .before .before .before .before .before .before .before .args .version) (c .before .before .before .before .before .before .before .before .args .n) (c .before .before .before .before .before .loop .place + 1) (c .before .rows .given .0 .0)) (c .before .rows .given .0 .1 .0)
+rows-read c = sym (c .before .before .before .condition .ensures) ∙ rows-value (now (c .before .before .before .before .before .before .before .before .args .s)) (c .before .before .before .before .before .before .before .before .args .version) (c .before .before .before .before .before .before .before .before .args .n) (c .before .before .before .before .before .loop .place) (c .before .rows .given .1)
 
 count-told : (c : tie.After-known-told2 Inv-loop μ-loop) → CountRead 16 (c .before .before .before .before .before .before .before .before .args .n) (now (c .before .before .before .before .before .before .before .before .args .s)) (c .before .before .before .before .before .loop .place) (c .before .rows .given .0 .0)
-count-told c = condition-read 16 (c .before .before .before .before .before .before .before .before .args .n) (now (c .before .before .before .before .before .before .before .before .args .s)) (c .before .before .before .before .before .loop .place) (c .before .before .before .before .before .loop .place + 1) (c .before .rows .given .0 .0) (c .before .rows .given .0 .1 .0) (rows-read c)
+count-told c = condition-read 16 (c .before .before .before .before .before .before .before .before .args .version) (c .before .before .before .before .before .before .before .before .args .n) (now (c .before .before .before .before .before .before .before .before .args .s)) (c .before .before .before .before .before .loop .place) (c .before .before .before .before .before .loop .place + 1) (c .before .rows .given .0 .0) (c .before .rows .given .0 .1 .0) (rows-read c)
 
 mul-i : tie.Need-mul-i Inv-loop μ-loop
 mul-i c = omega arith
@@ -95,8 +95,8 @@ loop-again c =
     let l = c .before .before .before .before .before .loop in
     let rows = c .before .rows .given .0 .0 in
     let h : l .l < a .count = c .before .before .before .before .loop-test .taken in
-    let kept = regions-kept (now (a .s)) (a .n) (a .count) (a .at) (now (a .regions)) (l .regions) (l .l) (l .place + 1) rows (l .inv .1 .1 .0) h in
-    let more = regions-go-on (now (a .s)) (a .n) (a .count) (a .at) (l .regions) (l .l) (l .place) (l .inv .1 .1 .1) h _ rows (c .before .rows .given .0 .1 .0) (omega arith) refl (rows-read c) in
+    let kept = regions-kept (now (a .s)) (a .version) (a .n) (a .count) (a .at) (now (a .regions)) (l .regions) (l .l) (l .place + 1) rows (l .inv .1 .1 .0) h in
+    let more = regions-go-on (now (a .s)) (a .version) (a .n) (a .count) (a .at) (l .regions) (l .l) (l .place) (l .inv .1 .1 .1) h _ rows (c .before .rows .given .0 .1 .0) (omega arith) refl (rows-read c) in
     (omega arith, (simp length-set (l .inv .1 .0), (kept, more)))
 
 same-length-2 : tie.Need-same-length-2 Inv-loop μ-loop
@@ -107,7 +107,7 @@ unfolding gotAs
 returns-2 c =
     let a = c .before .before .before .before .args in
     let l = c .before .loop in
-    (regions-end (now (a .s)) (a .n) (a .count) (a .at) (l .regions) (l .l) (l .place) (l .inv .1 .1 .1) (omega arith), l .inv .1 .1 .0)
+    (regions-end (now (a .s)) (a .version) (a .n) (a .count) (a .at) (l .regions) (l .l) (l .place) (l .inv .1 .1 .1) (omega arith), l .inv .1 .1 .0)
 
 pub regions-into-spec : {M : Type 1} → statement M
 regions-into-spec =

@@ -5,23 +5,25 @@ use Prim.Native.Nat.{ℕ, _*_, _+_, _-_, _^_, _≤_}
 use native.Mathlib.Omega.{arith}
 use denote.Ref.{now}
 use lib.IntN.{ℤ, pos, natAbs, _+ℤ_, _*ℤ_, +ℤ-idl}
-use lib.ListN.{getD}
+use lib.ListN.{length, getD}
 use mir.Syntax.{w64}
 use mir.Val.{toZ, ofZ}
 use mir.Facts.{toZ-ofZ}
 use mir.ValLaws.{toZ-pos}
-use Rattle.farkas.specs.Rows.{item, dot}
+use mathlib.Core.Bool.{Bool}
+use Rattle.farkas.specs.Rows.{item, dot, compared}
+use Rattle.formats.proofs.Versions.{numbers-within}
 use Rattle.fields.specs.Places.{signedAt, numbersAt}
 use Rattle.steps.proofs.ValueLaws.{dot-goes-on, sum-room, sum-grows, bound-room, row-compared}
 use Rattle.steps.proofs.rows.row_holds.Statement.{statement}
 use Rattle.steps.proofs.rows.row_holds.Tie as tie
 
 abbrev Inv-loop : tie.InvT-loop
-Inv-loop s at count point q sum₀ i₀ sum i =
+Inv-loop s at version count point q sum₀ i₀ sum i =
     (i ≤ count) × ((toZ w64 sum ≡ dot (numbersAt s at i) point) × (natAbs (toZ w64 sum) * count ≤ i * 2 ^ 62))
 
 abbrev μ-loop : tie.MeasureT-loop
-μ-loop s at count point q sum₀ i₀ sum i = count - i
+μ-loop s at version count point q sum₀ i₀ sum i = count - i
 
 loop-holds : tie.Need-loop-holds Inv-loop μ-loop
 unfolding dot numbersAt
@@ -34,7 +36,7 @@ add-signed-word : tie.Need-add-signed-word Inv-loop μ-loop
 add-signed-word c = omega arith
 
 signed-word-requires : tie.Need-signed-word-requires Inv-loop μ-loop
-signed-word-requires c κs = (omega arith, omega arith)
+signed-word-requires c κs = (omega (arith, numbers-within (c .before .before .before .args .version) (c .before .before .before .args .count) (c .before .before .before .args .at) (length (now (c .before .before .before .args .s))) (c .before .before .before .pre .0 .0)), omega arith)
 
 mul-multiply-add : tie.Need-mul-multiply-add Inv-loop μ-loop
 mul-multiply-add c = omega arith
@@ -88,7 +90,7 @@ add-signed-word-2 : tie.Need-add-signed-word-2 Inv-loop μ-loop
 add-signed-word-2 c = omega arith
 
 signed-word-requires-2 : tie.Need-signed-word-requires-2 Inv-loop μ-loop
-signed-word-requires-2 c κs = (omega arith, omega arith)
+signed-word-requires-2 c κs = (omega (arith, numbers-within (c .before .before .before .args .version) (c .before .before .before .args .count) (c .before .before .before .args .at) (length (now (c .before .before .before .args .s))) (c .before .before .before .pre .0 .0)), omega arith)
 
 cast-multiply-add : tie.Need-cast-multiply-add Inv-loop μ-loop
 cast-multiply-add c = omega arith
@@ -109,15 +111,24 @@ bound-is c =
     ∙ c .multiply-add2 .ensures
     ∙ rw (toZ-ofZ {z = b} (record { sfits = c .before .signed-word2 .ok }), toZ-pos w64 (s .args .q) (omega arith)) (+ℤ-idl _)
 
+is-strict-requires : tie.Need-is-strict-requires Inv-loop μ-loop
+is-strict-requires c κs = tt
+
+compare-requires : tie.Need-compare-requires Inv-loop μ-loop
+compare-requires c κs = tt
+
 returns : tie.Need-returns Inv-loop μ-loop
 returns c =
-    let s = c .before .before .before .before .before in
-    let l = c .before .before .before .loop in
-    let b = c .before .signed-word2 in
+    let at = c .before .before in
+    let s = at .before .before .before .before .before in
+    let l = at .before .before .before .loop in
+    let b = at .before .signed-word2 in
     let here : l .i ≡ s .args .count = omega arith in
     let whole : toZ w64 (l .sum) ≡ dot (numbersAt (now (s .args .s)) (s .args .at) (s .args .count)) (now (s .args .point)) = l .inv .1 .0 ∙ ap (λ (i : ℕ). dot (numbersAt (now (s .args .s)) (s .args .at) i) (now (s .args .point))) here in
-    let bound : toZ w64 (ofZ w64 (c .multiply-add2 .result)) ≡ signedAt (now (s .args .s)) (s .args .at + 4 * s .args .count) *ℤ pos (s .args .q) = bound-is c ∙ ap (λ (z : ℤ). z *ℤ pos (s .args .q)) (b .ensures .0) in
-    row-compared (now (s .args .s)) (s .args .at) (s .args .count) (s .args .q) (now (s .args .point)) (toZ w64 (l .sum)) (toZ w64 (ofZ w64 (c .multiply-add2 .result))) whole bound
+    let bound : toZ w64 (ofZ w64 (at .multiply-add2 .result)) ≡ signedAt (now (s .args .s)) (s .args .at + 4 * s .args .count) *ℤ pos (s .args .q) = bound-is at ∙ ap (λ (z : ℤ). z *ℤ pos (s .args .q)) (b .ensures .0) in
+    c .compare .ensures
+    ∙ ap (λ (strict : Bool). compared strict (toZ w64 (l .sum)) (toZ w64 (ofZ w64 (at .multiply-add2 .result)))) (c .before .is-strict .ensures)
+    ∙ row-compared (now (s .args .s)) (s .args .at) (s .args .version) (s .args .count) (s .args .q) (now (s .args .point)) (toZ w64 (l .sum)) (toZ w64 (ofZ w64 (at .multiply-add2 .result))) whole bound
 
 pub row-holds-spec : {M : Type 1} → statement M
 row-holds-spec =
@@ -140,4 +151,6 @@ row-holds-spec =
     signed-word-requires-2
     cast-multiply-add
     multiply-add-requires-2
+    is-strict-requires
+    compare-requires
     returns)

@@ -46,8 +46,8 @@ returns-2 c =
     let s = c .before .before .before .before .before in
     let a = s .args in
     let index = now (a .index) in
-    let told : c .condition-holds .result ≡ runs.conditionHolds (a .q) (take (entry index 0) (now (a .state))) (spanRows (now (a .model)) (entry index 0) index (892 + 6 * a .u + 4)) =
-    c .condition-holds .ensures ∙ ap (λ (n : ℕ). runs.conditionHolds (a .q) (take n (now (a .state))) (spanRows (now (a .model)) n index (892 + 6 * a .u + 4))) (c .before .number-at .ensures) in
+    let told : c .condition-holds .result ≡ runs.conditionHolds (a .q) (take (entry index 0) (now (a .state))) (spanRows (now (a .model)) (entry index 11) (entry index 0) index (892 + 6 * a .u + 4)) =
+    c .condition-holds .ensures ∙ ap (λ (n : ℕ). runs.conditionHolds (a .q) (take n (now (a .state))) (spanRows (now (a .model)) (entry index 11) n index (892 + 6 * a .u + 4))) (c .before .number-at .ensures) in
     first-passes _ _ (test-passed (c .before .before .before .modes-fit .result) (c .before .before .if1 .left) (c .before .before .before .modes-fit .ensures)) told
 
 pub unsafe-fits-spec : {M : Type 1} → statement M

@@ -13,6 +13,7 @@ use Rattle.farkas.proofs.Promise.{room-all}
 use Rattle.hypotheses.specs.Tables.{keeps, line}
 use Rattle.sums.proofs.RowLaws.{form-time, form-jump, form-keeps, time-added, sent, sent-size}
 use borrow.Author.Needs.{needs}
+use Rattle.formats.proofs.Versions.{numbers-within}
 use Rattle.sums.proofs.lines.add_later.Statement.{statement}
 use Rattle.sums.proofs.lines.add_later.Tie as tie
 
@@ -41,7 +42,7 @@ returns c =
     let one : c .before .add-one .last .0 ≡ plusFrom (a .n + a .n) (negℤ (pos (a .m))) sums (pos 1 ∷ []) = c .before .add-one .ensures ∙ ap (λ (z : ℤ). plusFrom (a .n + a .n) z sums (pos 1 ∷ [])) less in
     ap₂ rowOf one (sent (s .args .bound) (s .fits .bound))
     ∙ time-added (a .n) (a .m) sums (a .bound) (s .pre .1 .0 .timed (omega (arith, c .before .before .before .before .if1 .taken)) (omega (arith, c .before .before .before .before .if1 .taken)))
-    ∙ ap (addRow (rowOf sums (a .bound)) (a .m)) (form-time (now (a .model)) (now (a .model)) (a .n) (a .line .form) (a .line .place) (a .line .row) (c .before .before .before .before .if1 .taken))
+    ∙ ap (addRow (rowOf sums (a .bound)) (a .m)) (form-time (now (a .model)) (now (a .model)) (a .version) (a .n) (a .line .form) (a .line .place) (a .line .row) (c .before .before .before .before .if1 .taken))
 
 mul-row-place : tie.Need-mul-row-place
 mul-row-place c = search needs
@@ -58,7 +59,7 @@ add-row-requires c κs =
     let s = c .before .before .before .before .before .before .before in
     let wide = s .pre .1 .0 .after (omega (arith, c .before .before .if2 .taken)) in (
       (omega (arith, wide), rw (sent (s .args .bound) (s .fits .bound)) (s .pre .1 .1)),
-      (rw (c .row-place .ensures) (s .pre .1 .0 .jump (c .before .before .if2 .taken)), omega (arith, s .pre .0 .0)),
+      (rw (c .row-place .ensures) (numbers-within (s .args .version) _ _ _ (s .pre .1 .0 .jump (c .before .before .if2 .taken))), omega (arith, s .pre .0 .0)),
     )
 
 same-length-2 : tie.Need-same-length-2
@@ -73,7 +74,7 @@ returns-2 c =
     ap (rowOf (c .before .add-row .last .0)) told
     ∙ c .before .add-row .ensures
     ∙ ap₂ (λ (z : ℤ) (p : ℕ). addRow (rowOf sums z) (a .m) (onward 0 (rowIn (now (a .model)) p (2 * a .n)))) (sent (s .args .bound) (s .fits .bound)) (c .before .before .row-place .ensures)
-    ∙ ap (addRow (rowOf sums (a .bound)) (a .m)) (form-jump (now (a .model)) (now (a .model)) (a .n) (a .line .form) (a .line .place) (a .line .row) (c .before .before .before .before .if2 .taken))
+    ∙ ap (addRow (rowOf sums (a .bound)) (a .m)) (form-jump (now (a .model)) (now (a .model)) (a .version) (a .n) (a .line .form) (a .line .place) (a .line .row) (c .before .before .before .before .if2 .taken))
 
 add-staying-requires : tie.Need-add-staying-requires
 unfolding line
@@ -95,7 +96,7 @@ returns-3 c =
     ap (rowOf (c .before .add-staying .last .0)) told
     ∙ c .before .add-staying .ensures
     ∙ ap (λ (z : ℤ). addRow (rowOf sums z) (a .m) (keeps (a .n) (a .line .place) (a .line .row))) (sent (s .args .bound) (s .fits .bound))
-    ∙ ap (addRow (rowOf sums (a .bound)) (a .m)) (form-keeps (now (a .model)) (now (a .model)) (a .n) (a .line .form) (a .line .place) (a .line .row) late)
+    ∙ ap (addRow (rowOf sums (a .bound)) (a .m)) (form-keeps (now (a .model)) (now (a .model)) (a .version) (a .n) (a .line .form) (a .line .place) (a .line .row) late)
 
 pub add-later-spec : {M : Type 1} → statement M
 add-later-spec =

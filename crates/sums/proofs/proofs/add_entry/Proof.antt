@@ -7,8 +7,9 @@ use lib.IntN.{ℤ}
 use lib.ListN.{length, getD}
 use mir.Syntax.{w64}
 use mir.Val.{SFits, toZ, ofZ}
-use Rattle.farkas.specs.Rows.{rowOf, zeroRow}
-use Rattle.farkas.specs.Farkas.{Entry, addRow, addEntry}
+use mathlib.Core.Bool.{false}
+use Rattle.farkas.specs.Rows.{Row, rowOf, strictly, zeroRow}
+use Rattle.farkas.specs.Farkas.{Entry, strictAfter, addRow}
 use Rattle.formats.specs.Reading.{got}
 use Rattle.formats.specs.Certificate.{readEntry}
 use Rattle.models.specs.Index.{entry}
@@ -63,10 +64,10 @@ line-at-requires c κs = let s = begun (c .before) in (s .pre .1 .0 .0, (s .pre 
 abbrev entered : tie.After-line-at → tie.Start
 entered c = begun (c .before .before)
 
-line-good : (c : tie.After-line-at) → GoodLine (now (entered c .args .model)) (now (entered c .args .second)) (entered c .args .n) (entered c .args .group .width) (tableLine (c .line-at .result))
+line-good : (c : tie.After-line-at) → GoodLine (now (entered c .args .model)) (now (entered c .args .second)) (entered c .args .group .version) (entered c .args .n) (entered c .args .group .width) (tableLine (c .line-at .result))
 line-good c =
     let s = entered c in
-    subst (λ (l : Line). GoodLine (now (s .args .model)) (now (s .args .second)) (s .args .n) (s .args .group .width) (tableLine l)) (sym (c .line-at .ensures))
+    subst (λ (l : Line). GoodLine (now (s .args .model)) (now (s .args .second)) (s .args .group .version) (s .args .n) (s .args .group .width) (tableLine l)) (sym (c .line-at .ensures))
     (line-within (now (s .args .table)) (s .args .group .segments) (c .before .segment-of .result) (read (c .before .before) .hypothesis) (s .pre .1 .0 .1 .0 .stacked) (c .before .segment-of .ensures .1) (s .pre .1 .0 .1 .0 .lines) (below-end (c .before .before)))
 
 place-small : (c : tie.After-line-at) → c .line-at .result .place < 65536
@@ -79,12 +80,12 @@ row-few c =
     let s = entered c in
     rw (c .line-at .ensures) (omega (arith, below-end (c .before .before), s .pre .1 .0 .1 .0 .stacked .small (s .args .group .segments) (omega arith), s .pre .1 .0 .1 .0 .segments))
 
-row-same : (c : tie.After-line-at) → hypothesisIn (now (entered c .args .model)) (now (entered c .args .second)) (entered c .args .n) (c .line-at .result .form) (c .line-at .result .place) (c .line-at .result .row) .row ≡ getD (rowsIn (now (entered c .args .model)) (now (entered c .args .second)) (entered c .args .n) (now (entered c .args .table)) (entered c .args .group)) (read (c .before .before) .hypothesis) zeroRow
+row-same : (c : tie.After-line-at) → hypothesisIn (now (entered c .args .model)) (now (entered c .args .second)) (entered c .args .group .version) (entered c .args .n) (c .line-at .result .form) (c .line-at .result .place) (c .line-at .result .row) .row ≡ getD (rowsIn (now (entered c .args .model)) (now (entered c .args .second)) (entered c .args .n) (now (entered c .args .table)) (entered c .args .group)) (read (c .before .before) .hypothesis) zeroRow
 row-same c =
     let s = entered c in
     let a = s .args in
-    ap (λ (l : Line). hypothesisIn (now (a .model)) (now (a .second)) (a .n) (l .form) (l .place) (l .row) .row) (c .line-at .ensures)
-    ∙ sym (row-listed (now (a .table)) (a .group .segments) (c .before .segment-of .result) (read (c .before .before) .hypothesis) (s .pre .1 .0 .1 .0 .stacked) (c .before .segment-of .ensures .1) (now (a .model)) (now (a .second)) (a .n) (below-end (c .before .before)))
+    ap (λ (l : Line). hypothesisIn (now (a .model)) (now (a .second)) (a .group .version) (a .n) (l .form) (l .place) (l .row) .row) (c .line-at .ensures)
+    ∙ sym (row-listed (now (a .table)) (a .group .segments) (c .before .segment-of .result) (read (c .before .before) .hypothesis) (s .pre .1 .0 .1 .0 .stacked) (c .before .segment-of .ensures .1) (now (a .model)) (now (a .second)) (a .group .version) (a .n) (below-end (c .before .before)))
 
 bound-fits : (c : tie.After-struct-told) → SFits w64 (entered (c .before .before) .args .reached .bound)
 bound-fits c = search needs
@@ -93,13 +94,23 @@ add-line-requires : tie.Need-add-line-requires
 add-line-requires c κs =
     let at = c .before .before in
     let s = entered at in
-    let wide : GoodLine (now (s .args .model)) (now (s .args .second)) (s .args .n) (length (now (s .args .sums))) (tableLine (at .line-at .result)) = rw (s .pre .1 .0 .1 .1) (line-good at) in
+    let wide : GoodLine (now (s .args .model)) (now (s .args .second)) (s .args .group .version) (s .args .n) (length (now (s .args .sums))) (tableLine (at .line-at .result)) = rw (s .pre .1 .0 .1 .1) (line-good at) in
     let room = less-room (entry-good (at .before .before) .multiplier) (s .pre .1 .1 .1) in
     ((s .pre .0 .0, (s .pre .0 .1 .0, (s .pre .0 .1 .1, (place-small at, row-few at)))), (wide, rw (sent (s .args .reached .bound) (bound-fits c)) room))
 
+-- where its row was added
+abbrev found : tie.After-sums → tie.After-line-at
+found c = c .before .before .before .before
+
+line-strict-requires : tie.Need-line-strict-requires
+line-strict-requires c κs = let at = found c in (entered at .pre .0 .1 .1, (place-small at, row-few at))
+
+strict-after-requires : tie.Need-strict-after-requires
+strict-after-requires c κs = search needs
+
 add-least : tie.Need-add-least
 add-least c =
-    let at = c .before .before .before .before in
+    let at = found (c .before .before) in
     let s = entered at in
     omega (arith, entry-good (at .before .before) .hypothesis, s .pre .1 .0 .1 .0 .hypotheses, s .pre .1 .0 .1 .0 .stacked .small (s .args .group .segments) (omega arith), s .pre .1 .0 .1 .0 .segments)
 
@@ -111,28 +122,25 @@ same-length : tie.Need-same-length
 same-length c = search needs
 
 -- its row was added to the sums as often as it says
-abbrev found : tie.After-sums → tie.After-line-at
-found c = c .before .before .before .before
-
-entry-added : (c : tie.After-sums) → rowOf (c .before .add-line .last .1 .1 .1 .1 .1 .0) (toZ w64 (ofZ w64 (c .before .add-line .result))) ≡ addEntry (rowsIn (now (entered (found c) .args .model)) (now (entered (found c) .args .second)) (entered (found c) .args .n) (now (entered (found c) .args .table)) (entered (found c) .args .group)) (rowOf (now (entered (found c) .args .sums)) (entered (found c) .args .reached .bound)) (read (found c .before .before))
-unfolding addEntry
+entry-added : (c : tie.After-sums) → rowOf (c .before .add-line .last .1 .1 .1 .1 .1 .1 .0) (toZ w64 (ofZ w64 (c .before .add-line .result))) ≡ addRow (rowOf (now (entered (found c) .args .sums)) (entered (found c) .args .reached .bound)) (read (found c .before .before) .multiplier) (strictly false (getD (rowsIn (now (entered (found c) .args .model)) (now (entered (found c) .args .second)) (entered (found c) .args .n) (now (entered (found c) .args .table)) (entered (found c) .args .group)) (read (found c .before .before) .hypothesis) zeroRow))
 entry-added c =
     let a = entered (found c) .args in
     let m = read (found c .before .before) .multiplier in
     let line = found c .line-at .result in
-    let row = hypothesisIn (now (a .model)) (now (a .second)) (a .n) (line .form) (line .place) (line .row) .row in
+    let row = strictly false (hypothesisIn (now (a .model)) (now (a .second)) (a .group .version) (a .n) (line .form) (line .place) (line .row) .row) in
     let k = c .before .add-line in
-    ap (rowOf (k .last .1 .1 .1 .1 .1 .0)) (sent (k .result) (record { sfits = k .ok }))
+    ap (rowOf (k .last .1 .1 .1 .1 .1 .1 .0)) (sent (k .result) (record { sfits = k .ok }))
     ∙ k .ensures
     ∙ ap (λ (b : ℤ). addRow (rowOf (now (a .sums)) b) m row) (sent (a .reached .bound) (bound-fits (c .before .before)))
-    ∙ ap (addRow (rowOf (now (a .sums)) (a .reached .bound)) m) (row-same (found c))
+    ∙ ap (λ (r : Row). addRow (rowOf (now (a .sums)) (a .reached .bound)) m (strictly false r)) (row-same (found c))
 
 returns-2 : tie.Need-returns-2
 unfolding SummedAfter
 returns-2 c = λ at i so.
-    let k = found c .before .segment-of in
-    let m = found c .before .before in (
-      so-far-next so (read m) (m .before .hypothesis .given .0 .1 .1 .0) (k .result) (c .before .add-line .last .1 .1 .1 .1 .1 .0) (toZ w64 (ofZ w64 (c .before .add-line .result))) (entry-read m) (entry-added c),
+    let added = c .before .before in
+    let k = found added .before .segment-of in
+    let m = found added .before .before in (
+      so-far-next so (read m) (m .before .hypothesis .given .0 .1 .1 .0) (k .result) (added .before .add-line .last .1 .1 .1 .1 .1 .1 .0) (toZ w64 (ofZ w64 (added .before .add-line .result))) (c .strict-after .result) (entry-read m) (entry-added added) (c .strict-after .ensures ∙ ap (strictAfter (entered (found added) .args .reached .strict) (read m .multiplier)) (c .before .line-strict .ensures ∙ ap (λ (r : Row). r .strict) (row-same (found added)))),
       record { first = k .ensures .1 .least; most = λ some. k .ensures .1 .most; before = omega (arith, k .ensures .1 .from) },
     )
 
@@ -146,6 +154,8 @@ add-entry-spec =
     segment-of-requires
     line-at-requires
     add-line-requires
+    line-strict-requires
+    strict-after-requires
     add-least
     returns
     same-length

@@ -7,7 +7,7 @@ use lib.IntN.{ℤ, pos}
 use lib.ListN.{length, replicate, length-replicate}
 use mir.Syntax.{w64}
 use mir.Val.{SFits}
-use Rattle.farkas.specs.Rows.{rowOf}
+use Rattle.farkas.specs.Rows.{rowOf, strictly}
 use Rattle.farkas.specs.Farkas.{sumsTest, numberOf}
 use Rattle.formats.specs.Reading.{got}
 use Rattle.second_sheets.specs.CertificateAnswers.{readHead}
@@ -39,10 +39,10 @@ head-read c = sym (c .before .before .before .proof-head .ensures) ∙ head-got 
 width : (s : tie.Start) → length (now (s .args .sums)) ≡ s .args .group .width
 width s = ap length (s .pre .1 .0 .1 .1 .zeros) ∙ length-replicate (s .args .group .width) (pos 0)
 
-rows-all : (s : tie.Start) → length (hypothesisRows (hypothesesFrom (now (s .args .model)) (now (s .args .second)) (s .args .n) (now (s .args .table)) (s .args .group .segments))) ≡ s .args .group .hypotheses
+rows-all : (s : tie.Start) → length (hypothesisRows (hypothesesFrom (now (s .args .model)) (now (s .args .second)) (s .args .group .version) (s .args .n) (now (s .args .table)) (s .args .group .segments))) ≡ s .args .group .hypotheses
 rows-all s =
     let a = s .args in
-    rows-count (now (a .model)) (now (a .second)) (a .n) (now (a .table)) (a .group .segments) (s .pre .1 .0 .1 .0 .stacked) ∙ sym (s .pre .1 .0 .1 .0 .hypotheses)
+    rows-count (now (a .model)) (now (a .second)) (a .group .version) (a .n) (now (a .table)) (a .group .segments) (s .pre .1 .0 .1 .0 .stacked) ∙ sym (s .pre .1 .0 .1 .0 .hypotheses)
 
 sum-entries-requires : tie.Need-sum-entries-requires
 sum-entries-requires c κs =
@@ -120,11 +120,11 @@ returns-3 c =
     let sums = all .sum-entries .last .1 .1 .1 .1 .1 .1 .1 .0 in
     let v = c .before .before .verdict in
     let so = subst (Known all) (told .before .reached .given .1) (all .sum-entries .ensures) in
-    let number : numberOf (v .result) ≡ sumsTest k (rowOf sums (reached .bound)) goal = v .ensures .0 ∙ ap (λ (z : ℤ). sumsTest k (rowOf sums z) goal) (sent (reached .bound) (bound-fits told)) in
+    let number : numberOf (v .result) ≡ sumsTest k (strictly (reached .strict) (rowOf sums (reached .bound))) goal = v .ensures .0 ∙ ap (λ (z : ℤ). sumsTest k (strictly (reached .strict) (rowOf sums z)) goal) (sent (reached .bound) (bound-fits told)) in
     let wide : length sums ≡ a .group .width = all .sum-entries .kept .1 .1 .1 .1 .1 .1 .1 .0 ∙ width s in (
       c .judged .ensures
           ∙ ap (λ (x : ℕ). tested x (a .at) (reached .place)) number
-          ∙ sym (proof-tested (rowsIn (now (a .model)) (now (a .second)) (a .n) (now (a .table)) (a .group)) (a .group .zero) goal (now (a .second)) (a .at) (record { k = k; count = count }) next (a .group .hypotheses) (rows-all s) (head-read (all .before .before)) (so .0 .entries) (reached .place) (rowOf sums (reached .bound)) (so .0 .read) (so .0 .held)),
+          ∙ sym (proof-tested (rowsIn (now (a .model)) (now (a .second)) (a .n) (now (a .table)) (a .group)) (a .group .zero) goal (now (a .second)) (a .at) (record { k = k; count = count }) next (a .group .hypotheses) (rows-all s) (head-read (all .before .before)) (so .0 .entries) (reached .place) (strictly (reached .strict) (rowOf sums (reached .bound))) (so .0 .read) (so .0 .held)),
       λ end e. record { zeros = v .ensures .1 (tested-holds (v .result) _ _ end (sym (c .judged .ensures) ∙ e)) ∙ ap (λ (w : ℕ). replicate w (pos 0)) wide },
     )
 

@@ -1,5 +1,6 @@
 -- The sums are those of the first i entries, turn by turn: at i = 0 they are 0, and one turn adds one entry. Assumes nothing.
 use mathlib.Core.Path.{_≡_, sym, ap, _∙_, subst}
+use mathlib.Core.Bool.{false}
 use mathlib.Core.List.{List}
 use Prim.Native.Nat.{ℕ, _+_, _-_, _≤_, _<_}
 use native.Mathlib.Omega.{arith}
@@ -33,7 +34,7 @@ loop-holds : tie.Need-loop-holds Inv-loop μ-loop
 loop-holds c =
     let s = c .before .before .before in
     let a = s .args in
-    let begin : Reached = record { place = a .at; least = 0; segment = 1; bound = pos 0 } in (
+    let begin : Reached = record { place = a .at; least = 0; segment = 1; bound = pos 0; strict = false } in (
       omega arith,
       (
         width s,
