@@ -3,9 +3,11 @@
 // and goals that must be met strictly are marked.
 // T has one unknown x: start x ≤ 5 and −x ≤ −5, invariant x ≤ 10, rates 0 to 2, unsafe −x ≤ −11. C's region is x ≤ 10. A flow has the
 // unknowns x, x' and d. Rows stand in bytes as in a sheet, four to a number, the bound last.
+mod rates;
+mod strict;
+
 use farkas::Bound;
 use farkas::Verdict;
-use farkas::strict_after;
 use farkas::words::signed_word;
 use libc::STDOUT_FILENO;
 ghost use mathlib.Core.Path.{_≡_};
@@ -17,19 +19,13 @@ ghost use Rattle.farkas.specs.Rows.{rowOf};
 ghost use Rattle.farkas.specs.Farkas.{numberOf};
 ghost use Rattle.farkas.specs.Sizes.{Within};
 
-// Rows of one coefficient: the region x ≤ 10, which is the invariant too; the unsafe row −x ≤ −11; 0 ≤ 0; −x ≤ −10; −x ≤ −5; −x ≤ −1; and
-// the row with the lowest numbers, −2^31.
+// Rows of one coefficient: the region x ≤ 10, which is the invariant too; the unsafe row −x ≤ −11; 0 ≤ 0; and the row with the lowest
+// numbers, −2^31.
 const REGION: [u8; 8] = [0, 0, 0, 1, 0, 0, 0, 10];
 
 const UNSAFE: [u8; 8] = [255, 255, 255, 255, 255, 255, 255, 245];
 
 const ZEROS: [u8; 8] = [0; 8];
-
-const FROM_TEN: [u8; 8] = [255, 255, 255, 255, 255, 255, 255, 246];
-
-const FROM_FIVE: [u8; 8] = [255, 255, 255, 255, 255, 255, 255, 251];
-
-const FROM_ONE: [u8; 8] = [255; 8];
 
 const LOWEST: [u8; 8] = [128, 0, 0, 0, 128, 0, 0, 0];
 
@@ -362,116 +358,6 @@ fn extremes() {
     );
 }
 
-// The sums of two entries: that the rates are from 1 on, which is x − x' + d ≤ 0, and −x ≤ −5. All sums are 0 before.
-fn rising(sums: &mut [i64]) -> i64
-    requires { ⌜ (now sums ≡ replicate (length (now sums)) (pos 0)) × (3 ≤ length (now sums)) ⌝ }
-    ensures { λ r. ⌜ Within (2 * 2 ^ 55) (rowOf (now (sums .exit)) r) ⌝ }
-{
-    entries_on_rates(sums, 1, 1, &FROM_ONE, 1);
-    entries(sums, 0, 1, 1, 1, 0, &FROM_FIVE, 1)
-}
-
-// The same with −d ≤ 0 added.
-fn rising_in_time(sums: &mut [i64]) -> i64
-    requires { ⌜ (now sums ≡ replicate (length (now sums)) (pos 0)) × (3 ≤ length (now sums)) ⌝ }
-{
-    let bound = rising(sums);
-    farkas::add_one(sums, 2, -1);
-    bound
-}
-
-// Where the rates are from 1 on, x from 5 on stays there: the sums show −x' ≤ −5, and without −d ≤ 0 they do not.
-fn time() {
-    let mut sums = [0i64; 3];
-    let bound = rising_in_time(&mut sums);
-    try_sums(b"rising", &mut sums, bound, 1, 1, &FROM_FIVE, 1);
-    let mut without = [0i64; 3];
-    let bound = rising(&mut without);
-    try_sums(
-        b"rising, time left out",
-        &mut without,
-        bound,
-        1,
-        1,
-        &FROM_FIVE,
-        1,
-    );
-}
-
-// m times x ≤ 10, strict or not, and a row more that is not, with k 0: against 0 ≤ 0.
-fn try_clash(name: &[u8], strict: bool, m: u32, more: &[u8])
-    requires { ⌜ (m < 2 ^ 24) × ((8 ≤ length (now more)) × (length (now more) < 2 ^ 20)) ⌝ }
-{
-    let mut sums = [0i64; 1];
-    let value = two_entries(&mut sums, m, &REGION, more);
-    let first = strict_after(false, m, strict);
-    let strict = strict_after(first, 1, false);
-    try_zero_marked(name, &sums, Bound { value, strict });
-}
-
-// A summed bound of 0 with k 0 passes with a strict entry only, and an entry with the multiplier 0 is none; below 0 it passes in any case,
-// and above 0 in none.
-fn strict_clashes() {
-    try_clash(b"sum 0, a strict entry", true, 1, &FROM_TEN);
-    try_clash(b"sum 0, no strict entry", false, 1, &FROM_TEN);
-    try_clash(b"sum 0, a strict row 0 times", true, 0, &ZEROS);
-    try_clash(b"sum -1, a strict entry", true, 1, &UNSAFE);
-    try_clash(
-        b"sum 1, a strict entry",
-        true,
-        1,
-        b"\xff\xff\xff\xff\xff\xff\xff\xf7",
-    );
-    let mut sums = [0i64; 1];
-    let bound = Bound {
-        value: 0,
-        strict: true,
-    };
-    try_marked(
-        b"sum 0, a strict entry, a row of zeros",
-        &mut sums,
-        bound,
-        0,
-        0,
-        &ZEROS,
-        1,
-        false,
-    );
-}
-
-// x ≤ 10 three times, strict or not, against a row with k 3 that must be met strictly or need not.
-fn try_strict(name: &[u8], strict: bool, words: &[u8], must: bool)
-    requires { ⌜ (8 ≤ length (now words)) × (length (now words) < 2 ^ 20) ⌝ }
-{
-    let mut sums = [0i64; 1];
-    let value = first_entries(&mut sums, 1, 3, 0, &REGION, 1);
-    let strict = strict_after(false, 3, strict);
-    try_marked(
-        name,
-        &mut sums,
-        Bound { value, strict },
-        3,
-        0,
-        words,
-        1,
-        must,
-    );
-}
-
-// A strict goal is met by a summed bound below k times its own, or by an equal one with a strict entry; a goal that is not strict as ever.
-fn strict_goals() {
-    try_strict(b"strict goal, a strict entry", true, &REGION, true);
-    try_strict(b"strict goal, no strict entry", false, &REGION, true);
-    try_strict(b"strict goal x < 11", false, b"\0\0\0\x01\0\0\0\x0b", true);
-    try_strict(
-        b"strict goal x < 9, a strict entry",
-        true,
-        b"\0\0\0\x01\0\0\0\x09",
-        true,
-    );
-    try_strict(b"goal not strict, a strict entry", true, &REGION, false);
-}
-
 fn main() {
     start_proof();
     flow_proof();
@@ -481,7 +367,7 @@ fn main() {
     bounds();
     coefficients();
     extremes();
-    time();
-    strict_clashes();
-    strict_goals();
+    rates::over_time();
+    strict::clashes();
+    strict::goals();
 }

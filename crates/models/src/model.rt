@@ -237,21 +237,26 @@ fn switch_into(
     }
 }
 
+// What a switch of a component may name: its events, and so many modes.
+struct Naming {
+    alphabet: u32,
+    modes: u32,
+}
+
 // So many switches of the component whose block begins here.
 fn switches_into(
     s: &[u8],
     at: usize,
     version: u32,
     n: usize,
-    alphabet: u32,
-    modes: u32,
+    may: Naming,
     index: &mut [u16],
     block: usize,
     count: usize,
 ) -> Next
     requires { ⌜ Sized (now s) (now index) ⌝ }
-    requires { ⌜ (n ≤ 8) × ((modes ≤ 8) × ((block ≤ 673) × (count ≤ 32))) ⌝ }
-    ensures { λ r. ⌜ gotAs (map (λ i. switchFrom (now (s .entry)) version n (now (index .exit)) (switchPlace block i)) (countUp 0 count)) r ≡ many count (readSwitch version n alphabet modes) (now (s .entry)) at ⌝ }
+    requires { ⌜ (n ≤ 8) × ((may .modes ≤ 8) × ((block ≤ 673) × (count ≤ 32))) ⌝ }
+    ensures { λ r. ⌜ gotAs (map (λ i. switchFrom (now (s .entry)) version n (now (index .exit)) (switchPlace block i)) (countUp 0 count)) r ≡ many count (readSwitch version n (may .alphabet) (may .modes)) (now (s .entry)) at ⌝ }
     ensures { λ _. ⌜ Kept (block + firstSwitch) (block + blockLength) (now (index .entry)) (now (index .exit)) ⌝ }
 {
     let mut place = at;
@@ -262,8 +267,8 @@ fn switches_into(
             place,
             version,
             n,
-            alphabet,
-            modes,
+            may.alphabet,
+            may.modes,
             index,
             block + FIRST_SWITCH + SWITCH_LENGTH * j,
         ) {
@@ -340,8 +345,10 @@ fn component_into(
                     third,
                     version,
                     n,
-                    events,
-                    modes,
+                    Naming {
+                        alphabet: events,
+                        modes,
+                    },
                     index,
                     block,
                     switches,

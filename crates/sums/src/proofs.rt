@@ -33,7 +33,7 @@ ghost use Rattle.sums.specs.Summing.{rowsIn, SoFar, SoughtFrom, SummedAf
 
 // The next entry of a proof, read and added to the sums. Where the sums at all unknowns and the summed bound were those of the first i
 // entries, they are now those of the first i + 1 (document 02, order 3), from whatever place the entries begin at. After a refusal the sums
-// are of no use. No row of a sheet is strict.
+// are of no use.
 fn add_entry(
     model: &[u8],
     second: &[u8],
@@ -112,7 +112,7 @@ fn sum_entries(
     Summed::At(reached)
 }
 
-// The test of the sums of a proof with this k, whose goal stands at a place, or is no row. No goal is strict.
+// The test of the sums of a proof with this k, whose goal stands at a place, or is no row.
 fn verdict(
     second: &[u8],
     n: usize,

@@ -13,18 +13,18 @@ use Rattle.models.proofs.model.switches_into.Statement.{statement}
 use Rattle.models.proofs.model.switches_into.Tie as tie
 
 abbrev Inv-loop : tie.InvT-loop
-Inv-loop s at version n alphabet modes index₀ block count place₀ j₀ index place j =
-    Filled (readSwitch version n alphabet modes) (λ x i. switchFrom s version n x (switchPlace block i)) count s at (block + 59) (block + 219) index₀ index j place
+Inv-loop s at version n may index₀ block count place₀ j₀ index place j =
+    Filled (readSwitch version n (may .alphabet) (may .modes)) (λ x i. switchFrom s version n x (switchPlace block i)) count s at (block + 59) (block + 219) index₀ index j place
 
 abbrev μ-loop : tie.MeasureT-loop
-μ-loop s at version n alphabet modes index₀ block count place₀ j₀ index place j =
+μ-loop s at version n may index₀ block count place₀ j₀ index place j =
     count - j
 
 loop-holds : tie.Need-loop-holds Inv-loop μ-loop
 loop-holds c =
     let a = c .before .before .args in
     let s = now (a .s) in
-    fill-starts (readSwitch (a .version) (a .n) (a .alphabet) (a .modes)) (λ x i. switchFrom s (a .version) (a .n) x (switchPlace (a .block) i)) (a .count) s (a .at) (a .block + 59) (a .block + 219) (now (a .index))
+    fill-starts (readSwitch (a .version) (a .n) (a .may .alphabet) (a .may .modes)) (λ x i. switchFrom s (a .version) (a .n) x (switchPlace (a .block) i)) (a .count) s (a .at) (a .block + 59) (a .block + 219) (now (a .index))
 
 add-switch-into : tie.Need-add-switch-into Inv-loop μ-loop
 add-switch-into c =
@@ -59,7 +59,7 @@ returns c =
     let into = c .before .before .before .before .before .switch-into in
     let x = loop .index in
     let y = into .last .1 .1 .1 .1 .1 .1 .0 in
-    fill-stops (readSwitch (a .version) (a .n) (a .alphabet) (a .modes)) (λ x i. switchFrom s (a .version) (a .n) x (switchPlace (a .block) i)) (a .count) s (a .at) (a .block + 59) (a .block + 219) (now (a .index)) x y (loop .j) (loop .place) (loop .inv) (c .before .before .before .before .before .before .before .loop-test .taken) (into .result) (into .ensures .0) (a .block + 59 + 5 * loop .j) (a .block + 59 + 5 * loop .j + 5) (omega arith) (omega (arith, c .before .before .before .before .before .before .before .before .before .before .before .pre .1, c .before .before .before .before .before .before .before .loop-test .taken)) (into .ensures .1) (c .before .number .given .1)
+    fill-stops (readSwitch (a .version) (a .n) (a .may .alphabet) (a .may .modes)) (λ x i. switchFrom s (a .version) (a .n) x (switchPlace (a .block) i)) (a .count) s (a .at) (a .block + 59) (a .block + 219) (now (a .index)) x y (loop .j) (loop .place) (loop .inv) (c .before .before .before .before .before .before .before .loop-test .taken) (into .result) (into .ensures .0) (a .block + 59 + 5 * loop .j) (a .block + 59 + 5 * loop .j + 5) (omega arith) (omega (arith, c .before .before .before .before .before .before .before .before .before .before .before .pre .1, c .before .before .before .before .before .before .before .loop-test .taken)) (into .ensures .1) (c .before .number .given .1)
 
 enum-known-next : tie.Need-enum-known-next Inv-loop μ-loop
 enum-known-next c =
@@ -82,7 +82,7 @@ loop-again c =
     let into = c .before .before .before .before .before .switch-into in
     let x = loop .index in
     let y = into .last .1 .1 .1 .1 .1 .1 .0 in
-    fill-goes-on (readSwitch (a .version) (a .n) (a .alphabet) (a .modes)) (λ x i. switchFrom s (a .version) (a .n) x (switchPlace (a .block) i)) (a .count) s (a .at) (a .block + 59) (a .block + 219) (now (a .index)) x y (loop .j) (loop .place) (loop .inv) (c .before .before .before .before .before .before .before .loop-test .taken) (into .result) (into .ensures .0) (a .block + 59 + 5 * loop .j) (a .block + 59 + 5 * loop .j + 5) (omega arith) (omega (arith, c .before .before .before .before .before .before .before .before .before .before .before .pre .1, c .before .before .before .before .before .before .before .loop-test .taken)) (into .ensures .1) (c .before .next .given .1)
+    fill-goes-on (readSwitch (a .version) (a .n) (a .may .alphabet) (a .may .modes)) (λ x i. switchFrom s (a .version) (a .n) x (switchPlace (a .block) i)) (a .count) s (a .at) (a .block + 59) (a .block + 219) (now (a .index)) x y (loop .j) (loop .place) (loop .inv) (c .before .before .before .before .before .before .before .loop-test .taken) (into .result) (into .ensures .0) (a .block + 59 + 5 * loop .j) (a .block + 59 + 5 * loop .j + 5) (omega arith) (omega (arith, c .before .before .before .before .before .before .before .before .before .before .before .pre .1, c .before .before .before .before .before .before .before .loop-test .taken)) (into .ensures .1) (c .before .next .given .1)
     (into .kept .1 .1 .1 .1 .1 .1 .0)
     (λ i h. switch-same s (a .version) (a .n) x y (a .block + 59 + 5 * i) (agree-low (into .ensures .1) (omega arith)))
 
@@ -96,7 +96,7 @@ returns-2 c =
     let a = c .before .before .before .before .args in
     let s = now (a .s) in
     let loop = c .before .loop in
-    fill-ends (readSwitch (a .version) (a .n) (a .alphabet) (a .modes)) (λ x i. switchFrom s (a .version) (a .n) x (switchPlace (a .block) i)) (a .count) s (a .at) (a .block + 59) (a .block + 219) (now (a .index)) (loop .index) (loop .j) (loop .place) (loop .inv) (omega (arith, c .loop-test .left))
+    fill-ends (readSwitch (a .version) (a .n) (a .may .alphabet) (a .may .modes)) (λ x i. switchFrom s (a .version) (a .n) x (switchPlace (a .block) i)) (a .count) s (a .at) (a .block + 59) (a .block + 219) (now (a .index)) (loop .index) (loop .j) (loop .place) (loop .inv) (omega (arith, c .loop-test .left))
 
 pub switches-into-spec : {M : Type 1} → statement M
 switches-into-spec =

@@ -4,8 +4,8 @@ use borrow.Author.Needs.{needs}
 use lib.Dec.{lit<}
 use Rattle.farkas.specs.Rows.{rowOf}
 use Rattle.farkas.proofs.Promise.{spare, room-all}
-use Rattle.farkas_test.proofs.rising_in_time.Statement.{statement}
-use Rattle.farkas_test.proofs.rising_in_time.Tie as tie
+use Rattle.farkas_test.proofs.rates.rising_in_time.Statement.{statement}
+use Rattle.farkas_test.proofs.rates.rising_in_time.Tie as tie
 
 rising-requires : tie.Need-rising-requires
 rising-requires c κs = search needs
