@@ -16,7 +16,9 @@ ghost use Rattle.models.specs.Counts.{perComponent};
 ghost use Rattle.hypotheses.specs.Tables.{segment, endOf, Stacked, linesIn, Onto};
 ghost use Rattle.hypotheses.specs.Listing.{keptLines, modeLines, switchLine, switchLines, stayingLine, stayingLines, FewRows, FewJumps, FewJump};
 
-// A table has room for 23 segments, after one that is empty.
+// A table has room for 23 segments, after one that is empty. The most that a list has is 21, that of a jump: a region, four invariants on x
+// and four on x', four switches, eight staying variables. A flow has 14, and with eight staying variables it would have 22, of 129
+// hypotheses.
 pub const TABLE_LENGTH: usize = 96;
 
 // The form of the rows of a jump, and of the rows of a staying variable.
