@@ -22,6 +22,7 @@ use Prim.Native.Nat.{ℕ, _+_, _*_, _^_, _≤_, _<_}
 use lib.Dec.{T}
 use lib.IntN.{ℤ, pos, negsuc, negℤ, natAbs, _+ℤ_, _*ℤ_}
 use lib.ListN.{length, getD, set, drop, replicate}
+use lib.Signed.{_≤ℤ_, _<ℤ_}
 use Rattle.farkas.specs.Rows.{Row, Holds, Alike, item, rowOf, zeroRow, onward, onChange}
 use Rattle.farkas.specs.Farkas.{Entry, Proof, sumAt, boundSum, strictSum, Agree, BoundMet, SumsMeet, PlainMeet, Meets, SumsOf, sameZ, plus, addRow, addEntry, summed, sumsTest, farkasTest}
 use Rattle.farkas.specs.Sizes.{Bytes, Small, Within, Bounded}
@@ -174,20 +175,34 @@ pub only-three :
     → (farkasTest hypotheses goal p ≡ 0) ⊎ ((farkasTest hypotheses goal p ≡ 10) ⊎ (farkasTest hypotheses goal p ≡ 11))
 only-three = entries.only-three
 
--- Strict rows: at k = 0 a summed bound of 0 passes exactly with a strict entry; so does, for a strict goal at k from 1, a summed bound of k
--- times its own; and where no hypothesis that is used is strict, nor the goal, the condition is 01's word for word
-pub zero-sum-strict : (sums : ℕ → ℤ) (strict : Bool) (goal : Row) → SumsMeet 0 sums (pos 0) strict goal ↔ (Agree 0 sums (goal .coefficients) × T strict)
-zero-sum-strict = strict.zero-sum-strict
+-- Strict rows, in order 8's words: at k = 0 the summed bound is below 0, or 0 with a strict entry; a strict goal at k from 1 needs it below k
+-- times its own, or equal with such an entry; any other goal, at most. Where no hypothesis that is used is strict, nor the goal, the
+-- condition is 01's word for word
+pub at-zero :
+    (sums : ℕ → ℤ) (s : ℤ) (strict : Bool) (goal : Row)
+    → SumsMeet 0 sums s strict goal ↔ (Agree 0 sums (goal .coefficients) × ((s <ℤ pos 0) ⊎ ((s ≡ pos 0) × T strict)))
+at-zero = strict.at-zero
 
-pub equal-sum-strict :
-    (k : ℕ) (sums : ℕ → ℤ) (strict : Bool) (goal : Row) → 1 ≤ k → goal .strict ≡ true
-    → SumsMeet k sums (pos k *ℤ goal .bound) strict goal ↔ (Agree k sums (goal .coefficients) × T strict)
-equal-sum-strict = strict.equal-sum-strict
+pub strict-goal :
+    (k : ℕ) (sums : ℕ → ℤ) (s : ℤ) (strict : Bool) (goal : Row) → 1 ≤ k → goal .strict ≡ true
+    → SumsMeet k sums s strict goal
+    ↔ (Agree k sums (goal .coefficients) × ((s <ℤ (pos k *ℤ goal .bound)) ⊎ ((s ≡ pos k *ℤ goal .bound) × T strict)))
+strict-goal = strict.strict-goal
+
+pub plain-goal :
+    (k : ℕ) (sums : ℕ → ℤ) (s : ℤ) (strict : Bool) (goal : Row) → 1 ≤ k → goal .strict ≡ false
+    → SumsMeet k sums s strict goal ↔ (Agree k sums (goal .coefficients) × (s ≤ℤ (pos k *ℤ goal .bound)))
+plain-goal = strict.plain-goal
 
 pub meets-plain :
     (hypotheses : List Row) (goal : Row) (p : Proof) → All (λ e. getD hypotheses (e .hypothesis) zeroRow .strict ≡ false) (p .entries) → goal .strict ≡ false
     → Meets hypotheses goal p ↔ PlainMeet (p .k) (sumAt hypotheses (p .entries)) (boundSum hypotheses (p .entries)) goal
 meets-plain = strict.meets-plain
+
+pub none-strict :
+    (hypotheses : List Row) (es : List Entry) → All (λ e. getD hypotheses (e .hypothesis) zeroRow .strict ≡ false) es
+    → strictSum hypotheses es ≡ false
+none-strict = strict.none-strict
 
 pub none-used :
     (hypotheses : List Row) (es : List Entry) → All (λ r. r .strict ≡ false) hypotheses

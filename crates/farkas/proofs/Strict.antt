@@ -1,7 +1,7 @@
--- What strict rows change in Farkas' condition (02, order 8), in plain form, and that they change nothing else: where no row that is used
--- is strict and the goal is not, the condition is 01's word for word, so that a sum of 0 at k = 0 stays refused. Assumes nothing.
+-- What strict rows change in Farkas' condition (02, order 8), in the order's own words, and that they change nothing else: where no row that
+-- is used is strict and the goal is not, the condition is 01's word for word, so that a sum of 0 at k = 0 stays refused. Assumes nothing.
 use mathlib.Core.Path.{_≡_, refl, ap, ap₂, _∙_}
-use mathlib.Core.Logic.{_↔_}
+use mathlib.Core.Logic.{_↔_, _⊎_, inl, inr, ⊎-elim}
 use mathlib.Core.Bool.{Bool, true, false, not, _&&_, _||_}
 use mathlib.Core.List.{List, [], _∷_}
 use Prim.Native.Nat.{ℕ, _≤_}
@@ -9,44 +9,67 @@ use native.Mathlib.Omega.{arith}
 use lib.Dec.{T}
 use lib.IntN.{ℤ, pos, _*ℤ_}
 use lib.ListN.{getD}
-use lib.Signed.{≤ℤ-refl, <ℤ-irrefl}
+use lib.Signed.{ltZ, ltZ-no, _≤ℤ_, _<ℤ_}
 use Rattle.farkas.specs.Rows.{Row, Compared, zeroRow}
 use Rattle.farkas.specs.Lists.{All, none, more, some}
 use Rattle.farkas.specs.Farkas.{Entry, Proof, Agree, counts, strictPart, sumAt, boundSum, strictSum, SumsMeet, PlainMeet, Meets}
 use Rattle.farkas.proofs.All.{all-at}
+use Rattle.farkas.proofs.Order.{≤-antisym, ≤-of-≡}
 use Rattle.farkas.proofs.Comparing.{<-most, counts-never}
 
--- Equal numbers compare where nothing must be below
-equal-compared : (strict : Bool) (a : ℤ) → Compared (not strict) a a ↔ T strict
-equal-compared true a = (λ c. tt, λ t. record { most = ≤ℤ-refl a; below = λ u. absurd u })
-equal-compared false a = (λ c. absurd (<ℤ-irrefl (c .below tt)), λ t. absurd t)
+-- Below, or equal where a strict row is among the summed
+or-equal : (strict : Bool) (a b : ℤ) → Compared (not strict) a b ↔ ((a <ℤ b) ⊎ ((a ≡ b) × T strict))
+or-equal true a b = (there, back)
+  where
+    there : Compared false a b → (a <ℤ b) ⊎ ((a ≡ b) × T true)
+    there c = go (ltZ a b) refl
+      where
+        go : (less : Bool) → ltZ a b ≡ less → (a <ℤ b) ⊎ ((a ≡ b) × T true)
+        go true e = inl (record { lt = rw e tt })
+        go false e = inr (≤-antisym a b (c .most) (ltZ-no (rw e tt)), tt)
 
--- "At k = 0 a summed bound of 0 also passes if a strict hypothesis has an entry", and else does not
-pub zero-sum-strict : (sums : ℕ → ℤ) (strict : Bool) (goal : Row) → SumsMeet 0 sums (pos 0) strict goal ↔ (Agree 0 sums (goal .coefficients) × T strict)
-zero-sum-strict sums strict goal = (
-  λ m. (m .coefficients, equal-compared strict (pos 0) .0 (m .below refl)),
-  λ h. record { coefficients = h .0; bound = λ k. absurd (omega arith); below = λ e. equal-compared strict (pos 0) .1 (h .1) },
+    back : (a <ℤ b) ⊎ ((a ≡ b) × T true) → Compared false a b
+    back = ⊎-elim
+        (λ h. record { most = <-most a b h; below = λ u. absurd u })
+        (λ h. record { most = ≤-of-≡ a b (h .0); below = λ u. absurd u })
+or-equal false a b =
+    (λ c. inl (c .below tt), ⊎-elim (λ h. record { most = <-most a b h; below = λ u. h }) (λ h. absurd (h .1)))
+
+-- "At k = 0 .. below 0. .. a summed bound of 0 also passes if a strict hypothesis has an entry"
+pub at-zero :
+    (sums : ℕ → ℤ) (s : ℤ) (strict : Bool) (goal : Row)
+    → SumsMeet 0 sums s strict goal ↔ (Agree 0 sums (goal .coefficients) × ((s <ℤ pos 0) ⊎ ((s ≡ pos 0) × T strict)))
+at-zero sums s strict goal = (
+  λ m. (m .coefficients, or-equal strict s (pos 0) .0 (m .below refl)),
+  λ h. record { coefficients = h .0; bound = λ k. absurd (omega arith); below = λ e. or-equal strict s (pos 0) .1 (h .1) },
+)
+
+-- At k from 1, a goal that is met by a comparison strict or not
+at-goal :
+    (k : ℕ) (sums : ℕ → ℤ) (s : ℤ) (strict must : Bool) (goal : Row) → 1 ≤ k → (goal .strict && not strict) ≡ must
+    → SumsMeet k sums s strict goal ↔ (Agree k sums (goal .coefficients) × Compared must s (pos k *ℤ goal .bound))
+at-goal k sums s strict must goal positive mark = (
+  λ m. (m .coefficients, rw mark at (m .bound positive)),
+  λ h. record { coefficients = h .0; bound = λ p. rw mark (h .1); below = λ e. absurd (omega arith) },
 )
 
 -- "A strict goal at k from 1 needs the summed bound below k times its own, or equal with such an entry"
-pub equal-sum-strict :
-    (k : ℕ) (sums : ℕ → ℤ) (strict : Bool) (goal : Row) → 1 ≤ k → goal .strict ≡ true
-    → SumsMeet k sums (pos k *ℤ goal .bound) strict goal ↔ (Agree k sums (goal .coefficients) × T strict)
-equal-sum-strict k sums strict goal positive must = (there, back)
-  where
-    mark : (goal .strict && not strict) ≡ not strict
-    mark = ap (λ b. b && not strict) must
+pub strict-goal :
+    (k : ℕ) (sums : ℕ → ℤ) (s : ℤ) (strict : Bool) (goal : Row) → 1 ≤ k → goal .strict ≡ true
+    → SumsMeet k sums s strict goal
+    ↔ (Agree k sums (goal .coefficients) × ((s <ℤ (pos k *ℤ goal .bound)) ⊎ ((s ≡ pos k *ℤ goal .bound) × T strict)))
+strict-goal k sums s strict goal positive must =
+    let w = at-goal k sums s strict (not strict) goal positive (ap (λ b. b && not strict) must) in
+    let v = or-equal strict s (pos k *ℤ goal .bound) in
+    (λ m. (w .0 m .0, v .0 (w .0 m .1)), λ h. w .1 (h .0, v .1 (h .1)))
 
-    there : SumsMeet k sums (pos k *ℤ goal .bound) strict goal → Agree k sums (goal .coefficients) × T strict
-    there m = (m .coefficients, equal-compared strict (pos k *ℤ goal .bound) .0 (rw mark at (m .bound positive)))
-
-    back : Agree k sums (goal .coefficients) × T strict → SumsMeet k sums (pos k *ℤ goal .bound) strict goal
-    back h =
-        record {
-          coefficients = h .0;
-          bound = λ p. rw mark (equal-compared strict (pos k *ℤ goal .bound) .1 (h .1));
-          below = λ e. absurd (omega arith);
-        }
+-- a goal that is not strict needs what 01 asks, whatever is strict among the summed
+pub plain-goal :
+    (k : ℕ) (sums : ℕ → ℤ) (s : ℤ) (strict : Bool) (goal : Row) → 1 ≤ k → goal .strict ≡ false
+    → SumsMeet k sums s strict goal ↔ (Agree k sums (goal .coefficients) × (s ≤ℤ (pos k *ℤ goal .bound)))
+plain-goal k sums s strict goal positive must =
+    let w = at-goal k sums s strict false goal positive (ap (λ b. b && not strict) must) in
+    (λ m. (w .0 m .0, w .0 m .1 .most), λ h. w .1 (h .0, record { most = h .1; below = λ u. absurd u }))
 
 -- Where nothing is strict the condition is 01's
 pub sums-plain : (k : ℕ) (sums : ℕ → ℤ) (summedBound : ℤ) (strict : Bool) (goal : Row) → strict ≡ false → goal .strict ≡ false → SumsMeet k sums summedBound strict goal ↔ PlainMeet k sums summedBound goal

@@ -12,5 +12,7 @@ pub mod JointCounts
 pub mod SumLaws
 pub mod JointProduct
 pub mod JointsInto
+pub mod EveryRow
 pub mod RowPlaces
+pub mod PlainRows
 pub mod Placed

@@ -23,8 +23,11 @@ abbrev pub Wide : ℕ → Condition → Type 0
 Wide n rows = All (λ r. length (r .row .coefficients) ≡ n) rows
 
 -- rows that are not strict
+abbrev pub PlainRow : SheetRow → Type 0
+PlainRow r = r .row .strict ≡ false
+
 abbrev pub Plain : Condition → Type 0
-Plain rows = All (λ r. r .row .strict ≡ false) rows
+Plain rows = All PlainRow rows
 
 -- a mode's rows; "Flow rows must have 0" for their mark (02, order 8)
 pub record GoodMode (n : ℕ) (mode : Mode) : Type 0 where
@@ -59,14 +62,14 @@ pub record WellFormed (m : Model) : Type 0 where
   pub conditions : length (m .unsafe) ≤ 16
 
 -- a row that is read is as wide as it must be, and not strict
-abbrev RowRead : ℕ → SheetRow → Type 0
-RowRead n r = (length (r .row .coefficients) ≡ n) × (r .row .strict ≡ false)
+abbrev pub RowRead : ℕ → SheetRow → Type 0
+RowRead n r = (length (r .row .coefficients) ≡ n) × PlainRow r
 
 strict-gives : (version : ℕ) → Gives (λ strict. strict ≡ false) (readStrict version)
 unfolding readStrict strictAt
 strict-gives version = record { holds = λ s p strict next e. sym (got-value e) }
 
-row-gives : (version n : ℕ) → Gives (RowRead n) (readRow version n)
+pub row-gives : (version n : ℕ) → Gives (RowRead n) (readRow version n)
 unfolding readRow
 row-gives version n =
     gives-bind gives-any

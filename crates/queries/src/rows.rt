@@ -3,7 +3,6 @@ use crate::Located;
 use crate::RowFound;
 use crate::Sought;
 use fields::versions::row_bytes;
-use fields::versions::rows_bytes;
 use hypotheses::groups::flow_table;
 use hypotheses::groups::jump_table;
 use hypotheses::groups::push_here;
@@ -21,6 +20,7 @@ use models::layout::VERSION_AT;
 use second_sheets::ranges::Regions;
 use sums::Line;
 use sums::lines::line_at;
+use sums::lines::row_place;
 use sums::lines::segment_of;
 ghost use mathlib.Core.Path.{_≡_};
 ghost use Prim.Native.Nat.{_+_, _≤_, _<_};
@@ -69,12 +69,12 @@ fn table_at(
     )
 }
 
-// Where a row of n coefficients stands, so many rows after the first.
-fn row_place(version: u32, n: usize, place: usize, row: usize) -> u32
-    requires { ⌜ (n ≤ 16) × ((place < 65536) × (row < 65536)) ⌝ }
-    ensures { λ r. ⌜ r ≡ rowPlace version n place row ⌝ }
+// Where the row of a hypothesis stands, one of rows with n coefficients.
+fn row_at(version: u32, n: usize, line: Line) -> u32
+    requires { ⌜ (n ≤ 16) × ((line .place < 65536) × (line .row < 65536)) ⌝ }
+    ensures { λ r. ⌜ r ≡ rowPlace version n (line .place) (line .row) ⌝ }
 {
-    (place + rows_bytes(version, n, row)) as u32
+    row_place(version, n, line) as u32
 }
 
 // How many bytes a row of n coefficients has.
@@ -91,16 +91,14 @@ fn line_row(model: &[u8], second: &[u8], version: u32, n: usize, line: Line) -> 
     requires { ⌜ (n ≤ 8) × ((line .place < 65536) × (line .row < 65536)) ⌝ }
     ensures { λ r. ⌜ r ≡ rowFound (found (hypothesisIn (now (model .entry)) (now (second .entry)) version n (line .form) (line .place) (line .row))) ⌝ }
 {
-    let place = line.place;
-    let row = line.row;
     if line.form == 7 {
-        let at = row_place(version, 2 * n, place, row);
+        let at = row_at(version, 2 * n, line);
         return RowFound::InModel(at, row_size(version, 2 * n));
     }
     if 5 < line.form {
         return RowFound::Nowhere;
     }
-    let at = row_place(version, n, place, row);
+    let at = row_at(version, n, line);
     let size = row_size(version, n);
     if line.form == 1 {
         return RowFound::InSecond(at, size);

@@ -6,6 +6,7 @@ pub mod Safety
 pub mod ObligationTotal
 pub mod Opening
 pub mod Calls
+pub mod EveryHypothesis
 pub mod MarkedRanges
 pub mod CertificateExactly
 pub mod RunExactly
@@ -16,6 +17,7 @@ pub mod Demand
 pub mod Desks
 pub mod Between
 pub mod Rejected
+pub mod AsWritten
 pub mod Movers
 pub mod Twelve
 pub mod PairPaper

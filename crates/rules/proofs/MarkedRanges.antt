@@ -7,19 +7,19 @@ use mathlib.Core.List.{List, [], _∷_, map}
 use Prim.Native.Nat.{ℕ, zero, suc, _+_, _-_, _^_, _≤_, _<_}
 use native.Mathlib.Nat.{div-le-of-le-mul, min-le-left}
 use native.Mathlib.Omega.{arith}
-use lib.Dec.{leb, ltb, eqb}
+use lib.Dec.{leb, ltb}
 use lib.ListN.{length, getD}
 use borrow.Author.Tests.{leb-true, leb-false}
-use Rattle.farkas.specs.Lists.{every, All, none, more}
+use Rattle.farkas.specs.Lists.{All, none}
 use Rattle.farkas.specs.Rows.{Row, zeroRow}
 use Rattle.farkas.specs.Farkas.{Proof, farkasTest}
-use Rattle.farkas.proofs.All.{all-append, all-map, all-at}
+use Rattle.farkas.proofs.All.{all-at}
 use Rattle.farkas.proofs.Promise.{only-three}
 use Rattle.formats.specs.Reading.{Got, got, refused, _>>=_, _>>_, u8, u16, u32, within, below, andThen, give, here, finished}
 use Rattle.formats.specs.Rows.{Condition}
-use Rattle.formats.specs.Model.{Mode, Component, Unsafe, Model}
-use Rattle.formats.specs.Locations.{locationCount, modesAt, modeOf}
-use Rattle.formats.specs.Joint.{stays, switchOf, JointSwitch, joints, joinAll}
+use Rattle.formats.specs.Model.{Model}
+use Rattle.formats.specs.Locations.{locationCount}
+use Rattle.formats.specs.Joint.{joints}
 use Rattle.formats.specs.declared.Limits.{Limits}
 use Rattle.formats.specs.ModelSheet.{readModel}
 use Rattle.formats.specs.Certificate.{readRegions}
@@ -27,16 +27,17 @@ use Rattle.formats.specs.RunSheet.{Step, Opening, readValues, readOpening}
 use Rattle.formats.proofs.Gives.{Gives, passes, gives-bind, gives-then, gives-give, gives-any, gives-within}
 use Rattle.formats.proofs.Placed.{Fine, placed-then, placed-within, placed-u16, placed-u32, placed-finished, placed-regions, placed-proof, placed-opening, placed-step, model-fine}
 use Rattle.formats.proofs.Members.{all-members}
-use Rattle.formats.proofs.RowPlaces.{RowsWithin, ModeWithin, ComponentWithin, ModelWithin, rows-within, regions-within}
+use Rattle.formats.proofs.RowPlaces.{EndsWithin, RowsWithin, ModelWithin, rows-within, regions-within}
 use Rattle.rules.specs.declared.Answer.{Answer}
-use Rattle.rules.specs.Runs.{State, present, modesIn, startAllowed, movers, stayingVariables, stepAllowed, after, modesFit, isUnsafe}
-use Rattle.rules.specs.Obligations.{Hypothesis, nowhere, standing, onX, onNext, onRates, timeRow, stayingRows, modeRows, startHypotheses, flowHypotheses, unsafeHypotheses, jumpHypotheses, Kind, atStart, afterFlow, afterJump, Obligation, zeroOnly, perRow, startObligations, flowObligations, unsafeObligations, locationObligations, jumpObligations, jumpsObligations, obligationsOver, regionOf, obligations}
+use Rattle.rules.specs.Runs.{State, startAllowed, stepAllowed, after, isUnsafe}
+use Rattle.rules.specs.Obligations.{Hypothesis, nowhere, standing, timeRow, stayingRows, Obligation, zeroOnly, obligations}
 use Rattle.rules.proofs.Calls.{foundBy}
 use Rattle.rules.proofs.Opening.{Begins, begins, with-model, placed-second}
 use Rattle.rules.specs.Opening.{openModel, openSecond}
 use Rattle.rules.specs.Marking.{answer, scoreOf, refusedScore, Marked, passed, stopped, testProof, markProof, markProofs, closeCertificate, markRegions, markCertificate, testStep, markStep, markSteps, closeRun, firstState, markOpening, markRun}
 use Rattle.rules.specs.Beside.{listAnswer, Found, found, unfound, noObligation, findIn, findAfter, findHypothesis, foundAnswer, showAnswer, sheetOf, listOf}
-use Rattle.rules.proofs.Hypotheses.{all-so, join-all}
+use Rattle.rules.proofs.Hypotheses.{all-so}
+use Rattle.rules.proofs.EveryHypothesis.{Serves, every-obligation}
 
 -- the fields of an answer on these two sheets, all but done, whose bound is each call's own
 pub record AnswerRange (model second : List ℕ) (a : Answer) : Type 0 where
@@ -285,110 +286,32 @@ pub record RowStands (model second : List ℕ) (h : Hypothesis) : Type 0 where
   pub sheet : h .sheet ≤ 2
   pub ends : h .place + h .size ≤ length (sheetOf model second (h .sheet))
 
-all-either : {A : Type 0} {P : A → Type 0} {xs ys : List A} (b : Bool) → All P xs → All P ys → All P (elim b [ true ↦ xs | false ↦ ys ])
-all-either true h k = h
-all-either false h k = k
+-- every hypothesis of an obligation does, of a model and regions whose rows lie within their sheets
+abbrev Standing : List ℕ → List ℕ → Obligation → Type 0
+Standing model second o = All (RowStands model second) (o .hypotheses)
 
 module _ (model second : List ℕ) where
-  rows-stand : (sheet : ℕ) (put : Row → Row) {rows : Condition} → sheet ≤ 2 → RowsWithin (sheetOf model second sheet) rows → All (RowStands model second) (map (standing sheet put) rows)
-  unfolding standing
-  rows-stand sheet put h w = all-map (standing sheet put) (all-so (λ r k. record { sheet = h; ends = k }) w)
-
-  nowhere-stand : (rows : List Row) → All (RowStands model second) (map nowhere rows)
+  nowhere-stands : (r : Row) → RowStands model second (nowhere r)
   unfolding nowhere sheetOf
-  nowhere-stand rows = all-map nowhere (all-members rows (λ r d. record { sheet = omega arith; ends = omega arith }))
+  nowhere-stands r = record { sheet = omega arith; ends = omega arith }
 
-  modes-stand : (of : Mode → Condition) (put : Row → Row) {modes : List Mode} → All (λ mode. RowsWithin model (of mode)) modes → All (RowStands model second) (modeRows of put modes)
-  unfolding modeRows sheetOf
-  modes-stand of put w = join-all _ (all-so (λ mode k. rows-stand 0 put (omega arith) k) w)
+  rows-serve : Serves (EndsWithin model) (EndsWithin second) (RowStands model second) (λ goal. Unit {0})
+  unfolding standing sheetOf
+  rows-serve =
+      record {
+        before = λ r w. record { sheet = omega arith; ends = w };
+        after = λ n r w. record { sheet = omega arith; ends = w };
+        rates = λ r w. record { sheet = omega arith; ends = w };
+        region = λ r w. record { sheet = omega arith; ends = w };
+        time = λ n. nowhere-stands (timeRow n);
+        staying = λ n v. all-members (stayingRows n v) (λ r d. nowhere-stands r);
+        goalBefore = λ r w. tt;
+        goalAfter = λ n r w. tt;
+        goalNone = tt;
+      }
 
-  -- the present modes, and the switches that move
-  present-within : {components : List Component} (modes : List ℕ) → All (ComponentWithin model) components → All (ModeWithin model) (present components modes)
-  unfolding present modeOf
-  present-within modes none = none
-  present-within [] (more x w) = none
-  present-within (mode ∷ modes) (more x w) =
-      more (all-at _ (record { initial = none; invariant = none; flow = none }) (x .modes) mode) (present-within modes w)
-
-  movers-within : {components : List Component} (switches : List ℕ) → All (ComponentWithin model) components → All (λ w. RowsWithin model (w .jump)) (movers components switches)
-  unfolding movers switchOf
-  movers-within switches none = none
-  movers-within [] (more x w) = none
-  movers-within (i ∷ switches) (more x w) =
-      let rest = movers-within switches w in
-      all-either (eqb i stays) rest (more (all-at _ none (x .switches) i) rest)
-
-  -- every hypothesis of an obligation
-  abbrev Standing : Obligation → Type 0
-  Standing o = All (RowStands model second) (o .hypotheses)
-
-  per-row-standing : (kind : Kind) (subject : ℕ) {hypotheses : List Hypothesis} (put : Row → Row) (line : ℕ) (region : Condition) → All (RowStands model second) hypotheses → All Standing (perRow kind subject hypotheses put line region)
-  unfolding perRow
-  per-row-standing kind subject put line [] h = none
-  per-row-standing kind subject put line (r ∷ region) h = more h (per-row-standing kind subject put (suc line) region h)
-
-  module _ (m : Model) (regions : List Condition) (modelRows : ModelWithin model m) (regionRows : All (RowsWithin second) regions) where
-    modes-at-within : (location : ℕ) → All (ModeWithin model) (modesIn m location)
-    unfolding modesIn
-    modes-at-within location = present-within (modesAt (m .components) location) (modelRows .components)
-
-    region-stands : (location : ℕ) → All (RowStands model second) (map (standing 1 onX) (regionOf regions location))
-    unfolding regionOf sheetOf
-    region-stands location = rows-stand 1 onX (omega arith) (all-at [] none regionRows location)
-
-    invariants-stand : (put : Row → Row) (location : ℕ) → All (RowStands model second) (modeRows (λ mode. mode .invariant) put (modesIn m location))
-    invariants-stand put location = modes-stand _ put (all-so (λ mode w. w .invariant) (modes-at-within location))
-
-    start-standing : (location : ℕ) → All Standing (startObligations m (regionOf regions) location)
-    unfolding startObligations startHypotheses
-    start-standing location =
-        all-either (every (λ mode. eqb (mode .start) 1) (modesIn m location))
-        (per-row-standing atStart location onX 0 (regionOf regions location)
-        (all-append (modes-stand _ onX (all-so (λ mode w. w .initial) (modes-at-within location))) (invariants-stand onX location)))
-        none
-
-    flow-standing : (location : ℕ) → All Standing (flowObligations m (regionOf regions) location)
-    unfolding flowObligations flowHypotheses
-    flow-standing location =
-        per-row-standing afterFlow location (onNext (m .variables)) 0 (regionOf regions location)
-        (all-append (region-stands location)
-        (all-append (invariants-stand onX location)
-        (all-append (invariants-stand (onNext (m .variables)) location)
-        (all-append (modes-stand _ onRates (all-so (λ mode w. w .flow) (modes-at-within location))) (nowhere-stand (timeRow (m .variables) ∷ []))))))
-
-    unsafe-standing : (location line : ℕ) {conditions : List Unsafe} → All (λ u. RowsWithin model (u .rows)) conditions → All Standing (unsafeObligations m (regionOf regions) location line conditions)
-    unfolding unsafeObligations unsafeHypotheses sheetOf
-    unsafe-standing location line none = none
-    unsafe-standing location line (more {a = u} x w) =
-        let rest = unsafe-standing location (suc line) w in
-        all-either (modesFit (u .modes) (modesAt (m .components) location))
-        (more (all-append (region-stands location) (all-append (invariants-stand onX location) (rows-stand 0 onX (omega arith) x))) rest)
-        rest
-
-    location-standing : (location : ℕ) → All Standing (locationObligations m (regionOf regions) location)
-    unfolding locationObligations
-    location-standing location = all-append (start-standing location) (all-append (flow-standing location) (unsafe-standing location 0 (modelRows .unsafe)))
-
-    jump-standing : (number : ℕ) (j : JointSwitch) → All Standing (jumpObligations m (regionOf regions) number j)
-    unfolding jumpObligations jumpHypotheses sheetOf
-    jump-standing number j =
-        per-row-standing afterJump number (onNext (m .variables)) 0 (regionOf regions (j .target))
-        (all-append (region-stands (j .source))
-        (all-append (invariants-stand onX (j .source))
-        (all-append (invariants-stand (onNext (m .variables)) (j .target))
-        (all-append
-        (join-all _ (all-so (λ w k. rows-stand 0 onX (omega arith) k) (movers-within (j .switches) (modelRows .components))))
-        (nowhere-stand (joinAll (stayingRows (m .variables)) (stayingVariables m (j .switches))))))))
-
-    jumps-standing : (number : ℕ) (switches : List JointSwitch) → All Standing (jumpsObligations m (regionOf regions) number switches)
-    unfolding jumpsObligations
-    jumps-standing number [] = none
-    jumps-standing number (j ∷ rest) = all-append (jump-standing number j) (jumps-standing (suc number) rest)
-
-    obligations-standing : All Standing (obligations m regions)
-    unfolding obligations obligationsOver
-    obligations-standing =
-        all-append (join-all _ (all-members _ (λ location d. location-standing location))) (jumps-standing 0 (joints (m .components)))
+  obligations-standing : (m : Model) (regions : List Condition) → ModelWithin model m → All (RowsWithin second) regions → All (Standing model second) (obligations m regions)
+  obligations-standing m regions modelRows regionRows = all-so (λ o w. w .0) (every-obligation rows-serve m regions modelRows regionRows)
 
 -- what is found stands within its sheet, and so does the place of a refusal
 abbrev FoundWell : List ℕ → List ℕ → Found → Type 0

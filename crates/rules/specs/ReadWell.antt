@@ -6,7 +6,7 @@ use Prim.Native.Nat.{ℕ}
 use lib.Dec.{T}
 use lib.ListN.{length}
 use Rattle.farkas.specs.Rows.{Row}
-use Rattle.farkas.specs.Farkas.{Proof, Meets}
+use Rattle.farkas.specs.Farkas.{Proof, sumAt, boundSum, PlainMeet, Meets}
 use Rattle.formats.specs.Reading.{Reader, got, _>>=_, _>>_, give, many, each, finished}
 use Rattle.formats.specs.Rows.{Condition}
 use Rattle.formats.specs.Model.{Model}
@@ -43,7 +43,14 @@ pub data AllMeet : List Obligation → List Proof → Type 0 where
   met-none : AllMeet [] []
   met-more : {o : Obligation} {p : Proof} {rest : List Obligation} {proofs : List Proof} → Meets (rowsOf o) (o .goal) p → AllMeet rest proofs → AllMeet (o ∷ rest) (p ∷ proofs)
 
-pub record CertificateHolds (limits : Limits) (model second : List ℕ) : Type 0 where
+-- the same by Farkas' condition as 01 writes it, which knows of no strict rows: "The multiplied hypotheses must sum to k times the goal's
+-- coefficients, at every unknown. The summed bound must be at most k times the goal's bound, or, at k = 0, below 0"
+pub data AllMeetPlainly : List Obligation → List Proof → Type 0 where
+  plainly-none : AllMeetPlainly [] []
+  plainly-more : {o : Obligation} {p : Proof} {rest : List Obligation} {proofs : List Proof} → PlainMeet (p .k) (sumAt (rowsOf o) (p .entries)) (boundSum (rowsOf o) (p .entries)) (o .goal) → AllMeetPlainly rest proofs → AllMeetPlainly (o ∷ rest) (p ∷ proofs)
+
+-- demand 2 for certificates: both sheets read well, and the proofs meet what is asked of them
+pub record CertificateMeets (Met : List Obligation → List Proof → Type 0) (limits : Limits) (model second : List ℕ) : Type 0 where
   pub fit : T (limitsFit limits)
   pub m : Model
   pub modelEnd : ℕ
@@ -51,7 +58,10 @@ pub record CertificateHolds (limits : Limits) (model second : List ℕ) : Type 0
   pub certificate : Certificate
   pub secondEnd : ℕ
   pub secondReads : readCertificate m second 0 ≡ got certificate secondEnd
-  pub meet : AllMeet (obligations m (certificate .regions)) (certificate .proofs)
+  pub meet : Met (obligations m (certificate .regions)) (certificate .proofs)
+
+abbrev pub CertificateHolds : Limits → List ℕ → List ℕ → Type 0
+CertificateHolds = CertificateMeets AllMeet
 
 -- a run sheet: its opening, then its steps
 pub record RunSheet : Type 0 where

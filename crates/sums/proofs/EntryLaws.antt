@@ -27,7 +27,6 @@ use Rattle.hypotheses.specs.Tables.{TableLine, linesIn, hypothesisOf, hypothese
 use Rattle.sums.specs.declared.Reached.{Reached}
 use Rattle.sums.specs.Summing.{rowsIn, leastAfter, SoFar}
 use Rattle.sums.proofs.RowSizes.{hypothesis-within}
-use Rattle.sums.proofs.RowLaws.{hypothesis-plain}
 
 -- What an entry has: a hypothesis that is not too low and below the count, and a multiplier below 2 ^ 24
 pub record EntryWithin (hypotheses least : ℕ) (e : Entry) : Type 0 where
@@ -117,16 +116,6 @@ lines-within : (model second : List ℕ) (version n : ℕ) → Bytes model → B
 unfolding hypothesisOf
 lines-within model second version n b c [] = none
 lines-within model second version n b c (l ∷ ls) = more (hypothesis-within model second version n (l .form) (l .place) (l .row) b c) (lines-within model second version n b c ls)
-
--- and not strict
-lines-plain : (model second : List ℕ) (version n : ℕ) (ls : List TableLine) → All (λ l. hypothesisOf model second version n l .row .strict ≡ false) ls
-unfolding hypothesisOf
-lines-plain model second version n [] = none
-lines-plain model second version n (l ∷ ls) = more (hypothesis-plain model second version n (l .form) (l .place) (l .row)) (lines-plain model second version n ls)
-
-pub rows-plain : (model second : List ℕ) (n : ℕ) (table : List ℕ) (g : Group) → All (λ r. r .strict ≡ false) (rowsIn model second n table g)
-unfolding hypothesisRows hypothesesFrom
-rows-plain model second n table g = all-map (λ h. h .row) (all-map (hypothesisOf model second (g .version) n) (lines-plain model second (g .version) n (linesIn table (g .segments))))
 
 module _ {model second : List ℕ} {n : ℕ} {table : List ℕ} {g : Group} where
   -- Before the first entry

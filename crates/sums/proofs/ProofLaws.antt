@@ -1,6 +1,5 @@
 -- A proof of a certificate: what the answers of its readers tell, and how the parts of its marking make the whole. Assumes nothing.
 use mathlib.Core.Path.{_≡_, refl, ap, _∙_}
-use mathlib.Core.Logic.{_↔_, Iff·trans}
 use mathlib.Core.Bool.{Bool, true, false, cond}
 use mathlib.Core.List.{List}
 use Prim.Native.Nat.{ℕ, zero, suc, _≤_}
@@ -11,8 +10,8 @@ use Rattle.farkas.specs.declared.Verdict.{Verdict}
 use Rattle.farkas.specs.declared.Verdict.the-variants as verdicts
 use Rattle.fields.specs.declared.Next.{Next}
 use Rattle.fields.specs.declared.Next.the-variants as next
-use Rattle.farkas.specs.Farkas.{numberOf, Entry, Proof, sumAt, boundSum, PlainMeet, SumsOf, sumsTest, farkasTest}
-use Rattle.farkas.proofs.Promise.{held-test, zero-means, meets-plain, none-used}
+use Rattle.farkas.specs.Farkas.{numberOf, Entry, Proof, SumsOf, sumsTest, farkasTest}
+use Rattle.farkas.proofs.Promise.{held-test}
 use Rattle.second_sheets.specs.declared.EntryRead.{EntryRead}
 use Rattle.second_sheets.specs.declared.EntryRead.the-variants as entries
 use Rattle.second_sheets.specs.declared.HeadRead.{HeadRead}
@@ -23,12 +22,9 @@ use Rattle.second_sheets.specs.CertificateAnswers.{Head, readHead, gotHead, got
 use Rattle.formats.proofs.Gives.{Gives, gives-any, gives-bind, gives-give, gives-within, bind-got}
 use Rattle.fields.proofs.Skipping.{bind-refused}
 use Rattle.second_sheets.proofs.CertificateLaws.{proof-reads}
-use Rattle.hypotheses.specs.declared.Group.{Group}
 use Rattle.hypotheses.specs.Tables.{testWith, markWith}
 use Rattle.papers.specs.Paper.{heldNext}
-use Rattle.sums.specs.Summing.{rowsIn, goalAt, tested}
-use Rattle.sums.proofs.RowLaws.{goal-plain}
-use Rattle.sums.proofs.EntryLaws.{rows-plain}
+use Rattle.sums.specs.Summing.{tested}
 
 -- What the answers of the readers tell
 pub entry-got : {f : EntryRead} {h m p : ℕ} → f ≡ entries.Entry h m p → gotEntry f ≡ got (record { hypothesis = h; multiplier = m }) p
@@ -61,16 +57,6 @@ head-zero false = gives-bind gives-any (λ k u. gives-bind gives-any (λ count w
   where
     not-both : false ≡ true → ⊥
     not-both e = let z : _≡_ {A = ℕ} 0 1 = ap (λ (b : Bool). cond b 1 0) e in omega (arith, z)
-
--- No row of a sheet is strict, so that a proof is tested by 01's condition word for word
-pub tested-plain :
-    (model second : List ℕ) (n : ℕ) (table : List ℕ) (g : Group) (at : ℕ) (p : Proof)
-    → (farkasTest (rowsIn model second n table g) (goalAt second n g at) p ≡ 0)
-    ↔ PlainMeet (p .k) (sumAt (rowsIn model second n table g) (p .entries)) (boundSum (rowsIn model second n table g) (p .entries)) (goalAt second n g at)
-tested-plain model second n table g at p =
-    let rows = rowsIn model second n table g in
-    let goal = goalAt second n g at in
-    Iff·trans (zero-means rows goal p) (meets-plain rows goal p (none-used rows (p .entries) (rows-plain model second n table g)) (goal-plain second n g at))
 
 -- a refusal is no place, and only a verdict that the proof holds gives one
 pub refused-not-at : {number place end : ℕ} → next.Refused number place ≡ next.At end → ⊥

@@ -170,27 +170,6 @@ pub goal-row : (second : List ℕ) (n : ℕ) (g : Group) (at : ℕ) → g .zero 
 unfolding goalAt onNext onward rowIn rowAt
 goal-row second n g at e = ap (λ (z : Bool). elim z [ true ↦ zeroRow | false ↦ onNext (g .shift) (rowAt second (g .version) n at .row) ]) e
 
--- no row of a sheet is strict: no hypothesis, and no goal
-pub hypothesis-plain : (model second : List ℕ) (version n form place row : ℕ) → hypothesisIn model second version n form place row .row .strict ≡ false
-unfolding hypothesisIn standing nowhere onX onNext onRates timeRow rowAt strictAt
-hypothesis-plain model second version n zero place row = refl
-hypothesis-plain model second version n (suc zero) place row = refl
-hypothesis-plain model second version n (suc (suc zero)) place row = refl
-hypothesis-plain model second version n (suc (suc (suc zero))) place row = refl
-hypothesis-plain model second version n (suc (suc (suc (suc zero)))) place row = refl
-hypothesis-plain model second version n (suc (suc (suc (suc (suc zero))))) place row = refl
-hypothesis-plain model second version n (suc (suc (suc (suc (suc (suc zero)))))) place row = refl
-hypothesis-plain model second version n (suc (suc (suc (suc (suc (suc (suc zero))))))) place row = refl
-hypothesis-plain model second version n (suc (suc (suc (suc (suc (suc (suc (suc form)))))))) place row = ap (λ (r : Row). r .strict) (keeps-plain n place row)
-
-pub goal-plain : (second : List ℕ) (n : ℕ) (g : Group) (at : ℕ) → goalAt second n g at .strict ≡ false
-unfolding goalAt onNext rowAt strictAt zeroRow
-goal-plain second n g at = go (g .zero)
-  where
-    go : (z : Bool) → (elim z as (λ _. Row) [ true ↦ zeroRow | false ↦ onNext (g .shift) (rowAt second (g .version) n at .row) ]) .strict ≡ false
-    go true = refl
-    go false = refl
-
 -- a later form's row lies in the model alone
 pub later-good : {model second : List ℕ} {version n width : ℕ} (l : TableLine) (other : List ℕ) → 6 ≤ l .form → GoodLine model second version n width l → GoodLine model other version n width l
 later-good l other h g =

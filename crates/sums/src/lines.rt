@@ -43,7 +43,7 @@ pub fn line_at(table: &[u16], g: usize, segments: usize, h: u32) -> Line
 }
 
 // Where the row of a hypothesis stands: so many rows of n coefficients after the first.
-fn row_place(version: u32, n: usize, line: Line) -> usize
+pub fn row_place(version: u32, n: usize, line: Line) -> usize
     requires { ⌜ (n ≤ 16) × ((line .place < 65536) × (line .row < 65536)) ⌝ }
     ensures { λ r. ⌜ r ≡ rowPlace version n (line .place) (line .row) ⌝ }
 {

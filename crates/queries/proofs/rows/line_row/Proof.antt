@@ -8,11 +8,11 @@ use borrow.Author.Needs.{needs}
 use Rattle.queries.proofs.rows.line_row.Statement.{statement}
 use Rattle.queries.proofs.rows.line_row.Tie as tie
 
-mul-row-place : tie.Need-mul-row-place
-mul-row-place c = search needs
+mul-row-at : tie.Need-mul-row-at
+mul-row-at c = search needs
 
-row-place-requires : tie.Need-row-place-requires
-row-place-requires c κs =
+row-at-requires : tie.Need-row-at-requires
+row-at-requires c κs =
     let p = c .before .before .before .before .pre in
     (omega (arith, p .0), p .1)
 
@@ -25,7 +25,7 @@ row-size-requires c κs = omega (arith, c .before .before .before .before .befor
 returns : tie.Need-returns
 returns c =
     let a = c .before .before .before .before .before .before .args in
-    ap₂ row.InModel (c .before .row-place .ensures) (c .row-size .ensures)
+    ap₂ row.InModel (c .before .row-at .ensures) (c .row-size .ensures)
     ∙ form-jump (now (a .model)) (now (a .second)) (a .version) (a .n) (a .line .place) (a .line .row) (a .line .form) (c .before .before .if1 .taken)
 
 returns-2 : tie.Need-returns-2
@@ -33,8 +33,8 @@ returns-2 c =
     let a = c .before .before .before .before .before .before .args in
     form-nowhere (now (a .model)) (now (a .second)) (a .version) (a .n) (a .line .place) (a .line .row) (a .line .form) (c .if2 .taken) (c .before .before .if1 .left)
 
-row-place-requires-2 : tie.Need-row-place-requires-2
-row-place-requires-2 c κs =
+row-at-requires-2 : tie.Need-row-at-requires-2
+row-at-requires-2 c κs =
     let p = c .before .before .before .before .before .before .pre in
     (omega (arith, p .0), p .1)
 
@@ -44,26 +44,26 @@ row-size-requires-2 c κs = omega (arith, c .before .before .before .before .bef
 returns-3 : tie.Need-returns-3
 returns-3 c =
     let a = c .before .before .before .before .before .before .before .before .before .before .args in
-    ap₂ row.InSecond (c .before .before .before .row-place2 .ensures) (c .before .before .row-size2 .ensures)
+    ap₂ row.InSecond (c .before .before .before .row-at2 .ensures) (c .before .before .row-size2 .ensures)
     ∙ form-second (now (a .model)) (now (a .second)) (a .version) (a .n) (a .line .place) (a .line .row) (a .line .form) (c .if3 .taken)
 
 returns-4 : tie.Need-returns-4
 returns-4 c =
     let a = c .before .before .before .before .before .before .before .before .before .before .args in
-    ap₂ row.InModel (c .before .before .before .row-place2 .ensures) (c .before .before .row-size2 .ensures)
+    ap₂ row.InModel (c .before .before .before .row-at2 .ensures) (c .before .before .row-size2 .ensures)
     ∙ form-model (now (a .model)) (now (a .second)) (a .version) (a .n) (a .line .place) (a .line .row) (a .line .form) (c .before .before .before .before .if2 .left) (c .if3 .left)
 
 pub line-row-spec : {M : Type 1} → statement M
 line-row-spec =
     tie.close
     (tie.spec
-    mul-row-place
-    row-place-requires
+    mul-row-at
+    row-at-requires
     mul-row-size
     row-size-requires
     returns
     returns-2
-    row-place-requires-2
+    row-at-requires-2
     row-size-requires-2
     returns-3
     returns-4)
