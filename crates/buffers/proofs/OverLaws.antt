@@ -66,3 +66,11 @@ over-next xs at bytes i h =
     ap (λ (n : ℕ). over (over xs at (take i bytes)) (at + n) (getD bytes i 0 ∷ [])) (sym (taken bytes i h))
     ∙ over-then xs at (take i bytes) (getD bytes i 0 ∷ [])
     ∙ ap (over xs at) (sym (take-suc bytes i 0 h) ∙ ap (λ (n : ℕ). take n bytes) (sym (add-one i)))
+
+-- what stands in front, written last
+pub over-front : (xs front bytes : List ℕ) → over (over xs (length front) bytes) zero front ≡ over xs zero (front ++ bytes)
+unfolding over
+over-front [] [] bytes = refl
+over-front [] (f ∷ front) bytes = refl
+over-front (x ∷ xs) [] bytes = over-nothing (over (x ∷ xs) zero bytes) zero
+over-front (x ∷ xs) (f ∷ front) bytes = ap (λ r. f ∷ r) (over-front xs front bytes)

@@ -4,7 +4,8 @@ ghost use mathlib.Core.Path.{_≡_};
 ghost use mathlib.Core.List.{[], _∷_};
 ghost use Prim.Native.Nat.{_+_, _<_, _^_};
 ghost use lib.ListN.{length};
-ghost use Rattle.buffers.specs.Over.{over};
+ghost use Rattle.buffers.specs.Over.{over, word, half};
+ghost use Rattle.buffers.specs.Written.{Written};
 
 // One byte, where there is room for it. The place after it.
 pub fn put_byte(out: &mut [u8], at: usize, b: u8) -> usize
@@ -29,4 +30,30 @@ pub fn put_bytes(out: &mut [u8], at: usize, bytes: &[u8]) -> usize
         i += 1;
     }
     at + i
+}
+
+// Two bytes, the higher first. The place after them.
+pub fn put_half(out: &mut [u8], at: usize, v: u32) -> usize
+    requires { ⌜ at < 2 ^ 61 ⌝ }
+    ensures { λ r. ⌜ Written (now (out .entry)) at (half v) (now (out .exit)) r ⌝ }
+{
+    let high = (v / 256 % 256) as u8;
+    let low = (v % 256) as u8;
+    let second = put_byte(out, at, high);
+    put_byte(out, second, low)
+}
+
+// Four bytes, the highest first. The place after them.
+pub fn put_word(out: &mut [u8], at: usize, v: u32) -> usize
+    requires { ⌜ at < 2 ^ 61 ⌝ }
+    ensures { λ r. ⌜ Written (now (out .entry)) at (word v) (now (out .exit)) r ⌝ }
+{
+    let a = (v / 256 / 256 / 256 % 256) as u8;
+    let b = (v / 256 / 256 % 256) as u8;
+    let c = (v / 256 % 256) as u8;
+    let d = (v % 256) as u8;
+    let second = put_byte(out, at, a);
+    let third = put_byte(out, second, b);
+    let fourth = put_byte(out, third, c);
+    put_byte(out, fourth, d)
 }

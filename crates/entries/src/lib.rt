@@ -1,5 +1,6 @@
 // The marker's entries for a desk, a C program that hands over the sheets as bytes and states its limits. include/marker.h has their
 // prototypes.
+pub mod copies;
 pub mod show;
 pub mod table;
 pub mod typed_rows;

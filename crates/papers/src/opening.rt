@@ -13,10 +13,10 @@ use models::layout::VERSION_AT;
 use rules::Answer;
 ghost use mathlib.Core.List.{List};
 ghost use mathlib.Core.Path.{_≡_};
-ghost use Prim.Native.Nat.{ℕ};
+ghost use Prim.Native.Nat.{ℕ, _<_};
 ghost use Rattle.fields.specs.Answers.{gotField};
 ghost use Rattle.formats.specs.Locations.{locationCount};
-ghost use Rattle.models.specs.Index.{Kept, indexLength, componentsFrom, modelFrom, versionIn};
+ghost use Rattle.models.specs.Index.{entry, Kept, indexLength, componentsFrom, modelFrom, versionIn};
 ghost use Rattle.papers.specs.Opening.{openedModel, ModelOpen, opened, Open};
 ghost use Rattle.papers.specs.Paper.{Accepted};
 ghost use Rattle.rules.specs.Opening.{openSecond};
@@ -82,7 +82,7 @@ pub fn locations_of(model: &[u8], index: &Index) -> u32
 }
 
 // A number of an index as a wider one.
-fn widened(x: u16) -> u32
+pub fn widened(x: u16) -> u32
     ensures { λ r. ⌜ r ≡ x ⌝ }
 {
     x as u32
@@ -93,4 +93,19 @@ pub fn version_of(index: &Index) -> u32
     ensures { λ r. ⌜ r ≡ versionIn (now (index .entry)) ⌝ }
 {
     widened(index[VERSION_AT])
+}
+
+// A number of an index, as places have it.
+fn wide(x: u16) -> usize
+    ensures { λ r. ⌜ r ≡ x ⌝ }
+{
+    x as usize
+}
+
+// A number of an index, by its place.
+pub fn number_at(index: &Index, i: usize) -> usize
+    requires { ⌜ i < indexLength ⌝ }
+    ensures { λ r. ⌜ r ≡ entry (now (index .entry)) i ⌝ }
+{
+    wide(index[i])
 }

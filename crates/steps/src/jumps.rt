@@ -1,6 +1,5 @@
 // Steps of a run: joint switches, the rule of a jump, whether a step is allowed, and the modes that it leads to.
 use crate::rows::modes_hold;
-use crate::rows::number_at;
 use crate::values::flow_rule;
 use crate::values::jump_rows;
 use crate::values::staying_kept;
@@ -16,6 +15,7 @@ use models::layout::INVARIANT_AT;
 use models::layout::Index;
 use models::layout::SWITCH_COUNT_AT;
 use models::layout::VARIABLES_AT;
+use papers::opening::number_at;
 use second_sheets::Step;
 ghost use mathlib.Core.Path.{_≡_};
 ghost use Prim.Native.Nat.{_*_, _^_, _≤_, _<_};

@@ -8,6 +8,7 @@ use models::layout::COMPONENTS_AT;
 use models::layout::COUNT_AT;
 use models::layout::Index;
 use models::layout::VARIABLES_AT;
+use papers::opening::number_at;
 use papers::opening::version_of;
 use papers::standing::mode_place;
 ghost use mathlib.Core.Path.{_≡_};
@@ -22,21 +23,6 @@ ghost use Rattle.models.specs.Index.{entry, spanRows, GoodSpan, componentsIn, i
 ghost use Rattle.rules.specs.Runs as runs;
 ghost use Rattle.papers.specs.Standing.{GoodModes};
 ghost use Rattle.steps.specs.Held.{SmallPoint, modeHolds};
-
-// A number of an index, as places have it.
-fn wide(x: u16) -> usize
-    ensures { λ r. ⌜ r ≡ x ⌝ }
-{
-    x as usize
-}
-
-// A number of an index, by its place.
-pub fn number_at(index: &Index, i: usize) -> usize
-    requires { ⌜ i < indexLength ⌝ }
-    ensures { λ r. ⌜ r ≡ entry (now (index .entry)) i ⌝ }
-{
-    wide(index[i])
-}
 
 // Whether a row with so many coefficients holds at the first values of a point, over q: a·p ≤ b·q, or a·p < b·q where
 // it is strict.

@@ -2,7 +2,6 @@
 // many numbers from there on, and then their change. How a run may begin, unsafe states, the rules of flows and jumps.
 use crate::rows::condition_holds;
 use crate::rows::modes_hold;
-use crate::rows::number_at;
 use models::layout::COMPONENTS_AT;
 use models::layout::CONDITIONS_AT;
 use models::layout::FIRST_OWNER;
@@ -14,6 +13,7 @@ use models::layout::Index;
 use models::layout::UNSAFE_LENGTH;
 use models::layout::UNSAFE_ROWS_AT;
 use models::layout::VARIABLES_AT;
+use papers::opening::number_at;
 use papers::standing::all_start;
 use papers::standing::modes_fit;
 use papers::standing::switch_place;

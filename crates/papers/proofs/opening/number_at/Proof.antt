@@ -1,8 +1,8 @@
 -- The number that an index keeps. Assumes nothing.
 use borrow.Author.Needs.{needs}
 use Rattle.models.specs.Index.{entry}
-use Rattle.steps.proofs.rows.number_at.Statement.{statement}
-use Rattle.steps.proofs.rows.number_at.Tie as tie
+use Rattle.papers.proofs.opening.number_at.Statement.{statement}
+use Rattle.papers.proofs.opening.number_at.Tie as tie
 
 mul-wide : tie.Need-mul-wide
 mul-wide c = search needs

@@ -1,0 +1,3 @@
+pub mod EachPut
+pub mod PartLaws
+pub mod CopyLaws

@@ -1,0 +1,5 @@
+pub mod SameRuns
+pub mod FairConditions
+pub mod FairWritable
+pub mod EveryCondition
+pub mod CopyMeans

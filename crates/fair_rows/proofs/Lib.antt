@@ -1,0 +1,5 @@
+pub mod QuotientLaws
+pub mod DivisorLaws
+pub mod OrderLaws
+pub mod FairLaws
+pub mod TruthLaws

@@ -1,0 +1,10 @@
+pub mod ReadsLaws
+pub mod Writable
+pub mod ChangedJoints
+pub mod PartsBack
+pub mod RoundTrip
+pub mod FromSheets
+pub mod Spans
+pub mod Lengths
+pub mod ChangedWritable
+pub mod ChangedLaws
