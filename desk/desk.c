@@ -1,4 +1,5 @@
 /* The exam desk, which is the practice desk too: marks a paper with the proved entries and says the answer in words. */
+#include "fair.h"
 #include "limits.h"
 #include "marker.h"
 #include "model.h"
@@ -6,6 +7,7 @@
 #include "paper.h"
 #include "run.h"
 #include "sheet.h"
+#include "status.h"
 #include "type.h"
 #include "words.h"
 
@@ -13,25 +15,27 @@
 #include <stdio.h>
 #include <string.h>
 
-/* What the desk returns to the shell. */
-enum { ACCEPTED = 0, REFUSED = 1, UNUSABLE = 2 };
-
 static const char help[] =
     "usage: desk MODEL SECOND             mark a certificate or a run sheet\n"
     "       desk --row O H MODEL SECOND   show hypothesis H of obligation O (both from 0) of a certificate\n"
     "       desk --joints MODEL           list the model's joint switches\n"
+    "       desk --fair MODEL COPY        write the model's fair copy to the file COPY, never over MODEL itself\n"
+    "       desk --same MODEL OTHER       say whether two models have the same fair copy\n"
     "       desk --type N TEXT            turn a row on N variables, typed as text, into its numbers\n"
-    "       desk --practice ..            any of the first three at the practice desk: at most 16 locations and 256 joint switches\n"
-    "       desk --limits L J ..          any of the first three with other limits: at most L locations and J joint switches\n"
+    "       desk --practice ..            any of the first five at the practice desk: at most 16 locations and 256 joint switches\n"
+    "       desk --limits L J ..          any of the first five with other limits: at most L locations and J joint switches\n"
     "       desk --help                   this text\n"
     "\n"
-    "MODEL and SECOND are files with one sheet each. SECOND is marked as a run if its byte 3 is 3, else as a certificate.\n"
+    "MODEL, SECOND and OTHER are files with one sheet each. SECOND is marked as a run if its byte 3 is 3, else as a certificate.\n"
     "Variables are the letters a to h, in the model's order; a' is the value of a after a flow or a jump.\n"
+    "A fair copy has each row divided by the greatest common divisor of its numbers, no row that always holds, and rows in ascending\n"
+    "order, each once. Models with the same one allow the same runs; with different ones they still may. Certificates are for the\n"
+    "model that they were drawn for, not for its copy.\n"
     "TEXT has one <= between two expressions of whole numbers, letters, round brackets, +, - and *, such as 2*(a - 1) <= b.\n"
     "Without --practice and --limits a model may have the exam's 64 locations and 4,096 joint switches. L and J are whole numbers to\n"
     "4294967295; papers are refused unless L is from 1 to 64 and J from 1 to 4,096. A paper within the limits of two desks gets the\n"
     "same answer at both.\n"
-    "Status: 0 accepted, 1 refused, 2 the desk could not do what was asked.\n";
+    "Status: 0 accepted or the same, 1 refused or different, 2 the desk could not do what was asked.\n";
 
 /* What is asked for: how it is answered, and on what. */
 struct request {
@@ -41,6 +45,7 @@ struct request {
     struct paper paper;
     uint32_t obligation;
     uint32_t hypothesis;
+    const char *copy_name;
     const char *text;
     uint32_t variables;
 };
@@ -118,6 +123,16 @@ static int list_joints(const struct request *request)
     return ACCEPTED;
 }
 
+static int copy_model(const struct request *request)
+{
+    return write_fair_copy(&request->paper, request->copy_name);
+}
+
+static int compare_models(const struct request *request)
+{
+    return compare_fair_copies(&request->paper);
+}
+
 static int type_row(const struct request *request)
 {
     return print_typed_row(request->text, request->variables) == 0 ? ACCEPTED : REFUSED;
@@ -137,6 +152,15 @@ static int read_number(const char *word, uint32_t *number)
     }
     *number = (uint32_t)value;
     return 0;
+}
+
+/* That a copy is not written over its model. Returns 0, or says that it would be and returns -1. */
+static int check_copy(const char *model_name, const char *copy_name)
+{
+    if (!sheet_is_one_file(model_name, copy_name))
+        return 0;
+    fprintf(stderr, "desk: %s and %s are one file; a copy is not written over its model\n", model_name, copy_name);
+    return -1;
 }
 
 /* Whether the first word of the command is this one. */
@@ -171,6 +195,14 @@ static int read_request(struct request *request, int count, char **words)
     if (count == 6 && is_first("--row", count, words)) {
         *request = (struct request){.answer = show_row, .model_name = words[4], .second_name = words[5]};
         return read_number(words[2], &request->obligation) == 0 ? read_number(words[3], &request->hypothesis) : -1;
+    }
+    if (count == 4 && is_first("--fair", count, words)) {
+        *request = (struct request){.answer = copy_model, .model_name = words[2], .copy_name = words[3]};
+        return check_copy(words[2], words[3]);
+    }
+    if (count == 4 && is_first("--same", count, words)) {
+        *request = (struct request){.answer = compare_models, .model_name = words[2], .second_name = words[3]};
+        return 0;
     }
     if (count == 4 && is_first("--type", count, words)) {
         *request = (struct request){.answer = type_row, .text = words[3]};

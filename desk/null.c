@@ -1,6 +1,6 @@
-/* Tries every call with null pointers of length 0, for each sheet, for the table and for a typed text, and compares the numbers handed back
-   with those for an empty sheet, table or text that has an address. Limits are the exam's. Words: a model, a certificate and a run sheet of
-   it, and a model without joint switches. */
+/* Tries every call with null pointers of length 0, for each sheet, for the table, for the buffer and for a typed text, and compares the
+   numbers handed back with those for an empty sheet, table, buffer or text that has an address. Limits are the exam's. Words: a model, a
+   certificate and a run sheet of it, and a model without joint switches. */
 #include "marker.h"
 #include "sheet.h"
 
@@ -8,7 +8,10 @@
 #include <stdio.h>
 #include <string.h>
 
-enum { SHEETS = 4, RECORDS = 2, COEFFICIENTS = 8, MOST_NUMBERS = 5 + COEFFICIENTS + 1 };
+enum { SHEETS = 4, RECORDS = 2, BYTES = 2, COEFFICIENTS = 8, MOST_NUMBERS = 5 + COEFFICIENTS + 1 };
+
+/* What lent memory is filled with. */
+enum { FILLED = 77 };
 
 static uint8_t no_bytes[1];
 static struct silfoddra_joint no_records[1];
@@ -62,6 +65,12 @@ static struct numbers obligation(const struct sheet *model, const struct sheet *
     return (struct numbers){6, {o.number, o.sheet, o.place, o.kind, o.subject, o.line}};
 }
 
+/* The buffer is lent as a sheet is. */
+static struct numbers fair_copy(const struct sheet *model, const struct sheet *buffer)
+{
+    return from_answer(silfoddra_fair_copy(model->bytes, model->length, buffer->bytes, buffer->length, most_locations, most_joints));
+}
+
 /* Prints what the call with null handed back. Returns 1 if it is not what the other call handed back, else 0. */
 static int compare(const char *call, const char *first, const char *second, struct numbers with_null, struct numbers with_empty)
 {
@@ -71,6 +80,19 @@ static int compare(const char *call, const char *first, const char *second, stru
         printf(" %" PRIu32, with_null.at[i]);
     printf("%s\n", differs ? ", but other numbers for an empty one" : "");
     return differs;
+}
+
+/* Whether lent memory has other bytes than it was filled with: 1, which is printed, or 0. */
+static int has_changed(const void *memory, size_t size)
+{
+    const uint8_t *bytes = memory;
+    for (size_t i = 0; i < size; i++) {
+        if (bytes[i] != FILLED) {
+            printf("what was lent has changed\n");
+            return 1;
+        }
+    }
+    return 0;
 }
 
 /* A call on two sheets, with null for the one, the other and both. Returns how often it differs. */
@@ -94,16 +116,22 @@ static int try_table(const struct sheet *model, const struct sheet *other_model)
 /* The joint list with null for the model, and a table whose records must keep their content. */
 static int try_records(void)
 {
-    struct silfoddra_joint table[RECORDS], kept[RECORDS];
-    memset(table, 77, sizeof table);
-    memset(kept, 77, sizeof kept);
+    struct silfoddra_joint table[RECORDS];
+    memset(table, FILLED, sizeof table);
     int differs = compare("silfoddra_joint_list", null.name, "2 records",
                           from_answer(silfoddra_joint_list(NULL, 0, table, RECORDS, most_locations, most_joints)),
                           from_answer(silfoddra_joint_list(no_bytes, 0, table, RECORDS, most_locations, most_joints)));
-    if (memcmp(table, kept, sizeof table) == 0)
-        return differs;
-    printf("the records have changed\n");
-    return 1;
+    return differs + has_changed(table, sizeof table);
+}
+
+/* The fair copy with null for the model, for the buffer and for both; the buffer must keep its content, as each is refused. */
+static int try_buffer(const struct sheet *model)
+{
+    uint8_t bytes[BYTES];
+    memset(bytes, FILLED, sizeof bytes);
+    struct sheet buffer = {.name = "2 bytes", .bytes = bytes, .length = BYTES};
+    int differences = try_sheets("silfoddra_fair_copy", fair_copy, model, &buffer);
+    return differences + has_changed(bytes, sizeof bytes);
 }
 
 /* The typed row of an empty text, on so many variables. */
@@ -129,6 +157,7 @@ static int try_all(const struct sheet *model, const struct sheet *second, const 
     differences += try_table(lone_model, lone_model);
     differences += try_table(&null, &empty);
     differences += try_records();
+    differences += try_buffer(model);
     differences += compare("silfoddra_read_row", "null", "2 variables", typed_row(NULL, 2), typed_row(no_bytes, 2));
     differences += compare("silfoddra_read_row", "null", "9 variables", typed_row(NULL, 9), typed_row(no_bytes, 9));
     return differences;

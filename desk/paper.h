@@ -7,7 +7,7 @@
 
 struct paper {
     struct sheet model;
-    struct sheet second; /* all zero where one sheet is enough */
+    struct sheet second; /* another model, where two are compared; all zero where one sheet is enough */
     struct limits limits;
 };
 

@@ -30,6 +30,19 @@ try_full() {
     echo "status $?"
 }
 
+# The same, with no room for over 1,024 bytes in a file. What it prints goes through a pipe, which has room.
+try_short() {
+    local printed
+    echo "\$ $*"
+    printed=$(
+        trap '' XFSZ
+        ulimit -f 1
+        ${UNDER:-} "$top/desk/$1" "${@:2}" 2>&1
+        echo "status $?"
+    )
+    echo "$printed"
+}
+
 # try_type VARIABLES TEXT: the text in quotes, and bytes that do not print in octal
 try_type() {
     local LC_ALL=C
@@ -60,6 +73,35 @@ edit() {
 # sheet NAME BYTE..: a sheet of these bytes, in hexadecimal, after the two that say how many follow
 sheet() {
     printf "$(printf '\\x%s' $(printf '%02x %02x' $(($# - 1 >> 8)) $(($# - 1 & 255))) "${@:2}")" >"$1"
+}
+
+# rows NUMBER..: a condition on one variable, of rows by their coefficient and bound
+rows() {
+    local number
+    printf '%02x ' $(($# / 2))
+    for number; do printf '%02x ' $((number >> 24 & 255)) $((number >> 16 & 255)) $((number >> 8 & 255)) $((number & 255)); done
+}
+
+# tank NAME INITIAL INVARIANT FLOW UNSAFE: the tank of the examples with these rows, the numbers of each condition in one word
+tank() {
+    sheet "$1" 01 01 01 01 01 00 00 00 01 00 01 $(rows $2) $(rows $3) $(rows $4) 00 $(rows $5)
+}
+
+# bytes FILE: what it holds
+bytes() {
+    echo "$1:"
+    od -A d -t x1 -v "$1"
+}
+
+# found FILE OTHER: whether it has the bytes of another, or is not there
+found() {
+    if [ ! -e "$1" ]; then
+        echo "no $1"
+    elif cmp -s "$1" "$2"; then
+        echo "$1 is as $2"
+    else
+        echo "$1 is OTHER than $2"
+    fi
 }
 
 # times COUNT BYTE..: the bytes so often
@@ -173,6 +215,50 @@ echo '# Joint switches'
 try desk --joints examples/tank.model
 try desk --joints examples/plant.model
 
+echo '# Fair copies: of the tank, of another spelling of it, of rows that stay or are at the edges of their range, of a copy'
+tank other.model '3 15 -1 -5 1 5 0 7' '2 20' '-4 0 6 12' '-3 -33'
+tank odd.model '1 5 -1 -5' '2 21' '-1 0 1 2' '-1 -11 0 -3'
+tank edges.model '-2147483648 -2147483648 2147483647 2147483647 -2147483648 2147483647 -2147483648 2' '0 -2147483648 0 -6 0 0' '' ''
+try desk --fair examples/tank.model tank.copy
+bytes tank.copy
+try desk --fair other.model other.copy
+found other.copy tank.copy
+try desk --fair odd.model odd.copy
+bytes odd.copy
+try desk --fair edges.model edges.copy
+bytes edges.copy
+try desk --fair examples/plant.model plant.copy
+try desk --fair plant.copy copy.copy
+found copy.copy plant.copy
+
+echo '# A copy in place of another file; a refused model leaves that as it is, and makes no new one'
+cp plant.copy old.copy
+try desk --fair other.model old.copy
+found old.copy tank.copy
+try desk --fair examples/tank.certificate old.copy
+found old.copy tank.copy
+try desk --fair examples/tank.certificate new.copy
+found new.copy tank.copy
+
+echo '# Runs of a model are runs of its copy; a certificate, which belongs to the sheet that it was drawn for, need not fit the copy'
+try desk --fair examples/unsafe-plant.model unsafe-plant.copy
+try desk unsafe-plant.copy examples/unsafe-plant.run
+try desk tank.copy examples/tank.run
+try desk tank.copy examples/tank.certificate
+try desk plant.copy examples/plant.certificate
+
+echo '# The same fair copy, or different ones; models refused'
+try desk --same examples/tank.model other.model
+try desk --same other.model tank.copy
+try desk --same examples/plant.model plant.copy
+try desk --same examples/tank.model examples/tank.model
+try desk --same examples/tank.model examples/unsafe-tank.model
+try desk --same odd.model examples/tank.model
+try desk --same examples/tank.model examples/plant.model
+try desk --same examples/tank.certificate examples/tank.model
+try desk --same examples/tank.model examples/tank.run
+try desk --same examples/tank.run examples/tank.certificate
+
 echo '# Sheets of any length'
 head -c 32768 /dev/zero >zeros
 edit zeros longest.model 0 7f fe 01 01
@@ -181,6 +267,8 @@ head -c 40000 /dev/zero >zeros
 edit zeros overlong.model 0 9c 3e 01 01
 try desk overlong.model examples/tank.certificate
 try desk --joints overlong.model
+try desk --fair overlong.model new.copy
+found new.copy tank.copy
 edit zeros overlong.run 0 9c 3e 01 03
 try desk examples/tank.model overlong.run
 head -c 3000000 /dev/zero >huge.certificate
@@ -190,8 +278,11 @@ try desk empty empty
 try desk examples/tank.model empty
 try desk --row 0 0 examples/tank.model empty
 try desk --joints empty
+try desk --fair empty new.copy
+found new.copy tank.copy
+try desk --same empty empty
 
-echo '# Null pointers in place of each sheet, of the table and of a typed text'
+echo '# Null pointers in place of each sheet, of the table, of the buffer and of a typed text'
 try null examples/plant.model examples/plant.certificate examples/unsafe-plant.run examples/tank.model
 
 # Models without rows: a component of each of the numbers of modes, and no switches; or one mode in each of four components, with so many
@@ -230,7 +321,7 @@ try desk 4096.model 1.certificate
 try desk 4097.model 1.certificate
 try desk --joints 4097.model
 
-echo '# The practice desk: on both sides of its limits, accepted, refused, rows and joint switches'
+echo '# The practice desk: on both sides of its limits, accepted, refused, rows, joint switches and fair copies'
 try desk --practice 16.model 16.certificate
 try desk --practice 18.model 18.certificate
 try desk --practice 64.model empty
@@ -249,6 +340,15 @@ try desk --practice empty empty
 try desk --practice --row 49 19 examples/plant.model examples/plant.certificate
 try desk --practice --row 115 0 examples/plant.model examples/plant.certificate
 try desk --practice --joints examples/tank.model
+try desk --practice --fair 16.model new.copy
+found new.copy 16.model
+try desk --practice --fair 18.model old.copy
+found old.copy tank.copy
+try desk --practice --fair 257.model old.copy
+try desk --practice --same 16.model new.copy
+try desk --practice --same 16.model 18.model
+try desk --practice --same 257.model 16.model
+rm new.copy
 
 echo '# Other limits: as many as the plant has, one more, one less of each, one less of both, one'
 try desk --limits 8 22 examples/plant.model examples/plant.certificate
@@ -264,6 +364,13 @@ try desk --limits 7 22 examples/unsafe-plant.model examples/unsafe-plant.run
 try desk --limits 8 21 --row 3 17 examples/plant.model examples/plant.certificate
 try desk --limits 8 22 --row 3 17 examples/plant.model examples/plant.certificate
 try desk --limits 7 4096 --joints examples/plant.model
+try desk --limits 8 21 --fair examples/plant.model new.copy
+found new.copy plant.copy
+try desk --limits 8 22 --fair examples/plant.model new.copy
+found new.copy plant.copy
+try desk --limits 8 22 --same examples/plant.model new.copy
+try desk --limits 7 22 --same examples/tank.model new.copy
+rm new.copy
 try desk --limits 64 4096 64.model 64.certificate
 try desk --limits 64 4095 4096.model 1.certificate
 try desk --limits 1 4096 4096.model 1.certificate
@@ -280,6 +387,39 @@ try desk --limits 65 4097 72.model empty
 try desk --limits 0 1 --joints empty
 try desk --limits 64 4097 --joints examples/plant.model
 try desk --limits 65 1 --row 115 0 examples/plant.model examples/plant.certificate
+try desk --limits 0 4097 --fair examples/tank.model new.copy
+found new.copy tank.copy
+try desk --limits 65 1 --same examples/tank.model empty
+
+echo '# Copies that are not written: over the model, by its name, another one, links and a folder; over what is no file; half; over a part'
+cp examples/plant.model own.model
+ln own.model hard.model
+ln -s own.model link.model
+ln -s . folder.link
+try desk --fair own.model own.model
+try desk --fair own.model ./own.model
+try desk --fair own.model hard.model
+try desk --fair own.model link.model
+try desk --fair link.model own.model
+try desk --fair own.model folder.link/own.model
+try desk --practice --fair own.model own.model
+ln -s old.copy link.copy
+ln -s new.copy lost.copy
+try desk --fair own.model link.copy
+try desk --fair own.model lost.copy
+try desk --fair own.model folder.link
+try desk --fair own.model no-folder/new.copy
+try desk --fair own.model old.copy/new.copy
+try_short desk --fair own.model new.copy
+try_short desk --fair own.model old.copy
+found new.copy.part plant.copy
+found old.copy.part plant.copy
+cp own.model old.copy.part
+try desk --fair old.copy.part old.copy
+found old.copy.part examples/plant.model
+found own.model examples/plant.model
+found old.copy tank.copy
+found new.copy plant.copy
 
 echo '# What the desk cannot do'
 try_full desk examples/tank.model examples/tank.certificate
@@ -305,6 +445,16 @@ try desk --practice --practice examples/tank.model examples/tank.certificate
 try desk --limits 16 256 --limits 64 4096 --joints examples/tank.model
 try desk --practice --type 1 'a<=1'
 try desk --limits 64 4096 --type 1 'a<=1'
+try desk --fair examples/no-such-file new.copy
+try desk --fair no-such-file no-such-file
+found new.copy plant.copy
+try desk --same examples/no-such-file examples/tank.model
+try desk --same examples/tank.model examples/no-such-file
+try_full desk --same examples/tank.model examples/tank.model
+try_full desk --fair examples/plant.model new.copy
+found new.copy plant.copy
+try desk --fair
+try desk --same examples/tank.model
 try desk --practice examples/tank.model examples/no-such-file
 try_full desk --practice examples/tank.model examples/tank.certificate
 try desk --limits 16 256

@@ -22,7 +22,7 @@ static const char *const meanings[] = {
     "the run's start is not allowed",
     "a step is not allowed",
     "the run does not end in an unsafe state",
-    "the table is too short",
+    "the table or the buffer is too short",
     "the text is not one <= between two expressions",
     "a product of variables, a letter beyond the variables, or a result outside -2147483648 to 2147483647",
 };

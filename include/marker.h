@@ -1,6 +1,6 @@
 /* The marker of papers about hybrid automata, for C. Link with the archive that `rt staticlib entries` writes.
-   Document 01 defines the sheets and the answer, document 02 typed rows and the limits of a desk; what each call answers is proved for
-   all bytes and all limits. */
+   Document 01 defines the sheets and the answer, document 02 typed rows, fair copies and the limits of a desk; what each call answers is
+   proved for all bytes and all limits. */
 #ifndef SILFODDRA_MARKER_H
 #define SILFODDRA_MARKER_H
 
@@ -21,15 +21,16 @@ struct silfoddra_answer {
         9 hypotheses not ascending                                 10 coefficients unequal
        11 bound fails                                              12 the run's start not allowed
        13 a step not allowed                                       14 the run's end not unsafe
-       15 the table too short (the joint list only)                16 a text that is no row (typed rows only, as 17)
+       15 the table or buffer too short (joint list, fair copy)    16 a text that is no row (typed rows only, as 17)
        17 a product of variables, a letter beyond n, or a result outside s32 */
     uint32_t number;
     /* Where the place is: 0 in the model, 1 in the second sheet, 2 the call itself. */
     uint32_t sheet;
     /* A byte offset into that sheet, counted from 0: of the field, proof or step that is refused, or of the first byte left.
-       On acceptance the length of the second sheet. At sheet 2 as the call says. */
+       On acceptance the length of the second sheet, or of the model where there is no other. At sheet 2 as the call says. */
     uint32_t place;
-    /* How many proofs or steps passed, in order, before marking stopped; 0 where none was reached. */
+    /* How many proofs or steps passed, in order, before marking stopped; 0 where none was reached. In the joint list the records, in the
+       fair copy the bytes that were written. */
     uint32_t done;
     /* 0 to 100. A certificate: 100 times done over all its obligations, rounded down, 100 if there are none, at most 99 when
        refused, 0 until its regions are read. A run: 100 when accepted, else 0. */
@@ -117,6 +118,21 @@ struct silfoddra_joint {
 struct silfoddra_answer silfoddra_joint_list(const uint8_t *model, size_t model_length,
                                              struct silfoddra_joint *table, size_t table_length,
                                              uint32_t most_locations, uint32_t most_joints);
+
+/* Writes the fair copy of a model into a buffer that the caller lends: one spelling, by which models can be compared. Each row is divided
+   by the greatest common divisor of all its numbers, the bound too, so that nothing is rounded: 2x <= 3 stays. A row with zero
+   coefficients is left out if its bound is at least 0, else its bound becomes -1. The rows of each condition are sorted, ascending by
+   their coefficients, as signed numbers from the first on, then by the bound; equal rows stand once. All else is as in the model, but
+   for the counts of rows and the sheet's length.
+   The copy reads well under the same limits and is no longer than the model; it allows the same runs and unsafe states, and is its own
+   fair copy. A certificate belongs to the sheet that it was drawn for: it need not fit the copy.
+   The answer has number 0, sheet 0, the model's length as its place, and done, the bytes written: the first ones of the buffer. Later
+   bytes keep their content. A refusal writes nothing: that of the limits, the model's own, or 15 at sheet 2, whose place is the length
+   needed; a buffer as long as the model is always long enough. The buffer must not overlap the model sheet, which is read while the
+   copy is written. A null pointer with length 0 is an empty buffer. */
+struct silfoddra_answer silfoddra_fair_copy(const uint8_t *model, size_t model_length,
+                                            uint8_t *copy, size_t copy_length,
+                                            uint32_t most_locations, uint32_t most_joints);
 
 /* Beside the marking. Obligations, and hypotheses of an obligation, are numbered from 0 in the order of document 01. The model
    is read, then the second sheet, a certificate, up to the end of its regions; its proofs are not read. */

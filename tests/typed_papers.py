@@ -1,12 +1,13 @@
 #!/usr/bin/env python3
-"""Writes the texts that crates/calls_test reads as rows, and what it must print for each, from document 02, order 1.
+"""Writes the texts that crates/calls_test reads as rows, and what it must print for each, from document 02, order 1; after them the fair
+copies of tests/fair_papers.py.
 
 usage: typed_papers.py FOLDER      writes FOLDER/stdin and FOLDER/stdout
 
 The lines come from tests/typed.py, a second reading. Where the order itself settles an answer the text states it here as well, and the
 script stops where the two differ.
 
-A record on standard input: n (1 byte), the text's length (2 bytes), the text. A line on standard output: number, place, the eight
+A record of a text on standard input: n (1 byte), the text's length (2 bytes), the text. A line on standard output: number, place, the eight
 coefficients, the bound. The answer's sheet is always 2, done and score are 0.
 """
 import sys
@@ -14,9 +15,10 @@ from itertools import product
 
 sys.dont_write_bytecode = True
 
+import fair_papers
 import typed
 
-MOST_INPUT = 65535
+MOST_INPUT, MOST_CALLS = 262143, 8000
 LEAST, GREATEST = -2 ** 31, 2 ** 31 - 1
 
 records, lines = [], []
@@ -29,6 +31,7 @@ def text(n, data, *stated):
     assert answer == (answer[0], 2, answer[2], 0, 0)
     given = answer[0], answer[2], coefs, bound
     assert not stated or given == stated, (n, data, given, stated)
+    assert bytes([n]) != fair_papers.FAIR
     records.append(bytes([n]) + len(data).to_bytes(2, 'big') + data)
     lines.append(' '.join(str(number) for number in (*given[:2], *coefs, bound)))
 
@@ -246,8 +249,8 @@ for x, y, z in product(['2', 'a', '-b', '46341'], repeat=3):
         text(2, x + first + '(' + y + second + z + ')<=1')
 
 folder = sys.argv[1]
-data = b''.join(records)
-assert len(data) <= MOST_INPUT, len(data)
+data = b''.join(records + fair_papers.records)
+assert len(data) <= MOST_INPUT and len(records + fair_papers.records) <= MOST_CALLS, len(data)
 open(folder + '/stdin', 'wb').write(data)
-open(folder + '/stdout', 'w').write('\n'.join(lines) + '\n')
-print(len(records), 'texts', len(data), 'bytes')
+open(folder + '/stdout', 'w').write('\n'.join(lines + fair_papers.lines) + '\n')
+print(len(records), 'texts', len(fair_papers.records), 'fair copies', len(data), 'bytes')

@@ -14,6 +14,10 @@ pub enum Call {
     Certificate,
     Run,
     JointList,
+    /// Into a buffer of 32,768 bytes.
+    FairCopy,
+    /// Into a buffer of one byte less than the model has.
+    ShortCopy,
     /// The sister of show row, for hypothesis 0 of this obligation.
     ShowRow(u32),
 }
@@ -24,6 +28,8 @@ impl fmt::Display for Call {
             Call::Certificate => write!(f, "certificate"),
             Call::Run => write!(f, "run"),
             Call::JointList => write!(f, "joint list"),
+            Call::FairCopy => write!(f, "fair copy"),
+            Call::ShortCopy => write!(f, "fair copy, refused"),
             Call::ShowRow(obligation) => write!(f, "show row of obligation {obligation}"),
         }
     }
@@ -87,11 +93,26 @@ pub fn calls(call: Call) -> (Mark, Mark) {
                 Box::new(move |model, _| marker::joint_list(model, &mut by_rust.borrow_mut(), EXAM)),
             )
         }
+        Call::FairCopy => copying(|model, buffer| buffer.resize(32_768.max(model.len()), 0)),
+        Call::ShortCopy => copying(|model, buffer| buffer.resize(model.len() - 1, 0)),
         Call::ShowRow(obligation) => (
             Box::new(move |model, second| library::show_row(model, second, obligation, 0, EXAM)),
             Box::new(move |model, second| marker::show_row(model, second, obligation, 0, EXAM).0),
         ),
     }
+}
+
+/// Fair copies into a buffer that is sized first, which costs nothing once it has that size.
+fn copying(sized: fn(&[u8], &mut Vec<u8>)) -> (Mark, Mark) {
+    let by = |call: fn(&[u8], &mut [u8], marker::Limits) -> Answer| -> Mark {
+        let buffer = RefCell::new(vec![]);
+        Box::new(move |model, _| {
+            let buffer = &mut buffer.borrow_mut();
+            sized(model, buffer);
+            call(model, buffer, EXAM)
+        })
+    };
+    (by(library::fair_copy), by(marker::fair_copy))
 }
 
 /// The mean processor time of one call over this many.

@@ -34,6 +34,11 @@ pub fn cases() -> Vec<Case> {
         case("4,096 joint switches", Call::JointList, 0, extremes::joint_switches(&[16; 3], 0)),
         case("near all limits", Call::ShowRow(0), 0, extremes::near_limits()),
         case("near all limits", Call::ShowRow(6_419), 0, extremes::near_limits()),
+        case("T", Call::FairCopy, 0, extremes::all().swap_remove(0)),
+        case("model of 32,768 bytes, its copy as long", Call::Run, 0, extremes::longest_copy()),
+        case("the same model", Call::FairCopy, 0, extremes::longest_copy()),
+        case("the same model, a buffer one byte too short", Call::ShortCopy, 15, extremes::longest_copy()),
+        case("model of 32,768 bytes, most of it repeated rows", Call::FairCopy, 0, extremes::longest_model()),
     ]
 }
 
@@ -77,11 +82,18 @@ fn joints(call: Call, switches: &[usize]) -> Case {
     case(&format!("{count} joint switches"), call, 0, extremes::joint_switches(switches, 0))
 }
 
+/// A model with so many switches of four jump rows each, none of which changes in its copy.
+fn copied(call: Call, switches: usize) -> Case {
+    let number = if call == Call::Run { 14 } else { 0 };
+    case(&format!("{switches} switches of four jump rows each"), call, number, extremes::switches_to_copy(switches))
+}
+
 /// Papers of doubling size.
 pub fn growing() -> Vec<(&'static str, Vec<Case>)> {
     let certificates = [[2, 4, 4], [4, 4, 4], [4, 4, 8], [4, 8, 8], [8, 8, 8], [8, 8, 16], [8, 16, 16]];
     let models = [[2, 4, 4], [4, 4, 4], [4, 4, 8], [4, 8, 8], [8, 8, 8], [8, 8, 16], [8, 16, 16], [16, 16, 16]];
     let runs = [64, 128, 256, 512, 1_024, 2_048, 4_095];
+    let copies = [7, 14, 29, 59, 118];
     vec![
         ("Certificates of doubling size:", certificates.iter().map(|switches| products(switches)).collect()),
         (
@@ -97,6 +109,8 @@ pub fn growing() -> Vec<(&'static str, Vec<Case>)> {
             models.iter().map(|switches| joints(Call::Certificate, switches)).collect(),
         ),
         ("The same models, the joint list:", models.iter().map(|switches| joints(Call::JointList, switches)).collect()),
+        ("Models of doubling size, the fair copy:", copies.iter().map(|&switches| copied(Call::FairCopy, switches)).collect()),
+        ("The same models, only read, beside a run without steps:", copies.iter().map(|&switches| copied(Call::Run, switches)).collect()),
     ]
 }
 

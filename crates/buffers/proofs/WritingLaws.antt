@@ -4,7 +4,7 @@ use mathlib.Core.List.{List, [], _∷_, _++_}
 use Prim.Native.Nat.{ℕ, _+_}
 use native.Mathlib.Omega.{arith}
 use lib.ListN.{length, length-append}
-use Rattle.buffers.specs.Over.{over, half}
+use Rattle.buffers.specs.Over.{over, word, half}
 use Rattle.buffers.specs.Written.{Written}
 use Rattle.buffers.proofs.OverLaws.{over-nothing, over-then, over-length}
 
@@ -45,11 +45,20 @@ left-last {now = now} {next = next} part l w = record {
 pub written-length : {before : List ℕ} {at : ℕ} {bytes after : List ℕ} {next : ℕ} → Written before at bytes after next → length after ≡ length before
 written-length {before = before} {at = at} {bytes = bytes} w = ap (λ (b : List ℕ). length b) (w .holds) ∙ over-length before at bytes
 
--- the promise on one byte, as a record
-pub as-written : {before : List ℕ} {at b : ℕ} {after : List ℕ} {next : ℕ} → (next ≡ at + 1) × (after ≡ over before at (b ∷ [])) → Written before at (b ∷ []) after next
-as-written w = record { ends = w .0; holds = w .1 }
+-- A promise of two equations as a record, and back; of one byte, two and four
+pub as-put : {before : List ℕ} {at : ℕ} (bytes : List ℕ) {after : List ℕ} {next : ℕ} → (next ≡ at + length bytes) × (after ≡ over before at bytes) → Written before at bytes after next
+as-put bytes w = record { ends = w .0; holds = w .1 }
 
--- two bytes further on
-pub half-ends : {before : List ℕ} {at : ℕ} (v : ℕ) {after : List ℕ} {next : ℕ} → Written before at (half v) after next → next ≡ at + 2
+pub as-told : {before : List ℕ} {at : ℕ} {bytes after : List ℕ} {next : ℕ} → Written before at bytes after next → (next ≡ at + length bytes) × (after ≡ over before at bytes)
+as-told w = (w .ends, w .holds)
+
+pub as-written : {before : List ℕ} {at b : ℕ} {after : List ℕ} {next : ℕ} → (next ≡ at + 1) × (after ≡ over before at (b ∷ [])) → Written before at (b ∷ []) after next
+as-written {b = b} w = as-put (b ∷ []) w
+
+pub as-half : {before : List ℕ} {at : ℕ} (v : ℕ) {after : List ℕ} {next : ℕ} → (next ≡ at + 2) × (after ≡ over before at (half v)) → Written before at (half v) after next
 unfolding half
-half-ends v w = w .ends
+as-half v w = as-put (half v) w
+
+pub as-word : {before : List ℕ} {at : ℕ} (v : ℕ) {after : List ℕ} {next : ℕ} → (next ≡ at + 4) × (after ≡ over before at (word v)) → Written before at (word v) after next
+unfolding word
+as-word v w = as-put (word v) w

@@ -5,7 +5,6 @@ ghost use mathlib.Core.List.{[], _∷_};
 ghost use Prim.Native.Nat.{_+_, _<_, _^_};
 ghost use lib.ListN.{length};
 ghost use Rattle.buffers.specs.Over.{over, word, half};
-ghost use Rattle.buffers.specs.Written.{Written};
 
 // One byte, where there is room for it. The place after it.
 pub fn put_byte(out: &mut [u8], at: usize, b: u8) -> usize
@@ -35,7 +34,7 @@ pub fn put_bytes(out: &mut [u8], at: usize, bytes: &[u8]) -> usize
 // Two bytes, the higher first. The place after them.
 pub fn put_half(out: &mut [u8], at: usize, v: u32) -> usize
     requires { ⌜ at < 2 ^ 61 ⌝ }
-    ensures { λ r. ⌜ Written (now (out .entry)) at (half v) (now (out .exit)) r ⌝ }
+    ensures { λ r. ⌜ (r ≡ at + 2) × (now (out .exit) ≡ over (now (out .entry)) at (half v)) ⌝ }
 {
     let high = (v / 256 % 256) as u8;
     let low = (v % 256) as u8;
@@ -46,7 +45,7 @@ pub fn put_half(out: &mut [u8], at: usize, v: u32) -> usize
 // Four bytes, the highest first. The place after them.
 pub fn put_word(out: &mut [u8], at: usize, v: u32) -> usize
     requires { ⌜ at < 2 ^ 61 ⌝ }
-    ensures { λ r. ⌜ Written (now (out .entry)) at (word v) (now (out .exit)) r ⌝ }
+    ensures { λ r. ⌜ (r ≡ at + 4) × (now (out .exit) ≡ over (now (out .entry)) at (word v)) ⌝ }
 {
     let a = (v / 256 / 256 / 256 % 256) as u8;
     let b = (v / 256 / 256 % 256) as u8;

@@ -6,10 +6,10 @@ use Prim.Native.Nat.{ℕ, zero, suc, _+_, _*_, _-_, _≤_, _<_}
 use native.Mathlib.Omega.{arith}
 use lib.IntN.{ℤ}
 use lib.ListN.{length, getD, take}
-use Rattle.farkas.specs.Lists.{All, none, more}
+use Rattle.farkas.specs.Lists.{none, more}
 use Rattle.farkas.specs.Rows.{Row}
 use Rattle.farkas.specs.Words.{signedAt, numbersAt, rowIn}
-use Rattle.fair_rows.specs.FairRows.{quotient, divided, fairRow, insert, insertAll, fairRows}
+use Rattle.fair_rows.specs.FairRows.{quotient, divided, insert, insertAll, fairRows}
 use Rattle.fair_rows.proofs.OrderLaws.{Ascending, ends}
 use Rattle.fair_rows.proofs.FairLaws.{fair-ascending}
 use Rattle.formats.specs.Versions.{rowBytes, strictAt}

@@ -1,14 +1,13 @@
 -- Kept numbers: one more kept before others, and what else stays. Assumes nothing.
 use mathlib.Core.Path.{_≡_, refl, sym, ap, ap₂, _∙_, subst}
 use mathlib.Core.Bool.{false}
-use mathlib.Core.List.{List, [], _∷_, _++_, map}
+use mathlib.Core.List.{List, _∷_, map}
 use Prim.Native.Nat.{ℕ, zero, suc, _+_, _*_, _-_, _≤_, _<_}
 use native.Mathlib.Nat.{add-zero}
 use native.Mathlib.Omega.{arith}
 use lib.IntN.{ℤ}
 use lib.ListN.{length, getD, set, length-set}
 use lib.Seq.{getD-set-same, getD-set-other}
-use Rattle.farkas.specs.Rows.{Row}
 use Rattle.farkas.specs.Words.{signedAt, numbersAt}
 use Rattle.fair_rows.specs.FairRows.{quotient}
 use Rattle.fair_conditions.specs.Held.{lowered, keptNumbers, KeptOutside, keptRow}

@@ -1,13 +1,13 @@
 -- Numbers as four bytes have them, without their signs, divided, and raised by 2^31. Assumes nothing.
-use mathlib.Core.Path.{_≡_, refl, sym, ap, _∙_}
-use mathlib.Core.Bool.{Bool, true, false, cond, not}
+use mathlib.Core.Path.{_≡_, sym, ap, _∙_}
+use mathlib.Core.Bool.{Bool, true, false, cond}
 use Prim.Native.Nat.{ℕ, zero, suc, _+_, _-_, _/_, _^_, _≤_, _<_}
 use native.Mathlib.Nat.{div-le-self}
 use native.Mathlib.Omega.{arith}
 use borrow.Author.Tests.{lt-ltb, le-ltb}
 use lib.Dec.{ltb, leb·zero}
 use lib.Signed.{leZ}
-use lib.IntN.{ℤ, pos, negsuc, negℤ, natAbs}
+use lib.IntN.{pos, negsuc, negℤ, natAbs}
 use Rattle.farkas.specs.Words.{signed}
 use Rattle.fair_rows.specs.FairRows.{quotient}
 use Rattle.writing.specs.Writing.{twos}

@@ -1,7 +1,7 @@
 -- Rows as they are written: number by number, row by row, after their count. Assumes nothing.
-use mathlib.Core.Path.{_≡_, refl, sym, ap, ap₂, _∙_, subst}
+use mathlib.Core.Path.{_≡_, sym, ap, ap₂, _∙_}
 use mathlib.Core.List.{List, [], _∷_, _++_, map, append-assoc, append-nil}
-use Prim.Native.Nat.{ℕ, zero, suc, _+_, _*_, _-_, _≤_, _<_}
+use Prim.Native.Nat.{ℕ, _+_, _*_, _-_, _≤_, _<_}
 use native.Mathlib.Nat.{add-zero}
 use native.Mathlib.Numerals.{add-one}
 use native.Mathlib.Omega.{arith}
@@ -14,7 +14,7 @@ use Rattle.formats.specs.Rows.{SheetRow}
 use Rattle.writing.specs.Changed.{unplaced}
 use Rattle.writing.specs.Writing.{twos, word, writeNumber, writeMark, writeRow, writeCondition}
 use Rattle.buffers.specs.Written.{Written}
-use Rattle.buffers.proofs.WritingLaws.{Left, left-all, left-on, left-as, left-none, left-last}
+use Rattle.buffers.proofs.WritingLaws.{Left, left-all, left-on, left-as, left-none}
 use Rattle.fair_rows.specs.FairRows.{fairRows}
 use Rattle.fair_models.specs.FairCopy.{fairCondition}
 use Rattle.fair_conditions.specs.Held.{lowered, keptNumbers, keptRow, rowsBy}

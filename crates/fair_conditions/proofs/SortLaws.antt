@@ -1,7 +1,7 @@
 -- Kept rows compared and sorted: the first numbers that differ, one row through the order, and what that makes of sorted rows. Assumes
 -- nothing.
 use mathlib.Core.Path.{_≡_, refl, sym, ap, ap₂, _∙_, subst}
-use mathlib.Core.Bool.{Bool, true, false, cond}
+use mathlib.Core.Bool.{Bool, true, false}
 use mathlib.Core.List.{List, [], _∷_, _++_, map, append-assoc}
 use Prim.Native.Nat.{ℕ, zero, suc, _+_, _*_, _-_, _^_, _≤_, _<_}
 use native.Mathlib.Numerals.{add-one}
@@ -9,14 +9,14 @@ use native.Mathlib.Nat.{add-zero}
 use native.Mathlib.Omega.{arith}
 use borrow.Author.Tests.{ltb-true, ltb-false, lt-ltb, le-ltb}
 use lib.Dec.{ltb}
-use lib.IntN.{ℤ, pos, negsuc}
+use lib.IntN.{ℤ, pos}
 use lib.ListN.{length, getD, take, drop, set, take-append-drop, drop-of-length-le}
-use lib.Seq.{take-suc, drop-cons, take-suc-set, drop-set-lt, take-set-lt, length-take-le, getD-take, take-take, set-getD}
+use lib.Seq.{drop-cons, take-suc-set, drop-set-lt, take-set-lt, length-take-le, getD-take, take-take, set-getD}
 use lib.Signed.{ltZ}
 use Rattle.farkas.specs.Lists.{All, none, more}
 use Rattle.farkas.specs.Rows.{Row}
 use Rattle.fair_rows.specs.FairRows.{Order, lower, same, higher, orderOf, firstOf, order, keysOf, markOf, placed, insert}
-use Rattle.fair_rows.proofs.OrderLaws.{Ascending, rise, done, insert-first}
+use Rattle.fair_rows.proofs.OrderLaws.{Ascending, rise, insert-first}
 use Rattle.fair_conditions.specs.Held.{lowered, keptNumbers, keptRow, standing, carriedOn, leftBehind, slipBy, slip, Among}
 use Rattle.fair_conditions.proofs.NumberLaws.{lowered-low, lowered-high}
 

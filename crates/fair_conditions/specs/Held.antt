@@ -7,9 +7,15 @@ use mathlib.Core.Path.{_≡_}
 use Prim.Native.Nat.{ℕ, zero, suc, _+_, _*_, _-_, _%_, _^_, _≤_, _<_}
 use lib.Dec.{T, ltb, eqb}
 use lib.IntN.{ℤ, pos, negsuc}
-use lib.ListN.{getD, take}
+use lib.ListN.{length, getD, take}
 use Rattle.farkas.specs.Lists.{All}
 use Rattle.farkas.specs.Rows.{Row}
+use Rattle.formats.specs.Rows.{Condition}
+use Rattle.formats.specs.Versions.{rowBytes}
+use Rattle.fields.specs.Places.{rowsFrom}
+use Rattle.writing.specs.Writing.{writeCondition}
+use Rattle.fair_models.specs.FairCopy.{fairCondition}
+use Rattle.fair_conditions.specs.declared.conditions.Stretch.{Stretch}
 use Rattle.fair_rows.specs.FairRows.{dividesAll, divided, fairRow, Order, lower, same, higher, order, keysOf}
 
 -- a number whose divisors are the common ones of two numbers, and of a list
@@ -78,3 +84,17 @@ Among least ks = All (λ k. (least ≤ k) × (k < 8)) ks
 -- the rows of an order
 abbrev pub rowsBy : List ℕ → ℕ → List ℕ → ℕ → List Row
 rowsBy kept n sorted count = map (keptRow kept n) (take count sorted)
+
+-- a condition of the copy: the fair rows of so many rows of a sheet
+abbrev pub stretchRows : List ℕ → Stretch → Condition
+stretchRows s stretch = rowsFrom s (stretch .version) (stretch .n) (stretch .place) (stretch .rows)
+
+abbrev pub stretchBytes : List ℕ → Stretch → List ℕ
+stretchBytes s stretch = writeCondition (stretch .version) (fairCondition (stretchRows s stretch))
+
+-- rows that stand within their sheet, of sizes in use
+pub record GoodStretch (s : List ℕ) (stretch : Stretch) : Type 0 where
+  pub within : (j : ℕ) → j < stretch .rows → stretch .place + rowBytes (stretch .version) (stretch .n) * (j + 1) ≤ length s
+  pub short : length s ≤ 32768
+  pub wide : stretch .n ≤ 16
+  pub few : stretch .rows ≤ 8

@@ -18,10 +18,10 @@ ghost use Rattle.fields.specs.Places.{rowsFrom};
 ghost use Rattle.formats.specs.Joint.{joinAll};
 ghost use Rattle.formats.specs.Versions.{rowBytes};
 ghost use Rattle.writing.specs.Changed.{unplaced};
-ghost use Rattle.writing.specs.Writing.{writeNumber, writeRow, writeCondition};
+ghost use Rattle.writing.specs.Writing.{writeNumber, writeRow};
+ghost use Rattle.buffers.specs.Over.{over};
 ghost use Rattle.buffers.specs.Written.{Written};
-ghost use Rattle.fair_models.specs.FairCopy.{fairCondition};
-ghost use Rattle.fair_conditions.specs.Held.{keptNumbers, Among, rowsBy};
+ghost use Rattle.fair_conditions.specs.Held.{keptNumbers, Among, rowsBy, stretchBytes, GoodStretch};
 
 // Rows of a sheet: its version, how many coefficients a row has, the place of the first, and how many there are.
 pub struct Stretch {
@@ -127,9 +127,10 @@ pub fn put_condition(
     kept: &mut [u32],
     sorted: &mut [u8],
 ) -> usize
-    requires { ⌜ ((j : ℕ) → j < stretch .rows → stretch .place + rowBytes (stretch .version) (stretch .n) * (j + 1) ≤ length (now s)) × ((length (now s) ≤ 32768) × ((stretch .n ≤ 16) × (stretch .rows ≤ 8))) ⌝ }
+    requires { ⌜ GoodStretch (now s) stretch ⌝ }
     requires { ⌜ (at < 2 ^ 58) × ((136 ≤ length (now kept)) × (8 ≤ length (now sorted))) ⌝ }
-    ensures { λ r. ⌜ Written (now (out .entry)) at (writeCondition (stretch .version) (fairCondition (rowsFrom (now (s .entry)) (stretch .version) (stretch .n) (stretch .place) (stretch .rows)))) (now (out .exit)) r ⌝ }
+    ensures { λ r. ⌜ r ≡ at + length (stretchBytes (now (s .entry)) stretch) ⌝ }
+    ensures { λ _. ⌜ now (out .exit) ≡ over (now (out .entry)) at (stretchBytes (now (s .entry)) stretch) ⌝ }
     ensures { λ r. ⌜ r ≤ at + 545 ⌝ }
 {
     let count = gather(

@@ -3,7 +3,7 @@
 use farkas::words::number;
 ghost use mathlib.Core.Path.{_≡_};
 ghost use mathlib.Core.List.{map};
-ghost use Prim.Native.Nat.{_+_, _*_, _^_, _≤_, _<_};
+ghost use Prim.Native.Nat.{_+_, _*_, _≤_, _<_};
 ghost use lib.IntN.{natAbs};
 ghost use lib.ListN.{length};
 ghost use Rattle.farkas.specs.Words.{signed, numbersAt, NumbersIn, rowIn};
@@ -38,7 +38,7 @@ fn raised_quotient(code: u32, divisor: u32) -> u32
 }
 
 // A raised number as four bytes have it.
-pub fn coded(raised: u32) -> u32
+pub(crate) fn coded(raised: u32) -> u32
     ensures { λ r. ⌜ r ≡ twos (lowered raised) ⌝ }
 {
     if raised < SIGN_BIT {
@@ -77,7 +77,7 @@ fn common_of(s: &[u8], at: usize, count: usize) -> u32
 
 // What a row with n coefficients is divided by, the greatest common divisor of its numbers, the bound among them; 0 where the row is
 // dropped, one of zeros with a bound of at least 0.
-pub fn row_divisor(s: &[u8], at: usize, n: usize) -> u32
+pub(crate) fn row_divisor(s: &[u8], at: usize, n: usize) -> u32
     requires { ⌜ NumbersIn (now s) at (n + 1) ⌝ }
     ensures { λ r. ⌜ RowDivisor (rowIn (now (s .entry)) at n) r ⌝ }
 {
@@ -93,7 +93,14 @@ pub fn row_divisor(s: &[u8], at: usize, n: usize) -> u32
 }
 
 // So many numbers, divided and kept from a place on.
-pub fn keep_divided(s: &[u8], at: usize, count: usize, divisor: u32, kept: &mut [u32], base: usize)
+pub(crate) fn keep_divided(
+    s: &[u8],
+    at: usize,
+    count: usize,
+    divisor: u32,
+    kept: &mut [u32],
+    base: usize,
+)
     requires { ⌜ NumbersIn (now s) at count × ((1 ≤ divisor) × (base + count ≤ length (now kept))) ⌝ }
     ensures { λ _. ⌜ keptNumbers (now (kept .exit)) base count ≡ map (quotient divisor) (numbersAt (now (s .entry)) at count) ⌝ }
     ensures { λ _. ⌜ KeptOutside base count (now (kept .entry)) (now (kept .exit)) ⌝ }

@@ -1,7 +1,7 @@
 // Kept rows in ascending order. Row k stands at 17·k, its numbers one after the other; the order is a list of row numbers, and a row that
 // stands in it already is not taken again.
 ghost use mathlib.Core.Path.{_≡_};
-ghost use Prim.Native.Nat.{_+_, _*_, _^_, _≤_, _<_};
+ghost use Prim.Native.Nat.{_+_, _*_, _≤_, _<_};
 ghost use lib.ListN.{length, take, set, getD};
 ghost use Rattle.fair_rows.specs.FairRows.{order};
 ghost use Rattle.fair_conditions.specs.Held.{keptNumbers, standing, keptRow, carriedOn, leftBehind, slip, Among};
@@ -40,7 +40,7 @@ fn compare(kept: &[u32], a: usize, b: usize, count: usize) -> u8
 }
 
 // Where row k stands.
-pub fn row_base(k: u8) -> usize
+pub(crate) fn row_base(k: u8) -> usize
     ensures { λ r. ⌜ r ≡ 17 * k ⌝ }
 {
     ROW_LENGTH * k as usize
@@ -67,7 +67,7 @@ fn meet(kept: &[u32], sorted: &mut [u8], i: usize, carried: u8, count: usize) ->
 }
 
 // Row k, with n coefficients, takes its place among the first rows of the order. How many there are then.
-pub fn insert(kept: &[u32], sorted: &mut [u8], count: usize, k: u8, n: usize) -> usize
+pub(crate) fn insert(kept: &[u32], sorted: &mut [u8], count: usize, k: u8, n: usize) -> usize
     requires { ⌜ (136 ≤ length (now kept)) × (n ≤ 16) ⌝ }
     requires { ⌜ (count < length (now sorted)) × ((k < 8) × Among 0 (take count (now sorted))) ⌝ }
     ensures { λ r. ⌜ take r (now (sorted .exit)) ≡ slip (keptRow (now (kept .entry)) n) k (take count (now (sorted .entry))) ⌝ }

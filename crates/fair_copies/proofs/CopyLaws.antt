@@ -1,23 +1,21 @@
 -- The copy whole: what an open model gives the walk, its body by its parts, and its header. Assumes nothing.
 use mathlib.Core.Path.{_≡_, refl, sym, ap, ap₂, _∙_, subst}
 use mathlib.Core.Bool.{Bool, true, false, cond, _||_}
-use mathlib.Core.List.{List, [], _∷_, _++_, map, append-assoc, List·Memᴰ}
-use Prim.Native.Nat.{ℕ, zero, suc, _+_, _-_, _≤_, _<_}
-use native.Mathlib.Nat.{zero-add}
+use mathlib.Core.List.{List, [], _∷_, _++_, map}
+use Prim.Native.Nat.{ℕ, _+_, _-_, _≤_, _<_}
 use native.Mathlib.Omega.{arith}
 use borrow.Author.Tests.{le-leb, lt-leb}
 use lib.Dec.{T, ltb, eqb, leb, ltb→lt, eqb→eq}
-use lib.ListN.{length, length-map, length-append}
+use lib.ListN.{length, length-map}
 use Rattle.farkas.specs.Lists.{All, none, more}
 use Rattle.farkas.specs.Sizes.{Bytes}
-use Rattle.formats.specs.Reading.{Got, got, refused}
+use Rattle.formats.specs.Reading.{got}
 use Rattle.formats.specs.Model.{Model, Component, Unsafe}
 use Rattle.formats.specs.Joint.{countUp, joinAll}
 use Rattle.formats.specs.declared.Limits.{Limits}
 use Rattle.formats.specs.ModelSheet.{readModel}
 use Rattle.formats.proofs.Members.{all-in, in-map, in-count}
-use Rattle.formats.proofs.Versions.{version-small}
-use Rattle.models.specs.Index.{entry, versionIn, ownerPlace, componentPlace, modePlace, unsafePlace, modeFrom, componentFrom, componentsFrom, unsafeFrom, modelFrom, GoodIndex}
+use Rattle.models.specs.Index.{entry, versionIn, ownerPlace, componentPlace, modePlace, unsafePlace, modeFrom, componentFrom, componentsFrom, unsafeFrom, modelFrom}
 use Rattle.rules.specs.Opening.{ModelOpened, opens, shut, openModel}
 use Rattle.rules.proofs.Opening.{Begins, begins}
 use Rattle.rules.proofs.ListFacts.{count-length}

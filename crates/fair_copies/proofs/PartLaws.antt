@@ -1,7 +1,7 @@
 -- The parts of a copy by where the index keeps them: what the callees of the walk are handed. Assumes nothing.
 use mathlib.Core.Path.{_≡_, refl, sym, ap, ap₂, _∙_, subst}
 use mathlib.Core.List.{List, [], _∷_, _++_, map}
-use Prim.Native.Nat.{ℕ, zero, suc, _+_, _*_, _≤_, _<_}
+use Prim.Native.Nat.{ℕ, zero, suc, _+_, _≤_, _<_}
 use native.Mathlib.Nat.{add-zero}
 use native.Mathlib.Omega.{arith}
 use lib.ListN.{length, length-map}
@@ -9,7 +9,7 @@ use Rattle.formats.specs.Joint.{countUp, joinAll}
 use Rattle.rules.proofs.ListFacts.{count-length}
 use Rattle.models.specs.Index.{entry, versionIn, componentPlace, modePlace, switchPlace, unsafePlace, spanRows, modeFrom, switchFrom, componentFrom, unsafeFrom, GoodSpan}
 use Rattle.writing.specs.Changed.{changedMode, changedSwitch, changedComponent, changedUnsafe}
-use Rattle.fair_copies.specs.Copyable.{entries, modeBytes, switchBytes, componentBytes, unsafeBytes, modesBytes, switchesBytes}
+use Rattle.fair_copies.specs.Copyable.{entries, componentBytes, unsafeBytes, modesBytes, switchesBytes}
 use Rattle.fair_copies.proofs.EachPut.{joined-map}
 use Rattle.writing.specs.Writing.{half, writeCondition, writeMode, writeSwitch, writeComponent, writeUnsafe}
 use Rattle.buffers.specs.Written.{Written}

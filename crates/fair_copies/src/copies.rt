@@ -21,7 +21,6 @@ ghost use lib.Dec.{leb};
 ghost use lib.ListN.{length};
 ghost use Rattle.buffers.specs.Written.{Written};
 ghost use Rattle.models.specs.Index.{modelFrom};
-ghost use Rattle.papers.specs.Opening.{ModelOpen};
 ghost use Rattle.writing.specs.Writing.{writeBody};
 ghost use Rattle.fair_models.specs.FairCopy.{fairModel, fairCopy, copyAnswer, copyOver, fairAnswer, bufferAfter};
 ghost use Rattle.fair_copies.specs.Copyable.{Copyable, Room};

@@ -30,14 +30,20 @@ ghost use mathlib.Core.Path.{_≡_};
 ghost use Prim.Native.Nat.{ℕ, _+_, _*_, _^_, _≤_, _<_};
 ghost use lib.ListN.{length};
 ghost use Rattle.formats.specs.Joint.{countUp, joinAll};
-ghost use Rattle.models.specs.Index.{entry, versionIn, indexLength, componentsIn, conditionsIn, variablesIn, componentPlace, modePlace, switchPlace, spanRows, GoodSpan, GoodModeAt, GoodSwitchAt};
+ghost use Rattle.models.specs.Index.{entry, versionIn, indexLength, componentsIn, conditionsIn, variablesIn, spanRows, GoodSpan, GoodModeAt, GoodSwitchAt};
 ghost use Rattle.writing.specs.Writing.{writeCondition};
 ghost use Rattle.buffers.specs.Written.{Written};
 ghost use Rattle.fair_models.specs.FairCopy.{fairCondition};
 ghost use Rattle.fair_copies.specs.Copyable.{Copyable, Room, entries, modeBytes, switchBytes, componentBytes, unsafeBytes, modesBytes, switchesBytes};
 
 // So many numbers of an index, a byte each. The place after them.
-pub fn put_entries(out: &mut [u8], at: usize, index: &Index, from: usize, count: usize) -> usize
+pub(crate) fn put_entries(
+    out: &mut [u8],
+    at: usize,
+    index: &Index,
+    from: usize,
+    count: usize,
+) -> usize
     requires { ⌜ (at < 2 ^ 58) × ((from + count ≤ indexLength) × ((k : ℕ) → k < count → entry (now index) (from + k) < 256)) ⌝ }
     ensures { λ r. ⌜ Written (now (out .entry)) at (entries (now (index .entry)) from count) (now (out .exit)) r ⌝ }
     ensures { λ r. ⌜ r ≡ at + count ⌝ }
@@ -264,7 +270,7 @@ fn put_unsafe(
 }
 
 // All components. The place after them.
-pub fn put_components(
+pub(crate) fn put_components(
     out: &mut [u8],
     at: usize,
     model: &[u8],
@@ -288,7 +294,7 @@ pub fn put_components(
 }
 
 // All unsafe conditions. The place after them.
-pub fn put_unsafes(
+pub(crate) fn put_unsafes(
     out: &mut [u8],
     at: usize,
     model: &[u8],

@@ -19,7 +19,9 @@ use Rattle.formats.proofs.ModelSheet.{read-whole}
 use Rattle.formats.proofs.WellFormed.{GoodComponent, well-formed}
 use Rattle.writing.specs.Writing.{writeModel}
 use Rattle.writing.specs.Changed.{changed, bareRows, bare}
-use Rattle.writing.proofs.ChangedLaws.{changed-twice, changed-same, changed-few, changed-writable, changed-length}
+use Rattle.writing.proofs.ChangedLaws.{changed-twice, changed-same}
+use Rattle.writing.proofs.ChangedJoints.{changed-few}
+use Rattle.writing.proofs.ChangedWritable.{changed-writable, changed-length}
 use Rattle.writing.proofs.FromSheets.{writable}
 use Rattle.writing.proofs.RoundTrip.{reads-back}
 use Rattle.writing.proofs.Lengths.{sheet-of, written-length}

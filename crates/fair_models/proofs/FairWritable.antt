@@ -21,7 +21,7 @@ use Rattle.formats.specs.Rows.{Condition}
 use Rattle.writing.specs.Writing.{twos}
 use Rattle.writing.specs.Changed.{unplaced}
 use Rattle.writing.proofs.Writable.{Fits, FitsRow}
-use Rattle.writing.proofs.ChangedLaws.{Shortens}
+use Rattle.writing.proofs.ChangedWritable.{Shortens}
 use Rattle.rules.proofs.Hypotheses.{all-so}
 use Rattle.fair_models.specs.FairCopy.{fairCondition}
 use Rattle.fair_models.proofs.FairConditions.{rowsIn}

@@ -3,3 +3,4 @@ pub mod FairConditions
 pub mod FairWritable
 pub mod EveryCondition
 pub mod CopyMeans
+pub mod CopyCall

@@ -16,7 +16,7 @@ use Rattle.formats.specs.Joint.{stays, switchOf, isJoint, modesAfter}
 use Rattle.formats.specs.RunSheet.{Step, flow, jump}
 use Rattle.formats.proofs.WellFormed.{Plain, GoodMode, GoodComponent}
 use Rattle.writing.specs.Changed.{changedMode, changedSwitch, changedComponent, changedUnsafe, changed}
-use Rattle.writing.proofs.ChangedLaws.{changed-locations, changed-modes-at, changed-location-of, changed-is-joint, changed-modes-after}
+use Rattle.writing.proofs.ChangedJoints.{changed-locations, changed-modes-at, changed-location-of, changed-is-joint, changed-modes-after}
 use Rattle.rules.specs.Runs.{State, conditionHolds, present, modesIn, admissible, startAllowed, difference, ratesHold, stillAtZero, flowRule, movers, stayingVariables, stayingKept, jumpRows, jumpRule, after, ruleMet, stepAllowed, stepsAllowed, visited, modesFit, isUnsafe}
 use Rattle.rules.proofs.Hypotheses.{good-modes}
 

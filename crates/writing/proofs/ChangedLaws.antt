@@ -1,12 +1,9 @@
--- A model with its conditions changed: one change after another is one change; it has the locations and the joint switches that it had; and
--- where no condition gets longer, it can be written, in no more bytes. Assumes nothing.
+-- A model with its conditions changed: one change after another is one change. Assumes nothing.
 use mathlib.Core.Path.{_≡_, refl, ap, ap₂, _∙_, fun-ext}
 use mathlib.Core.List.{List, map, map-map}
 use Rattle.formats.specs.Rows.{Condition}
 use Rattle.formats.specs.Model.{Mode, Switch, Component, Unsafe, Model}
 use Rattle.writing.specs.Changed.{changedMode, changedSwitch, changedComponent, changedUnsafe, changed}
-pub use Rattle.writing.proofs.ChangedJoints.{changed-locations, changed-modes-at, changed-location-of, changed-is-joint, changed-modes-after, changed-joints, changed-few}
-pub use Rattle.writing.proofs.ChangedWritable.{Shortens, changed-writable, changed-length}
 
 -- what two functions do to each element they do to the list
 map-same : {A B : Type 0} (f g : A → B) → ((a : A) → f a ≡ g a) → (xs : List A) → map f xs ≡ map g xs

@@ -18,13 +18,10 @@ use Rattle.formats.proofs.Gives.{bind-got, then-got}
 use Rattle.formats.proofs.ModelSheet.{few-reads}
 use Rattle.writing.specs.Writing.{half, writeBody, writeModel}
 use Rattle.writing.specs.Changed.{changed, bareRows, bare}
-use Rattle.writing.proofs.ReadsLaws.{reads-then, reads-next, reads-give, reads-tested}
+use Rattle.writing.proofs.ReadsLaws.{Reads, reads-then, reads-next, reads-give, reads-tested}
 use Rattle.writing.proofs.PartsBack.{half-back, reads-half, reads-body}
 use Rattle.writing.proofs.ChangedJoints.{changed-locations, changed-joints}
--- what the statements here name, and that a model from a sheet of bytes can be written
-pub use Rattle.writing.proofs.ReadsLaws.{Reads}
-pub use Rattle.writing.proofs.Writable.{Fits, MarkFits, FitsRow, WritableCondition, WritableMode, WritableSwitch, WritableComponent, WritableUnsafe, Writable}
-pub use Rattle.writing.proofs.FromSheets.{writable}
+use Rattle.writing.proofs.Writable.{Writable}
 
 -- The header: "u16 L, the bytes that follow it; u8 version ..; u8 kind"
 abbrev afterSized : Reader ℕ

@@ -4,3 +4,8 @@ pub mod fence;
 pub mod library;
 pub mod marker;
 pub mod papers;
+
+/// Bytes as they are shown and written to files.
+pub fn hex(bytes: &[u8]) -> String {
+    bytes.iter().map(|byte| format!("{byte:02x}")).collect()
+}

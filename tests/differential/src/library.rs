@@ -73,11 +73,22 @@ mod entries {
     }
 
     unsafe extern "C" {
+        pub fn silfoddra_fair_copy(
+            model: *const u8,
+            length: usize,
+            copy: *mut u8,
+            copy_length: usize,
+            most_locations: u32,
+            most_joints: u32,
+        ) -> Answer;
+    }
+
+    unsafe extern "C" {
         pub fn silfoddra_read_row(text: *const u8, length: usize, variables: u32) -> TypedRow;
     }
 }
 
-// Safety, for every call below: the entries read the lent bytes and write the lent table, and nothing else.
+// Safety, for every call below: the entries read the lent bytes and write the lent table or buffer, and nothing else.
 
 pub fn mark_certificate(model: &[u8], second: &[u8], limits: Limits) -> Answer {
     let Limits { locations, joints } = limits;
@@ -108,6 +119,11 @@ pub fn hypothesis(model: &[u8], second: &[u8], obligation: u32, hypothesis: u32,
 pub fn which(model: &[u8], second: &[u8], obligation: u32, limits: Limits) -> Which {
     let (m, s, Limits { locations, joints }) = (model, second, limits);
     unsafe { entries::silfoddra_which_obligation(m.as_ptr(), m.len(), s.as_ptr(), s.len(), obligation, locations, joints) }
+}
+
+pub fn fair_copy(model: &[u8], copy: &mut [u8], limits: Limits) -> Answer {
+    let Limits { locations, joints } = limits;
+    unsafe { entries::silfoddra_fair_copy(model.as_ptr(), model.len(), copy.as_mut_ptr(), copy.len(), locations, joints) }
 }
 
 pub fn read_row(text: &[u8], variables: u32) -> TypedRow {

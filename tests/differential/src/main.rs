@@ -3,16 +3,16 @@
 //!     differential [--seed N] [--seconds N] [--rounds N] [--round R] [--guard] [--folder DIR]
 //!
 //! Without options it runs for about 60 seconds from a fixed seed, which DIFFERENTIAL_SEED may set too. A round makes papers from the
-//! seed and its own number, so `--round R` repeats one exactly. With `--guard` the sheets, the table and the texts lie between closed
-//! pages; that is slower, and goes on for 20 seconds. At the first mismatch the sheets or the text are written as hex files to the folder,
-//! and the exit status is 1.
+//! seed and its own number, so `--round R` repeats one exactly. With `--guard` the sheets, the table, the buffer and the texts lie between
+//! closed pages; that is slower, and goes on for 20 seconds. At the first mismatch the sheets or the text are written as hex files to the
+//! folder, and the exit status is 1.
 
 mod compare;
 
 use compare::{Compared, Comparison};
 use differential::marker::Limits;
 use differential::papers::damage::{ALL, damaged, random_bytes};
-use differential::papers::{Random, Sheet, certificates, extremes, models, runs, texts};
+use differential::papers::{Random, Sheet, certificates, extremes, models, runs, spellings, texts};
 use std::path::PathBuf;
 use std::process::ExitCode;
 use std::time::{Duration, Instant};
@@ -84,6 +84,7 @@ fn compare_all(options: &Options, comparison: &mut Comparison) -> Compared<u64> 
         comparison.compare("fixed", &paper.model, &paper.second, &mut random)?;
     }
     compare_limits(&mut random, comparison)?;
+    compare_copies(&mut random, comparison)?;
     let short = texts::short().filter(|_| !options.guard);
     for text in texts::fixed().into_iter().chain(short) {
         comparison.origin = format!("fixed text of {} bytes", text.bytes.len());
@@ -122,7 +123,20 @@ fn compare_limits(random: &mut Random, comparison: &mut Comparison) -> Compared<
     Ok(())
 }
 
-/// One model with a certificate, one with a run, what becomes of them by damage, and random bytes; typed texts between them.
+/// Papers with rows that a fair copy changes, each in several spellings and with many lengths of the buffer.
+fn compare_copies(random: &mut Random, comparison: &mut Comparison) -> Compared<()> {
+    for paper in extremes::for_fair_copy() {
+        comparison.origin = format!("fixed paper \"{}\"", paper.name);
+        for _ in 0..8 {
+            comparison.compare("fixed, for the fair copy", &paper.model, &paper.second, random)?;
+            compare_spellings(&paper.model, &paper.second, random, comparison)?;
+        }
+    }
+    Ok(())
+}
+
+/// One model with a certificate, one with a run, what becomes of them by damage, one with rows that a fair copy changes, and random bytes;
+/// typed texts between them.
 fn compare_round(seed: u64, round: u64, comparison: &mut Comparison) -> Compared<()> {
     let random = &mut Random::new(seed, round);
     comparison.origin = format!("seed {seed}, round {round}");
@@ -130,7 +144,10 @@ fn compare_round(seed: u64, round: u64, comparison: &mut Comparison) -> Compared
 
     let plan = models::random_plan(random, size);
     match certificates::random_certificate(random, plan.clone()) {
-        Some(paper) => compare_with_damage("certificate", &paper.model, &paper.second, random, comparison)?,
+        Some(paper) => {
+            compare_with_damage("certificate", &paper.model, &paper.second, random, comparison)?;
+            compare_spellings(&paper.model, &paper.second, random, comparison)?;
+        }
         // Too much for a sheet, or over a limit: the model is still compared, with a certificate that has no regions.
         None => compare_model("model", &plan, random, comparison)?,
     }
@@ -143,7 +160,9 @@ fn compare_round(seed: u64, round: u64, comparison: &mut Comparison) -> Compared
     let most_steps = if random.one_in(50) { 4_095 } else { 12 };
     if let Some(paper) = runs::random_run(random, plan, most_steps) {
         compare_with_damage("run", &paper.model, &paper.second, random, comparison)?;
+        compare_spellings(&paper.model, &paper.second, random, comparison)?;
     }
+    compare_rough(random, comparison)?;
 
     let model = models::random_plan(random, 2).sheet();
     let kind = 2 + random.below(2) as u8;
@@ -154,6 +173,27 @@ fn compare_round(seed: u64, round: u64, comparison: &mut Comparison) -> Compared
     comparison.compare("random model", &model, &second, random)
 }
 
+/// A model with rows that a fair copy changes, with a run if one is found.
+fn compare_rough(random: &mut Random, comparison: &mut Comparison) -> Compared<()> {
+    let plan = spellings::rough_plan(random);
+    let (kind, model, second) = match runs::random_run(random, plan.clone(), 6) {
+        Some(paper) => ("rough model with a run", paper.model, paper.second),
+        None => ("rough model", plan.sheet(), no_regions(&plan)),
+    };
+    comparison.compare(kind, &model, &second, random)?;
+    compare_spellings(&model, &second, random, comparison)
+}
+
+/// Another spelling of a model has the same copy; it is compared too, with the second sheet as it is and damaged.
+fn compare_spellings(model: &Sheet, second: &Sheet, random: &mut Random, comparison: &mut Comparison) -> Compared<()> {
+    let Some(other) = spellings::respelled(random, &model.bytes) else { return Ok(()) };
+    comparison.compare_spellings("another spelling", model, &other)?;
+    comparison.compare("another spelling", &other, second, random)?;
+    let damage = *random.pick(&ALL);
+    let worse = damaged(random, second, damage);
+    comparison.compare("another spelling, second: worse", &other, &worse, random)
+}
+
 fn compare_texts(random: &mut Random, comparison: &mut Comparison) -> Compared<()> {
     for _ in 0..8 {
         comparison.compare_text(&texts::random_text(random))?;
@@ -162,8 +202,12 @@ fn compare_texts(random: &mut Random, comparison: &mut Comparison) -> Compared<(
 }
 
 fn compare_model(name: &str, plan: &models::Plan, random: &mut Random, comparison: &mut Comparison) -> Compared<()> {
-    let second = certificates::certificate_sheet(&vec![vec![]; plan.locations()], &[]);
-    comparison.compare(name, &plan.sheet(), &second, random)
+    comparison.compare(name, &plan.sheet(), &no_regions(plan), random)
+}
+
+/// A certificate that has no regions.
+fn no_regions(plan: &models::Plan) -> Sheet {
+    certificates::certificate_sheet(&vec![vec![]; plan.locations()], &[])
 }
 
 fn compare_with_damage(

@@ -1,10 +1,8 @@
 -- One byte after the other. Assumes nothing.
-use native.Mathlib.Omega.{arith}
 use borrow.Author.Needs.{needs}
 use mathlib.Core.List.{[], _∷_}
-use Prim.Native.Nat.{_/_, _%_}
 use Rattle.buffers.specs.Over.{half}
-use Rattle.buffers.proofs.WritingLaws.{left-all, left-on, left-last, written-length, as-written}
+use Rattle.buffers.proofs.WritingLaws.{left-all, left-on, left-last, as-written, as-told}
 use Rattle.buffers.proofs.put_half.Statement.{statement}
 use Rattle.buffers.proofs.put_half.Tie as tie
 
@@ -28,7 +26,7 @@ unfolding half
 returns c =
     let one = as-written (c .before .before .before .before .before .before .put-byte .ensures) in
     let two = as-written (c .before .before .put-byte2 .ensures) in
-    left-last _ (left-on (_ ∷ []) _ (left-all _ _ _) one) two
+    as-told (left-last _ (left-on (_ ∷ []) _ (left-all _ _ _) one) two)
 
 pub put-half-spec : {M : Type 1} → statement M
 put-half-spec = tie.close (tie.spec cast-high cast-low put-byte-requires put-byte-requires-2 same-length returns)

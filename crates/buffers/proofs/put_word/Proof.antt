@@ -1,10 +1,8 @@
 -- One byte after the other. Assumes nothing.
-use native.Mathlib.Omega.{arith}
 use borrow.Author.Needs.{needs}
 use mathlib.Core.List.{[], _∷_}
-use Prim.Native.Nat.{_/_, _%_}
 use Rattle.buffers.specs.Over.{word}
-use Rattle.buffers.proofs.WritingLaws.{left-all, left-on, left-last, written-length, as-written}
+use Rattle.buffers.proofs.WritingLaws.{left-all, left-on, left-last, as-written, as-told}
 use Rattle.buffers.proofs.put_word.Statement.{statement}
 use Rattle.buffers.proofs.put_word.Tie as tie
 
@@ -42,7 +40,7 @@ returns c =
     let two = as-written (c .before .before .before .before .before .before .before .before .before .before .put-byte2 .ensures) in
     let three = as-written (c .before .before .before .before .before .before .put-byte3 .ensures) in
     let four = as-written (c .before .before .put-byte4 .ensures) in
-    left-last _ (left-on (_ ∷ []) _ (left-on (_ ∷ []) _ (left-on (_ ∷ []) _ (left-all _ _ _) one) two) three) four
+    as-told (left-last _ (left-on (_ ∷ []) _ (left-on (_ ∷ []) _ (left-on (_ ∷ []) _ (left-all _ _ _) one) two) three) four)
 
 pub put-word-spec : {M : Type 1} → statement M
 put-word-spec =

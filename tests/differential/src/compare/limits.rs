@@ -21,6 +21,10 @@ impl Size {
         Size { locations: locations as u32, joints: joints as u32 }
     }
 
+    pub fn joints(self) -> usize {
+        self.joints as usize
+    }
+
     fn within(self, limits: Limits) -> bool {
         self.locations <= limits.locations && self.joints <= limits.joints
     }
@@ -108,7 +112,7 @@ impl Comparison {
         let (Some(one), Some(other)) = (size.desk(random), size.desk(random)) else { return Ok(()) };
         let desks = [one, other];
         let (o, h) = (random.below(40) as u32, random.below(20) as u32);
-        match random.below(6) {
+        match random.below(7) {
             0 => self.at_both("silfoddra_mark_certificate", paper, desks, |own, limits| {
                 own.on_sheets(paper, |model, second| library::mark_certificate(model, second, limits))
             }),
@@ -124,8 +128,11 @@ impl Comparison {
             4 => self.at_both(&format!("silfoddra_hypothesis({o}, {h})"), paper, desks, |own, limits| {
                 own.on_sheets(paper, |model, second| library::hypothesis(model, second, o, h, limits))
             }),
+            5 => {
+                self.at_both("silfoddra_fair_copy", paper, desks, |own, limits| own.copy_fairly(paper, vec![77; paper.model.len()], limits))
+            }
             _ => self.at_both("silfoddra_joint_list", paper, desks, |own, limits| {
-                own.list_joints(paper, vec![JointSwitch::default(); size.joints as usize], limits)
+                own.list_joints(paper, vec![JointSwitch::default(); size.joints()], limits)
             }),
         }
     }

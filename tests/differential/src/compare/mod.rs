@@ -1,5 +1,6 @@
 //! One comparison: every call of the library against the independent marker, on two sheets or on a typed text.
 
+mod fair;
 mod joint_list;
 mod limits;
 mod rows;
@@ -8,7 +9,8 @@ mod typed;
 use differential::fence::{Edge, Fence};
 use differential::marker::Limits;
 use differential::papers::{Random, Sheet};
-use differential::{library, marker};
+use differential::{hex, library, marker};
+use fair::Changed;
 use limits::{Size, Stated, shown};
 use std::collections::BTreeMap;
 use std::fmt::Debug;
@@ -35,7 +37,7 @@ impl Mismatch {
             println!("  {:<9} {answer}", format!("{who}:"));
         }
         for (name, bytes) in &self.handed {
-            let hex: String = bytes.iter().map(|byte| format!("{byte:02x}")).collect();
+            let hex = hex(bytes);
             let path = folder.join(format!("mismatch-{name}.hex"));
             match std::fs::write(&path, format!("{hex}\n")) {
                 Ok(()) => println!("  {} ({} bytes): {hex}", path.display(), bytes.len()),
@@ -78,9 +80,13 @@ pub struct Comparison {
     /// How often each number was the answer, by call.
     certificate_numbers: [u64; 16],
     run_numbers: [u64; 16],
+    fair_numbers: [u64; 16],
     typed_numbers: [u64; 18],
     /// How often the row of a hypothesis had each role.
     roles: [u64; 9],
+    changed: Changed,
+    /// How often two spellings of a model were copied.
+    spellings: u64,
     stated: Stated,
     other_calls: u64,
     fences: Option<Fences>,
@@ -104,8 +110,11 @@ impl Comparison {
             texts: BTreeMap::new(),
             certificate_numbers: [0; 16],
             run_numbers: [0; 16],
+            fair_numbers: [0; 16],
             typed_numbers: [0; 18],
             roles: [0; 9],
+            changed: Changed::default(),
+            spellings: 0,
             stated: Stated::default(),
             other_calls: 0,
             fences: guard.then(fences),
@@ -136,11 +145,14 @@ impl Comparison {
         }
         let (compared, accepted) = (self.texts(), self.texts.values().map(|count| count.accepted).sum::<u64>());
         println!("{:<32} {compared:>9} {accepted:>9}", "all");
-        let calls = [("certificate", &self.certificate_numbers[..]), ("run", &self.run_numbers), ("typed row", &self.typed_numbers)];
+        let marking = [("certificate", &self.certificate_numbers[..]), ("run", &self.run_numbers)];
+        let calls = marking.into_iter().chain([("fair copy", &self.fair_numbers[..]), ("typed row", &self.typed_numbers)]);
         for (call, numbers) in calls {
             println!("answers of the {call} call by number: {}", by_number(numbers));
         }
         println!("rows of hypotheses by role: {}", by_number(&self.roles));
+        self.changed.print();
+        println!("copies compared between two spellings: {}", self.spellings);
         println!("calls beside the marking: {}", self.other_calls);
         self.stated.print();
     }
@@ -168,6 +180,7 @@ impl Comparison {
             let answer = self.on_sheets(paper, |model, second| library::mark_run(model, second, run_limits));
             self.same("silfoddra_mark_run", paper, run_limits, answer, run)?;
             self.compare_joint_list(paper, size, random)?;
+            self.compare_fair_copy(paper, size, random)?;
             self.compare_rows(paper, size, random)?;
             self.compare_desks(paper, size, random)?;
         }

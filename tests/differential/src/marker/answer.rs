@@ -17,7 +17,8 @@ pub enum Fault {
     Start = 12,
     Step = 13,
     End = 14,
-    Table = 15,
+    /// Of a table or a buffer.
+    Short = 15,
     Text = 16,
     Result = 17,
 }

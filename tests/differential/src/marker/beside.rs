@@ -48,7 +48,7 @@ pub fn joint_list(model: &[u8], table: &mut [JointSwitch], limits: Limits) -> An
             records.copy_from_slice(&joint::list(&model));
             Answer::accepted(Sheet::Model, length, model.joint_count, 0)
         }
-        None => Answer::refused(Refusal::new(Fault::Table, model.joint_count), Sheet::Call, 0, 0),
+        None => Answer::refused(Refusal::new(Fault::Short, model.joint_count), Sheet::Call, 0, 0),
     }
 }
 

@@ -33,7 +33,7 @@ pub struct Component {
 
 pub struct UnsafeCondition {
     /// One for each component; none means any mode.
-    modes: Vec<Option<u8>>,
+    pub modes: Vec<Option<u8>>,
     pub rows: Condition,
 }
 
@@ -76,6 +76,19 @@ impl Model {
             return Err(Refusal::new(Fault::JointSwitches, PLACE_OF_N));
         }
         Ok(model)
+    }
+
+    /// All conditions, as they follow each other in the sheet.
+    pub fn conditions(&self) -> Vec<&Condition> {
+        let mut conditions = vec![];
+        for component in &self.components {
+            for mode in &component.modes {
+                conditions.extend([&mode.initial, &mode.invariant, &mode.flow]);
+            }
+            conditions.extend(component.switches.iter().map(|switch| &switch.jump));
+        }
+        conditions.extend(self.unsafe_conditions.iter().map(|condition| &condition.rows));
+        conditions
     }
 
     /// The number of a location.

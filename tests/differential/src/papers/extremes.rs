@@ -86,20 +86,45 @@ pub fn longest_certificate() -> Paper {
 
 /// A model of exactly 32,768 bytes with a run of no steps, accepted.
 pub fn longest_model() -> Paper {
-    let jump = row(16, &[(0, 1), (8, -1)], 3);
+    longest_model_with("model of 32,768 bytes", [3; 4])
+}
+
+/// The same with rows that differ and have no common divisor, in descending order: its fair copy is as long as it is.
+pub fn longest_copy() -> Paper {
+    longest_model_with("model of 32,768 bytes, copy too", [i32::MAX, 5, 3, 0])
+}
+
+/// So many switches of four jump rows each, none of which changes in a copy.
+pub fn switches_to_copy(switches: usize) -> Paper {
+    let jump = [i32::MAX, 5, 3, 0].map(|bound| row(16, &[(0, 1), (8, -1)], bound)).to_vec();
+    let mut components = vec![];
+    let mut left = switches;
+    for _ in 0..4 {
+        let mut some = loops(0, left.min(32));
+        left -= some.len();
+        some.iter_mut().for_each(|switch| switch.jump = jump.clone());
+        components.push(Component { alphabet: 0, modes: vec![Mode { start: true, ..Mode::default() }], switches: some });
+    }
+    let model = plan(vec![0; 8], components, vec![]).sheet();
+    Paper::new("switches to copy", model, run_sheet(1, 0, 0, 1, &[0; 8]).finished())
+}
+
+/// The bounds are those of the rows in each condition.
+fn longest_model_with(name: &str, bounds: [i32; 4]) -> Paper {
+    let jump = bounds.map(|bound| row(16, &[(0, 1), (8, -1)], bound));
     let mut jump_rows = 472;
     let mut components = vec![];
     for _ in 0..4 {
         let mut switches = loops(0, 32);
         for switch in &mut switches {
-            switch.jump = vec![jump.clone(); jump_rows.min(4)];
+            switch.jump = jump[..jump_rows.min(4)].to_vec();
             jump_rows -= switch.jump.len();
         }
         components.push(Component { alphabet: 0, modes: vec![Mode { start: true, ..Mode::default() }], switches });
     }
-    components[3].modes[0].invariant = vec![row(8, &[(1, 1)], 5); 3];
+    components[3].modes[0].invariant = bounds[..3].iter().map(|&bound| row(8, &[(1, 1)], bound)).collect();
     let model = plan(vec![0; 8], components, vec![(vec![ANY; 4], vec![])]).sheet();
-    Paper::new("model of 32,768 bytes", model, run_sheet(1, 0, 0, 1, &[0; 8]).finished())
+    Paper::new(name, model, run_sheet(1, 0, 0, 1, &[0; 8]).finished())
 }
 
 /// A run of flows and jumps in turn through T; 4,095 steps take exactly 32,768 bytes.
@@ -334,6 +359,40 @@ pub fn for_limits() -> Vec<Paper> {
     ];
     papers.extend([&[4, 4][..], &[6, 3], &[8, 8], &[7, 5, 2]].map(locations));
     papers
+}
+
+/// A model with these rows in each of its conditions, twice the coefficients in the jump, and a run of no steps from 0.
+fn with_rows<const N: usize>(name: &str, rows: &[[i32; N]]) -> Paper {
+    let n = N - 1;
+    let jump = rows.iter().map(|row| [&row[..n], row].concat()).collect();
+    let rows: Vec<Row> = rows.iter().map(|row| row.to_vec()).collect();
+    let mode = Mode { start: true, initial: rows.clone(), invariant: rows.clone(), flow: rows.clone() };
+    let switch = Switch { source: 0, target: 0, label: 0, jump };
+    let component = Component { alphabet: 0, modes: vec![mode], switches: vec![switch] };
+    let model = plan(vec![0; n], vec![component], vec![(vec![ANY], rows)]).sheet();
+    Paper::new(name, model, run_sheet(1, 0, 0, 1, &vec![0; n]).finished())
+}
+
+/// Models with rows that a fair copy divides, drops or moves, up to 16 coefficients in a jump row, and two of the greatest length.
+pub fn for_fair_copy() -> Vec<Paper> {
+    let (least, most) = (i32::MIN, i32::MAX);
+    let times = |factor: i32| [3, -1, 0, 2, 0, 0, -7, 1, 5].map(|number| factor * number);
+    let one_of = |place: usize| std::array::from_fn::<i32, 9, _>(|i| i32::from(i == place));
+    vec![
+        with_rows("divisors", &[[2, 3], [2, 4], [2, 0], [6, 9], [-6, -9], [-4, 6]]),
+        with_rows("divisors up to 2^31", &[[least, least], [least, 0], [most, most], [-most, 0], [1 << 30, least], [least, most]]),
+        with_rows("rows of zeros", &[[0, 1], [0, 0], [0, -1], [0, least], [0, most], [1, 0]]),
+        with_rows("rows of zeros, all true", &[[0, 0, 1], [0, 0, 0], [0, 0, most]]),
+        with_rows("a row of zeros that is never true", &[[0, 0, least]]),
+        with_rows("2^31 throughout", &[[least; 9]]),
+        with_rows("2^31 throughout, eight times", &[[least; 9]; 8]),
+        with_rows("eight rows that fall to one", &std::array::from_fn::<_, 8, _>(|i| times(8 - i as i32))),
+        with_rows("equal but for the bound", &[[1, 1, 3], [1, 1, -3], [1, 1, 0], [2, 2, 6], [1, 1, most], [1, 1, least], [3, 3, 7]]),
+        with_rows("signs", &[[1, 0, 0], [0, 1, 0], [0, -1, 0], [-1, 0, 0], [-1, -1, 0], [1, least, 0], [least, 1, 0], [-1, 1, -1]]),
+        with_rows("one coefficient each", &std::array::from_fn::<_, 8, _>(one_of)),
+        longest_model(),
+        longest_copy(),
+    ]
 }
 
 fn empty() -> Sheet {

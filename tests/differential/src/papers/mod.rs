@@ -7,6 +7,7 @@ pub mod models;
 pub mod random;
 pub mod runs;
 pub mod sheet;
+pub mod spellings;
 pub mod texts;
 
 pub use random::Random;

@@ -2,6 +2,8 @@
 
 use super::random::Random;
 use super::sheet::{MODEL, Row, Sheet};
+use crate::marker::Model;
+use crate::marker::reader::Condition;
 
 #[derive(Clone, Default)]
 pub struct Mode {
@@ -50,7 +52,50 @@ pub fn row(width: usize, coefficients: &[(usize, i32)], bound: i32) -> Row {
     numbers
 }
 
+fn rows_of(condition: &Condition) -> Vec<Row> {
+    condition.rows().map(|row| [row.coefficients, &[row.bound]].concat()).collect()
+}
+
 impl Plan {
+    /// The plan of a model that was read. It says nothing of where runs begin.
+    pub fn of(model: &Model) -> Self {
+        let components = model.components.iter().map(|component| {
+            let modes = component.modes.iter().map(|mode| {
+                let [initial, invariant, flow] = [&mode.initial, &mode.invariant, &mode.flow].map(rows_of);
+                Mode { start: mode.start, initial, invariant, flow }
+            });
+            let switches = component.switches.iter().map(|switch| {
+                let jump = rows_of(&switch.jump);
+                Switch { source: switch.source, target: switch.target, label: switch.label, jump }
+            });
+            Component { alphabet: component.alphabet, modes: modes.collect(), switches: switches.collect() }
+        });
+        let unsafe_conditions = model.unsafe_conditions.iter().map(|condition| {
+            let modes = condition.modes.iter().map(|mode| mode.unwrap_or(ANY)).collect();
+            (modes, rows_of(&condition.rows))
+        });
+        let (components, unsafe_conditions) = (components.collect(), unsafe_conditions.collect());
+        let none = || vec![0; model.variables];
+        Plan { owners: model.owners.clone(), components, unsafe_conditions, start: none(), low: none(), high: none() }
+    }
+
+    /// Every condition that may have rows, with the number of coefficients in each row.
+    pub fn conditions(&mut self) -> Vec<(usize, &mut Vec<Row>)> {
+        let n = self.owners.len();
+        let mut conditions = vec![];
+        for component in &mut self.components {
+            for mode in &mut component.modes {
+                if mode.start {
+                    conditions.push((n, &mut mode.initial));
+                }
+                conditions.extend([(n, &mut mode.invariant), (n, &mut mode.flow)]);
+            }
+            conditions.extend(component.switches.iter_mut().map(|switch| (2 * n, &mut switch.jump)));
+        }
+        conditions.extend(self.unsafe_conditions.iter_mut().map(|(_, rows)| (n, rows)));
+        conditions
+    }
+
     pub fn variables(&self) -> usize {
         self.owners.len()
     }

@@ -1,12 +1,12 @@
 -- Each turn takes the row before those that are gathered. Assumes nothing.
-use mathlib.Core.Path.{_≡_, refl, sym, ap, _∙_, subst}
+use mathlib.Core.Path.{_≡_, sym, subst}
 use mathlib.Core.List.{List, _∷_}
 use Prim.Native.Nat.{ℕ, _+_, _*_, _-_, _≤_, _<_}
 use lib.ListN.{length, take}
 use Rattle.farkas.specs.Rows.{Row}
 use Rattle.farkas.specs.Words.{rowIn}
 use Rattle.formats.specs.Versions.{rowBytes}
-use Rattle.formats.proofs.Versions.{numbers-within, row-fits}
+use Rattle.formats.proofs.Versions.{numbers-within}
 use Rattle.fair_rows.specs.FairRows.{fairRows}
 use Rattle.fair_conditions.specs.Held.{Among, rowsBy}
 use Rattle.fair_conditions.proofs.GatherLaws.{Gathered, gather-starts, gather-goes-on, gather-ends, among-all}

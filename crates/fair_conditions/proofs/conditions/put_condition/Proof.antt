@@ -1,15 +1,13 @@
 -- The count of the rows that are left, then the rows. Assumes nothing.
-use mathlib.Core.Path.{_≡_, sym, ap, _∙_, subst}
-use mathlib.Core.List.{List, [], _∷_, _++_, map}
-use Prim.Native.Nat.{ℕ, _+_, _≤_}
-use lib.ListN.{length, take}
+use mathlib.Core.Path.{sym}
+use mathlib.Core.List.{[], _∷_, map}
+use Prim.Native.Nat.{_≤_}
+use lib.ListN.{length}
 use Rattle.formats.specs.Joint.{joinAll}
 use Rattle.writing.specs.Changed.{unplaced}
 use Rattle.writing.specs.Writing.{writeRow}
-use Rattle.fields.specs.Places.{rowsFrom}
-use Rattle.buffers.specs.Written.{Written}
-use Rattle.buffers.proofs.WritingLaws.{left-all, left-on, left-last, left-as, as-written, written-length}
-use Rattle.fair_conditions.specs.Held.{rowsBy}
+use Rattle.buffers.proofs.WritingLaws.{left-all, left-on, left-last, left-as, as-written}
+use Rattle.fair_conditions.specs.Held.{rowsBy, stretchRows, stretchBytes}
 use Rattle.fair_conditions.proofs.PutLaws.{condition-written}
 use borrow.Author.Needs.{needs}
 use native.Mathlib.Omega.{arith}
@@ -18,10 +16,12 @@ use Rattle.fair_conditions.proofs.conditions.put_condition.Statement.{s
 use Rattle.fair_conditions.proofs.conditions.put_condition.Tie as tie
 
 gather-requires : tie.Need-gather-requires
-gather-requires c κs = (c .before .before .before .before .before .before .pre .0, (c .before .before .before .before .before .before .pre .1 .1 .0, c .before .before .before .before .before .before .pre .1 .1 .1))
+gather-requires c κs =
+    let g = c .before .before .before .before .before .before .pre .0 in
+    ((g .within, (g .short, (g .wide, g .few))), (c .before .before .before .before .before .before .pre .1 .1 .0, c .before .before .before .before .before .before .pre .1 .1 .1))
 
 cast-put-byte : tie.Need-cast-put-byte
-cast-put-byte c = omega (arith, c .before .before .before .before .before .gather .ensures .1 .0, c .before .before .before .before .before .before .before .before .before .before .before .before .pre .0 .1 .1 .1)
+cast-put-byte c = omega (arith, c .before .before .before .before .before .gather .ensures .1 .0, c .before .before .before .before .before .before .before .before .before .before .before .before .pre .0 .few)
 
 put-byte-requires : tie.Need-put-byte-requires
 put-byte-requires c κs = omega (arith, c .before .before .before .before .before .before .before .before .before .before .before .before .pre .1 .0)
@@ -30,7 +30,7 @@ put-rows-requires : tie.Need-put-rows-requires
 put-rows-requires c κs =
     let p = c .before .before .before .before .before .before .before .before .before .before .before .before .before .before .before .before .before .before .pre in
     let g = c .before .before .before .before .before .before .before .before .before .before .before .gather in
-    ((omega (arith, c .before .before .before .before .before .put-byte .ensures .0, p .1 .0), (omega (arith, g .ensures .1 .0, p .0 .1 .1 .1), p .0 .1 .1 .0)), (omega (arith, g .kept .1 .1 .1 .1 .1 .0, p .1 .1 .0), (omega (arith, g .ensures .1 .0, p .0 .1 .1 .1, g .kept .1 .1 .1 .1 .1 .1 .0, p .1 .1 .1), g .ensures .1 .1)))
+    ((omega (arith, c .before .before .before .before .before .put-byte .ensures .0, p .1 .0), (omega (arith, g .ensures .1 .0, p .0 .few), p .0 .wide)), (omega (arith, g .kept .1 .1 .1 .1 .1 .0, p .1 .1 .0), (omega (arith, g .ensures .1 .0, p .0 .few, g .kept .1 .1 .1 .1 .1 .1 .0, p .1 .1 .1), g .ensures .1 .1)))
 
 same-length : tie.Need-same-length
 same-length c = search needs
@@ -48,11 +48,10 @@ returns c =
     let g = c .before .before .before .before .before .before .before .before .before .before .before .before .before .before .gather in
     let kept = g .last .1 .1 .1 .1 .1 .0 in
     let sorted = g .last .1 .1 .1 .1 .1 .1 .0 in
-    let fits : g .result ≤ length sorted = omega (arith, g .ensures .1 .0, s .pre .0 .1 .1 .1, g .kept .1 .1 .1 .1 .1 .1 .0, s .pre .1 .1 .1) in
-    let w = c .before .before .put-rows in (
-      left-last _ (left-on (g .result ∷ []) (joinAll (writeRow (a .stretch .version)) (map unplaced (rowsBy kept (a .stretch .n) sorted (g .result)))) (left-as (sym (condition-written (a .stretch .version) kept (a .stretch .n) sorted (g .result) (rowsFrom (now (a .s)) (a .stretch .version) (a .stretch .n) (a .stretch .place) (a .stretch .rows)) fits (g .ensures .0))) (left-all (now (a .out)) (a .at) _)) (as-written (c .before .before .before .before .before .before .before .before .put-byte .ensures))) (w .ensures .0),
-      omega (arith, w .ensures .1, c .before .before .before .before .before .before .before .before .put-byte .ensures .0, g .ensures .1 .0, s .pre .0 .1 .1 .1),
-    )
+    let fits : g .result ≤ length sorted = omega (arith, g .ensures .1 .0, s .pre .0 .few, g .kept .1 .1 .1 .1 .1 .1 .0, s .pre .1 .1 .1) in
+    let w = c .before .before .put-rows in
+    let all = left-last _ (left-on (g .result ∷ []) (joinAll (writeRow (a .stretch .version)) (map unplaced (rowsBy kept (a .stretch .n) sorted (g .result)))) (left-as (sym (condition-written (a .stretch .version) kept (a .stretch .n) sorted (g .result) (stretchRows (now (a .s)) (a .stretch)) fits (g .ensures .0))) (left-all (now (a .out)) (a .at) (stretchBytes (now (a .s)) (a .stretch)))) (as-written (c .before .before .before .before .before .before .before .before .put-byte .ensures))) (w .ensures .0) in
+    (all .ends, (all .holds, omega (arith, w .ensures .1, c .before .before .before .before .before .before .before .before .put-byte .ensures .0, g .ensures .1 .0, s .pre .0 .few)))
 
 pub put-condition-spec : {M : Type 1} → statement M
 put-condition-spec =

@@ -1,7 +1,6 @@
 -- Number by number, what is left is written after what is there. Assumes nothing.
-use mathlib.Core.Path.{_∙_, sym, ap}
-use Prim.Native.Nat.{ℕ, _-_}
-use Rattle.buffers.proofs.WritingLaws.{written-length}
+use Prim.Native.Nat.{_-_}
+use Rattle.buffers.proofs.WritingLaws.{written-length, as-word}
 use Rattle.fair_conditions.proofs.PutLaws.{NumbersPut, numbers-start, numbers-go-on, numbers-end}
 use borrow.Author.Needs.{needs}
 use native.Mathlib.Omega.{arith}
@@ -44,7 +43,7 @@ loop-again c =
     let a = c .before .before .before .before .before .before .before .before .before .before .args in
     let l = c .before .before .before .before .before .before .before .loop in
     let w = c .before .before .put-word in
-    numbers-go-on (now (a .out)) (a .at) (now (a .kept)) (a .base) (a .count) (l .out) (w .last .0) (l .next) (w .result) (l .i) (c .before .before .before .coded .result) (c .before .before .before .before .before .before .loop-test .taken) (c .before .before .before .coded .ensures) (w .ensures) (l .inv)
+    numbers-go-on (now (a .out)) (a .at) (now (a .kept)) (a .base) (a .count) (l .out) (w .last .0) (l .next) (w .result) (l .i) (c .before .before .before .coded .result) (c .before .before .before .before .before .before .loop-test .taken) (c .before .before .before .coded .ensures) (as-word (c .before .before .before .coded .result) (w .ensures)) (l .inv)
 
 same-length : tie.Need-same-length Inv-loop μ-loop
 same-length c = written-length (numbers-end _ _ _ _ _ (c .before .loop .out) (c .before .loop .next) (c .before .loop .i) (c .loop-test .left) (c .before .loop .inv) .0)

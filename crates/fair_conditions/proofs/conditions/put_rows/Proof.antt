@@ -1,5 +1,5 @@
 -- Row by row, what is left is written after what is there. Assumes nothing.
-use Prim.Native.Nat.{ℕ, _-_, _<_}
+use Prim.Native.Nat.{_-_, _<_}
 use lib.ListN.{getD}
 use Rattle.buffers.proofs.WritingLaws.{written-length}
 use Rattle.fair_conditions.proofs.SortLaws.{among-at}

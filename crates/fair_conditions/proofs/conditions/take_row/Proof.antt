@@ -1,8 +1,8 @@
 -- A row that is dropped leaves the order as it was; one that is taken goes through it. Assumes nothing.
-use mathlib.Core.Path.{_≡_, refl, sym, ap, _∙_, subst}
-use mathlib.Core.List.{List, map}
+use mathlib.Core.Path.{_≡_, subst}
+use mathlib.Core.List.{map}
 use Prim.Native.Nat.{ℕ, _+_, _*_}
-use lib.ListN.{length, take}
+use lib.ListN.{take}
 use Rattle.farkas.specs.Words.{numbersAt}
 use Rattle.fair_rows.specs.FairRows.{quotient}
 use Rattle.fair_conditions.specs.Held.{keptNumbers, KeptOutside, keptRow}

@@ -1,6 +1,6 @@
 -- The numbers from place i on are kept divided. Assumes nothing.
-use mathlib.Core.Path.{_≡_, refl, sym, ap, _∙_}
-use Prim.Native.Nat.{ℕ, _+_, _*_, _-_, _≤_}
+use mathlib.Core.Path.{ap, _∙_}
+use Prim.Native.Nat.{ℕ, _-_}
 use Rattle.farkas.specs.Words.{signed, signedAt}
 use Rattle.fair_rows.specs.FairRows.{quotient}
 use Rattle.fair_conditions.proofs.KeptLaws.{Kept, kept-starts, kept-goes-on, kept-ends}

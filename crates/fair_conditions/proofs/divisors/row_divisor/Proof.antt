@@ -1,7 +1,5 @@
 -- Coefficients all zero, with a bound that is not below 0 and with one that is; then any other row. Assumes nothing.
 use mathlib.Core.Path.{_≡_, sym, ap, _∙_, subst}
-use mathlib.Core.Bool.{Bool}
-use mathlib.Core.List.{List}
 use Prim.Native.Nat.{ℕ, _+_, _*_}
 use lib.IntN.{pos, natAbs}
 use lib.Signed.{leZ}

@@ -1,6 +1,6 @@
 -- What is left stands as the whole does. Assumes nothing.
 use mathlib.Core.Path.{_≡_, sym, ap, _∙_}
-use Prim.Native.Nat.{ℕ, _-_, _≤_}
+use Prim.Native.Nat.{_-_, _≤_}
 use Rattle.fair_rows.specs.FairRows.{order}
 use Rattle.fair_conditions.specs.Held.{keptNumbers, standing}
 use Rattle.fair_conditions.proofs.SortLaws.{orderLeft, order-starts, order-lower, order-higher, order-goes-on, order-ends}

@@ -1,10 +1,9 @@
 -- Each way the two rows stand to each other: what stays, and what is carried on. Assumes nothing.
-use mathlib.Core.Path.{_≡_, refl, sym, ap, ap₂, _∙_}
-use mathlib.Core.List.{List}
+use mathlib.Core.Path.{_≡_, sym, ap, ap₂, _∙_}
 use Prim.Native.Nat.{ℕ, _*_}
 use lib.ListN.{getD, set}
 use lib.Seq.{set-getD}
-use Rattle.fair_rows.specs.FairRows.{Order, lower, same, higher, order}
+use Rattle.fair_rows.specs.FairRows.{Order, order}
 use Rattle.fair_conditions.specs.Held.{keptNumbers, standing, carriedOn, leftBehind}
 use Rattle.fair_conditions.proofs.SortLaws.{stands-as}
 use borrow.Author.Needs.{needs}

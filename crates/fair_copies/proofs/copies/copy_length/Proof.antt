@@ -1,5 +1,4 @@
 -- What the body's writer tells of the place after it. Assumes nothing.
-use mathlib.Core.Path.{_∙_}
 use Rattle.fair_copies.proofs.CopyLaws.{copy-length}
 use borrow.Author.Needs.{needs}
 use native.Mathlib.Omega.{arith}

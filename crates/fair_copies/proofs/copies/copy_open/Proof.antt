@@ -1,5 +1,4 @@
 -- It does not fit, or it is written. Assumes nothing.
-use mathlib.Core.Path.{_≡_, _∙_}
 use Prim.Native.Nat.{ℕ}
 use lib.ListN.{length}
 use Rattle.models.specs.Index.{modelFrom}

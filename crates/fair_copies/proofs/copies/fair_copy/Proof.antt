@@ -1,10 +1,9 @@
 -- Refused as every call is, or copied. Assumes nothing.
-use mathlib.Core.Path.{_≡_, sym, ap, _∙_}
-use Prim.Native.Nat.{ℕ}
+use mathlib.Core.Path.{_≡_, ap, _∙_}
 use lib.ListN.{length}
 use Rattle.rules.specs.declared.Answer.{Answer}
 use Rattle.models.specs.Index.{modelFrom}
-use Rattle.papers.specs.Opening.{openedModel, ModelOpen}
+use Rattle.papers.specs.Opening.{openedModel}
 use Rattle.fair_copies.proofs.CopyLaws.{copyable, open-short, shut-answer, shut-buffer, open-answer, open-buffer}
 use borrow.Author.Needs.{needs}
 use native.Mathlib.Omega.{arith}

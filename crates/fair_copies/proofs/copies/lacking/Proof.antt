@@ -1,5 +1,5 @@
 -- It fits where there is as much room as the model has, or as it needs. Assumes nothing.
-use mathlib.Core.Path.{_≡_, _∙_}
+use mathlib.Core.Path.{_∙_}
 use Prim.Native.Nat.{ℕ}
 use lib.ListN.{length}
 use Rattle.models.specs.Index.{modelFrom}

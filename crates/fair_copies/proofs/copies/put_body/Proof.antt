@@ -1,8 +1,7 @@
 -- Counts, owners, components, unsafe conditions. Assumes nothing.
-use mathlib.Core.Path.{_≡_, sym, ap, _∙_, subst}
-use mathlib.Core.List.{List}
-use Prim.Native.Nat.{ℕ, _+_, _<_}
-use Rattle.models.specs.Index.{entry, ownerPlace}
+use mathlib.Core.Path.{subst}
+use Prim.Native.Nat.{ℕ}
+use Rattle.models.specs.Index.{ownerPlace}
 use Rattle.buffers.specs.Written.{Written}
 use Rattle.buffers.proofs.WritingLaws.{left-all, left-on, left-last, left-as}
 use Rattle.fair_copies.specs.Copyable.{entries}

@@ -1,7 +1,8 @@
 -- The body, then the header in front of it. Assumes nothing.
-use mathlib.Core.Path.{_≡_, refl, sym, ap, _∙_}
+use mathlib.Core.Path.{refl}
 use Rattle.models.specs.Index.{modelFrom}
 use Rattle.formats.proofs.Versions.{version-small}
+use Rattle.buffers.proofs.WritingLaws.{as-half}
 use Rattle.fair_copies.proofs.CopyLaws.{headed}
 use borrow.Author.Needs.{needs}
 use native.Mathlib.Omega.{arith}
@@ -46,7 +47,7 @@ returns : tie.Need-returns
 unfolding modelFrom
 returns c =
     let a = c .before .before .before .before .before .before .before .before .before .before .before .before .before .before .before .before .before .before .before .before .before .before .before .before .before .before .before .args in
-    (headed (modelFrom (now (a .model)) (now (a .index))) (now (a .out)) (c .before .before .before .before .before .before .before .before .before .before .before .before .before .before .before .before .before .before .before .put-body .last .0) (c .before .before .before .before .before .before .before .before .before .before .before .put-half .last .0) (c .before .before .before .before .before .before .put-byte .last .0) (c .before .before .put-byte2 .last .0) _ _ _ _ _ _ (c .before .before .before .before .before .before .before .before .before .before .before .before .before .before .before .before .before .before .before .put-body .ensures .0) refl (c .before .before .before .before .before .before .before .before .before .before .before .put-half .ensures) (c .before .before .before .before .before .before .before .version-of .ensures) (c .before .before .before .before .before .before .put-byte .ensures) (c .before .before .put-byte2 .ensures), omega (arith, c .before .before .before .before .before .before .before .before .before .before .before .before .before .before .before .before .before .before .before .put-body .ensures .1))
+    (headed (modelFrom (now (a .model)) (now (a .index))) (now (a .out)) (c .before .before .before .before .before .before .before .before .before .before .before .before .before .before .before .before .before .before .before .put-body .last .0) (c .before .before .before .before .before .before .before .before .before .before .before .put-half .last .0) (c .before .before .before .before .before .before .put-byte .last .0) (c .before .before .put-byte2 .last .0) _ _ _ _ _ _ (c .before .before .before .before .before .before .before .before .before .before .before .before .before .before .before .before .before .before .before .put-body .ensures .0) refl (as-half _ (c .before .before .before .before .before .before .before .before .before .before .before .put-half .ensures)) (c .before .before .before .before .before .before .before .version-of .ensures) (c .before .before .before .before .before .before .put-byte .ensures) (c .before .before .put-byte2 .ensures), omega (arith, c .before .before .before .before .before .before .before .before .before .before .before .before .before .before .before .before .before .before .before .put-body .ensures .1))
 
 pub put-copy-spec : {M : Type 1} → statement M
 put-copy-spec =

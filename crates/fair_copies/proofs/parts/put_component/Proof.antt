@@ -1,11 +1,10 @@
 -- Alphabet, counts, modes, switches. Assumes nothing.
-use mathlib.Core.Path.{_≡_, sym, ap, _∙_, subst}
-use mathlib.Core.List.{List}
+use mathlib.Core.Path.{_≡_, subst}
 use Prim.Native.Nat.{ℕ, _+_, _*_, _<_}
 use Rattle.models.specs.Index.{entry, componentPlace, GoodBlock}
 use Rattle.writing.specs.Writing.{half}
 use Rattle.buffers.specs.Written.{Written}
-use Rattle.buffers.proofs.WritingLaws.{left-all, left-on, left-last, left-as, half-ends}
+use Rattle.buffers.proofs.WritingLaws.{left-all, left-on, left-last, left-as, as-half}
 use Rattle.fair_copies.proofs.PartLaws.{component-parts, two-small}
 use borrow.Author.Needs.{needs}
 use native.Mathlib.Omega.{arith}
@@ -50,18 +49,18 @@ put-entries-requires c κs =
     let s = c .before .before .before .before .before .before .before .before .before .before .before in
     let g = blocked s in
     let block = 16 + 219 * s .args .k in
-    (omega (arith, half-ends _ (c .before .before .before .put-half .ensures), s .pre .1 .0), (omega (arith, few s), two-small (now (s .args .index)) (block + 1) (omega (arith, g .most)) (subst (λ (p : ℕ). entry (now (s .args .index)) p < 256) (onward block) (omega (arith, g .few)))))
+    (omega (arith, c .before .before .before .put-half .ensures .0, s .pre .1 .0), (omega (arith, few s), two-small (now (s .args .index)) (block + 1) (omega (arith, g .most)) (subst (λ (p : ℕ). entry (now (s .args .index)) p < 256) (onward block) (omega (arith, g .few)))))
 
 put-modes-requires : tie.Need-put-modes-requires
 put-modes-requires c κs =
     let s = c .before .before .before .before .before .before .before .before .before .before .before .before .before .before .before .before .before in
-    (s .pre .0, (omega (arith, c .before .before .before .before .before .put-entries .ensures .1, half-ends _ (c .before .before .before .before .before .before .before .before .before .put-half .ensures), s .pre .1 .0), s .pre .1 .1))
+    (s .pre .0, (omega (arith, c .before .before .before .before .before .put-entries .ensures .1, c .before .before .before .before .before .before .before .before .before .put-half .ensures .0, s .pre .1 .0), s .pre .1 .1))
 
 put-switches-requires : tie.Need-put-switches-requires
 put-switches-requires c κs =
     let s = c .before .before .before .before .before .before .before .before .before .before .before .before .before .before .before .before .before .before .before .before .before .before .before .before .before .before .before in
     let m = c .before .before .before .before .before .before .before .before .before .put-modes in
-    (s .pre .0, (omega (arith, m .ensures .1, c .before .before .before .before .before .before .before .before .before .before .before .before .before .before .before .put-entries .ensures .1, half-ends _ (c .before .before .before .before .before .before .before .before .before .before .before .before .before .before .before .before .before .before .before .put-half .ensures), s .pre .1 .0), (omega (arith, m .kept .1 .1 .1 .1 .1 .0, s .pre .1 .1 .0), omega (arith, m .kept .1 .1 .1 .1 .1 .1 .0, s .pre .1 .1 .1))))
+    (s .pre .0, (omega (arith, m .ensures .1, c .before .before .before .before .before .before .before .before .before .before .before .before .before .before .before .put-entries .ensures .1, c .before .before .before .before .before .before .before .before .before .before .before .before .before .before .before .before .before .before .before .put-half .ensures .0, s .pre .1 .0), (omega (arith, m .kept .1 .1 .1 .1 .1 .0, s .pre .1 .1 .0), omega (arith, m .kept .1 .1 .1 .1 .1 .1 .0, s .pre .1 .1 .1))))
 
 same-length : tie.Need-same-length
 same-length c = search needs
@@ -80,8 +79,8 @@ returns c =
     let counts = c .before .before .before .before .before .before .before .before .before .before .before .before .before .before .before .before .before .before .before .before .before .before .put-entries in
     let modes = c .before .before .before .before .before .before .before .before .before .before .before .before .before .before .before .before .put-modes in
     let switches = c .before .before .before .before .before .before .put-switches in
-    let first = subst (λ (x : ℕ). Written (now (a .out)) (a .at) (half x) (alphabet .last .0) (alphabet .result)) (c .before .before .before .before .before .before .before .before .before .before .before .before .before .before .before .before .before .before .before .before .before .before .before .before .before .before .before .widened .ensures) (alphabet .ensures) in
-    (left-last _ (left-on _ _ (left-on _ _ (left-on _ _ (left-as (component-parts (now (a .model)) (now (a .index)) (a .k)) (left-all (now (a .out)) (a .at) _)) first) (counts .ensures .0)) (modes .ensures .0)) (switches .ensures .0), omega (arith, switches .ensures .1, modes .ensures .1, counts .ensures .1, half-ends _ (alphabet .ensures)))
+    let first = subst (λ (x : ℕ). Written (now (a .out)) (a .at) (half x) (alphabet .last .0) (alphabet .result)) (c .before .before .before .before .before .before .before .before .before .before .before .before .before .before .before .before .before .before .before .before .before .before .before .before .before .before .before .widened .ensures) (as-half _ (alphabet .ensures)) in
+    (left-last _ (left-on _ _ (left-on _ _ (left-on _ _ (left-as (component-parts (now (a .model)) (now (a .index)) (a .k)) (left-all (now (a .out)) (a .at) _)) first) (counts .ensures .0)) (modes .ensures .0)) (switches .ensures .0), omega (arith, switches .ensures .1, modes .ensures .1, counts .ensures .1, alphabet .ensures .0))
 
 pub put-component-spec : {M : Type 1} → statement M
 put-component-spec =

@@ -1,13 +1,12 @@
 -- Four parts, one after the other. Assumes nothing.
-use mathlib.Core.Path.{_≡_, sym, ap, _∙_, subst}
-use mathlib.Core.List.{List, [], _∷_, _++_}
+use mathlib.Core.Path.{sym, subst}
+use mathlib.Core.List.{[], _∷_}
 use Prim.Native.Nat.{ℕ, _+_}
-use Rattle.models.specs.Index.{entry, spanRows, modeFrom, GoodSpan}
-use Rattle.writing.specs.Writing.{writeCondition, writeMode}
+use Rattle.models.specs.Index.{modeFrom}
+use Rattle.writing.specs.Writing.{writeMode}
 use Rattle.writing.specs.Changed.{changedMode}
 use Rattle.buffers.specs.Written.{Written}
 use Rattle.buffers.proofs.WritingLaws.{left-all, left-on, left-last, as-written}
-use Rattle.fair_models.specs.FairCopy.{fairCondition}
 use Rattle.fair_copies.proofs.PartLaws.{span-with, wide-with, put-with}
 use borrow.Author.Needs.{needs}
 use native.Mathlib.Omega.{arith}

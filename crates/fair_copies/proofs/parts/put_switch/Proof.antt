@@ -1,9 +1,9 @@
 -- Three numbers, then the rows. Assumes nothing.
-use mathlib.Core.Path.{_≡_, sym, ap, _∙_, subst}
-use mathlib.Core.List.{List, [], _∷_, _++_}
+use mathlib.Core.Path.{sym, ap, subst}
+use mathlib.Core.List.{List, [], _∷_}
 use Prim.Native.Nat.{ℕ, _+_, _*_}
 use Rattle.models.specs.Index.{entry, switchFrom}
-use Rattle.writing.specs.Writing.{writeCondition, writeSwitch}
+use Rattle.writing.specs.Writing.{writeSwitch}
 use Rattle.writing.specs.Changed.{changedSwitch}
 use Rattle.buffers.specs.Written.{Written}
 use Rattle.buffers.proofs.WritingLaws.{left-all, left-on, left-last}

@@ -1,8 +1,7 @@
 -- The modes that it asks for, then its rows. Assumes nothing.
-use mathlib.Core.Path.{_≡_, sym, ap, _∙_, subst}
-use mathlib.Core.List.{List}
+use mathlib.Core.Path.{sym, subst}
 use Prim.Native.Nat.{ℕ, _+_, _*_, _<_}
-use Rattle.models.specs.Index.{entry, unsafePlace}
+use Rattle.models.specs.Index.{unsafePlace}
 use Rattle.buffers.specs.Written.{Written}
 use Rattle.buffers.proofs.WritingLaws.{left-all, left-on, left-last, left-as}
 use Rattle.fair_copies.specs.Copyable.{entries}

@@ -1,0 +1,88 @@
+-- The call that writes the fair copy: what it hands back in each case, and the same at every desk (02, orders 2 and 4). Assumes nothing.
+use mathlib.Core.Path.{_≡_, refl, ap, _∙_}
+use mathlib.Core.Bool.{Bool, true, false}
+use mathlib.Core.List.{List, _++_}
+use Prim.Native.Nat.{ℕ, _≤_, _<_}
+use native.Mathlib.Omega.{arith}
+use borrow.Author.Tests.{leb-true, leb-false}
+use lib.Dec.{T, leb}
+use lib.ListN.{length, drop}
+use Rattle.farkas.specs.Lists.{All}
+use Rattle.formats.specs.Reading.{got, refused}
+use Rattle.formats.specs.Model.{Model}
+use Rattle.formats.specs.declared.Limits.{Limits}
+use Rattle.formats.specs.ModelSheet.{limitsFit, readModel}
+use Rattle.buffers.proofs.OverLaws.{over-whole}
+use Rattle.rules.specs.declared.Answer.{Answer}
+use Rattle.rules.specs.Opening.{ModelOpened, opens, openModel, WithinLimits}
+use Rattle.rules.specs.Marking.{answer, withModel}
+use Rattle.rules.proofs.Opening.{Begins, begins, unfit-shut}
+use Rattle.rules.proofs.Desks.{same-opening}
+use Rattle.fair_models.specs.FairCopy.{fairCopy, copyAnswer, fairAnswer, copyOver, bufferBy, bufferAfter}
+use Rattle.fair_models.proofs.CopyMeans.{copy-short}
+
+-- by how the model opens
+abbrev answerBy : ℕ → ℕ → ModelOpened → Answer
+answerBy handed room g = withModel g (λ m. copyAnswer handed (length (fairCopy m)) (leb (length (fairCopy m)) room))
+
+-- "A paper within both desks' limits gets the same answer at both", and the same bytes
+module _ (a b : Limits) (model : List ℕ) (i : WithinLimits a model) (j : WithinLimits b model) where
+  pub same-copy : (room : ℕ) → fairAnswer a model room ≡ fairAnswer b model room
+  unfolding fairAnswer
+  same-copy room = ap (answerBy (length model) room) (same-opening a b model i j)
+
+  pub same-buffer : (buffer : List ℕ) → bufferAfter a model buffer ≡ bufferAfter b model buffer
+  unfolding bufferAfter
+  same-buffer buffer = ap (bufferBy buffer) (same-opening a b model i j)
+
+-- limits that do not fit: 5, sheet 2, and nothing is written
+module _ (limits : Limits) (unfit : limitsFit limits ≡ false) (model : List ℕ) where
+  pub unfit-copy : (room : ℕ) → fairAnswer limits model room ≡ answer 5 2 0 0 0
+  unfolding fairAnswer withModel
+  unfit-copy room = ap (answerBy (length model) room) (unfit-shut limits model unfit)
+
+  pub unfit-buffer : (buffer : List ℕ) → bufferAfter limits model buffer ≡ buffer
+  unfolding bufferAfter bufferBy
+  unfit-buffer buffer = ap (bufferBy buffer) (unfit-shut limits model unfit)
+
+-- Every case: the model is copied, or the buffer is too short for its copy, or limits or model are refused. "Bytes past the copy stay", and
+-- a refusal writes nothing
+pub data Ends (limits : Limits) (model buffer : List ℕ) : Type 0 where
+  copied : (m : Model) (end : ℕ) → readModel limits model ≡ got m end → length (fairCopy m) ≤ length buffer → fairAnswer limits model (length buffer) ≡ answer 0 0 (length model) (length (fairCopy m)) 0 → bufferAfter limits model buffer ≡ fairCopy m ++ drop (length (fairCopy m)) buffer → Ends limits model buffer
+  short : (m : Model) (end : ℕ) → readModel limits model ≡ got m end → length buffer < length (fairCopy m) → fairAnswer limits model (length buffer) ≡ answer 15 2 (length (fairCopy m)) 0 0 → bufferAfter limits model buffer ≡ buffer → Ends limits model buffer
+  unread : (number at : ℕ) → T (limitsFit limits) → readModel limits model ≡ refused number at → fairAnswer limits model (length buffer) ≡ answer number 0 at 0 0 → bufferAfter limits model buffer ≡ buffer → Ends limits model buffer
+  unfit : limitsFit limits ≡ false → fairAnswer limits model (length buffer) ≡ answer 5 2 0 0 0 → bufferAfter limits model buffer ≡ buffer → Ends limits model buffer
+
+module _ (limits : Limits) (model buffer : List ℕ) where
+  told : {g : ModelOpened} → openModel limits model ≡ g → fairAnswer limits model (length buffer) ≡ answerBy (length model) (length buffer) g
+  unfolding fairAnswer
+  told e = ap (answerBy (length model) (length buffer)) e
+
+  left : {g : ModelOpened} → openModel limits model ≡ g → bufferAfter limits model buffer ≡ bufferBy buffer g
+  unfolding bufferAfter
+  left e = ap (bufferBy buffer) e
+
+  room : (m : Model) (end : ℕ) → readModel limits model ≡ got m end → openModel limits model ≡ opens m → (b : Bool) → leb (length (fairCopy m)) (length buffer) ≡ b → Ends limits model buffer
+  unfolding withModel copyAnswer bufferBy copyOver
+  room m end r o true e =
+      let fits = leb-true (length (fairCopy m)) (length buffer) e in
+      Ends.copied m end r fits
+      (told o ∙ ap (copyAnswer (length model) (length (fairCopy m))) e)
+      (left o ∙ ap (copyOver buffer (fairCopy m)) e ∙ over-whole buffer (fairCopy m) fits)
+  room m end r o false e =
+      Ends.short m end r (leb-false (length (fairCopy m)) (length buffer) e)
+      (told o ∙ ap (copyAnswer (length model) (length (fairCopy m))) e)
+      (left o ∙ ap (copyOver buffer (fairCopy m)) e)
+
+  pub copy-ends : Ends limits model buffer
+  unfolding withModel bufferBy
+  copy-ends = go (begins limits model)
+    where
+      go : Begins limits model (openModel limits model) → Ends limits model buffer
+      go (Begins.unfit e o) = Ends.unfit e (told o) (left o)
+      go (Begins.unread number at t e o) = Ends.unread number at t e (told o) (left o)
+      go (Begins.begun m end t e o) = room m end e o (leb (length (fairCopy m)) (length buffer)) refl
+
+-- a buffer as long as the model is never too short
+pub long-enough : (limits : Limits) (model buffer : List ℕ) (m : Model) (end : ℕ) → All (λ b. b < 256) model → readModel limits model ≡ got m end → length model ≤ length buffer → length (fairCopy m) ≤ length buffer
+long-enough limits model buffer m end b e h = omega (arith, copy-short limits model m end b e)
