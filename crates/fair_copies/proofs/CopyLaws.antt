@@ -2,11 +2,11 @@
 use mathlib.Core.Path.{_≡_, refl, sym, ap, ap₂, _∙_, subst}
 use mathlib.Core.Bool.{Bool, true, false, cond, _||_}
 use mathlib.Core.List.{List, [], _∷_, _++_, map}
-use Prim.Native.Nat.{ℕ, _+_, _-_, _≤_, _<_}
+use Prim.Native.Nat.{ℕ, _+_, _*_, _-_, _≤_, _<_}
 use native.Mathlib.Omega.{arith}
 use borrow.Author.Tests.{le-leb, lt-leb}
 use lib.Dec.{T, ltb, eqb, leb, ltb→lt, eqb→eq}
-use lib.ListN.{length, length-map}
+use lib.ListN.{length}
 use Rattle.farkas.specs.Lists.{All, none, more}
 use Rattle.farkas.specs.Sizes.{Bytes}
 use Rattle.formats.specs.Reading.{got}
@@ -18,7 +18,6 @@ use Rattle.formats.proofs.Members.{all-in, in-map, in-count}
 use Rattle.models.specs.Index.{entry, versionIn, ownerPlace, componentPlace, modePlace, unsafePlace, modeFrom, componentFrom, componentsFrom, unsafeFrom, modelFrom}
 use Rattle.rules.specs.Opening.{ModelOpened, opens, shut, openModel}
 use Rattle.rules.proofs.Opening.{Begins, begins}
-use Rattle.rules.proofs.ListFacts.{count-length}
 use Rattle.rules.specs.declared.Answer.{Answer}
 use Rattle.rules.specs.Marking.{answer, withModel}
 use Rattle.papers.specs.Opening.{openedModel, ModelOpen}
@@ -34,8 +33,10 @@ use Rattle.buffers.specs.Written.{Written}
 use Rattle.buffers.proofs.OverLaws.{over-then, over-front}
 use Rattle.fair_models.specs.FairCopy.{fairCondition, fairModel, fairCopy, copyAnswer, fairAnswer, copyOver, bufferBy, bufferAfter}
 use Rattle.fair_models.proofs.CopyMeans.{copy-short}
-use Rattle.fair_copies.specs.Copyable.{Copyable, entries, componentBytes, unsafeBytes}
-use Rattle.fair_copies.proofs.EachPut.{joined-map}
+use Rattle.fair_copies.specs.Copyable.{Copyable, entries, componentBytes}
+use Rattle.fair_copies.specs.Items.{conditionItems, itemBytes, itemsBytes}
+use Rattle.fair_copies.proofs.PartLaws.{total, unsafe-item}
+use Rattle.fair_copies.proofs.EachPut.{joined-map, joined-same}
 
 -- an open model was read
 record Read (limits : Limits) (model : List ℕ) (m : Model) : Type 0 where
@@ -96,7 +97,7 @@ copyable limits model index b o =
     record { good = o .accepted .good; short = o .accepted .short; starts = start-small model index w; asked = asked-small model index w }
 
 -- The body: counts, owners, components, unsafe conditions
-pub body-parts : (model index : List ℕ) → writeBody (fairModel (modelFrom model index)) ≡ entries index 0 3 ++ (entries index 3 (entry index 0) ++ (joinAll (componentBytes model index) (countUp 0 (entry index 1)) ++ joinAll (unsafeBytes model index) (countUp 0 (entry index 2))))
+pub body-parts : (model index : List ℕ) → writeBody (fairModel (modelFrom model index)) ≡ entries index 0 3 ++ (entries index 3 (entry index 0) ++ (joinAll (componentBytes model index) (countUp 0 (entry index 1)) ++ itemsBytes model index (conditionItems index)))
 unfolding writeBody fairModel changed modelFrom componentsFrom ownerPlace countUp
 body-parts model index =
     let v = versionIn index in
@@ -107,11 +108,13 @@ body-parts model index =
     let conditions = map unsafe (countUp 0 (entry index 2)) in
     let owners = entries index 3 n in
     ap₂ (λ (a b : ℕ). n ∷ a ∷ b ∷ (owners ++ (joinAll (writeComponent v) (map (changedComponent fairCondition) components) ++ joinAll (writeUnsafe v) (map (changedUnsafe fairCondition) conditions))))
-    (length-map components (changedComponent fairCondition) ∙ length-map (countUp 0 (entry index 1)) component ∙ count-length 0 (entry index 1))
-    (length-map conditions (changedUnsafe fairCondition) ∙ length-map (countUp 0 (entry index 2)) unsafe ∙ count-length 0 (entry index 2))
+    (total (changedComponent fairCondition) component (entry index 1))
+    (total (changedUnsafe fairCondition) unsafe (entry index 2))
     ∙ ap₂ (λ (a b : List ℕ). n ∷ entry index 1 ∷ entry index 2 ∷ (owners ++ (a ++ b)))
     (joined-map (writeComponent v) (changedComponent fairCondition) components ∙ joined-map (λ c. writeComponent v (changedComponent fairCondition c)) component (countUp 0 (entry index 1)))
-    (joined-map (writeUnsafe v) (changedUnsafe fairCondition) conditions ∙ joined-map (λ u. writeUnsafe v (changedUnsafe fairCondition u)) unsafe (countUp 0 (entry index 2)))
+    (joined-map (writeUnsafe v) (changedUnsafe fairCondition) conditions
+    ∙ joined-map (λ u. writeUnsafe v (changedUnsafe fairCondition u)) unsafe (countUp 0 (entry index 2))
+    ∙ joined-same (λ u. writeUnsafe v (changedUnsafe fairCondition (unsafe u))) (λ u. itemBytes model index (conditionItems index) (892 + 6 * u)) (unsafe-item model index) (countUp 0 (entry index 2)))
 
 -- how long the copy is: its header, then its body
 pub copy-length : (model index : List ℕ) (end : ℕ) → end ≡ 4 + length (writeBody (fairModel (modelFrom model index))) → end ≡ length (fairCopy (modelFrom model index))

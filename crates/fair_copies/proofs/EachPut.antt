@@ -1,5 +1,5 @@
 -- Parts written one after the other, by their numbers. Assumes nothing.
-use mathlib.Core.Path.{_≡_, refl, sym, ap, _∙_}
+use mathlib.Core.Path.{_≡_, refl, sym, ap, ap₂, _∙_}
 use mathlib.Core.List.{List, [], _∷_, _++_, map}
 use Prim.Native.Nat.{ℕ, suc, _+_, _*_, _-_, _≤_, _<_}
 use native.Mathlib.Nat.{mul-le-mul-left}
@@ -75,3 +75,8 @@ pub joined-map : {A B : Type 0} (f : B → List ℕ) (g : A → B) (xs : List A)
 unfolding joinAll
 joined-map f g [] = refl
 joined-map f g (x ∷ xs) = ap (λ (l : List ℕ). f (g x) ++ l) (joined-map f g xs)
+
+pub joined-same : {A : Type 0} (f g : A → List ℕ) → ((a : A) → f a ≡ g a) → (xs : List A) → joinAll f xs ≡ joinAll g xs
+unfolding joinAll
+joined-same f g same [] = refl
+joined-same f g same (x ∷ xs) = ap₂ (λ (a b : List ℕ). a ++ b) (same x) (joined-same f g same xs)

@@ -2,10 +2,10 @@
 use mathlib.Core.List.{List, map}
 use Prim.Native.Nat.{ℕ, _+_, _≤_, _<_}
 use lib.ListN.{length}
-use Rattle.formats.specs.Joint.{countUp, joinAll}
-use Rattle.models.specs.Index.{entry, versionIn, componentPlace, modePlace, switchPlace, unsafePlace, modeFrom, switchFrom, componentFrom, unsafeFrom, GoodIndex}
-use Rattle.writing.specs.Changed.{changedMode, changedSwitch, changedComponent, changedUnsafe}
-use Rattle.writing.specs.Writing.{writeMode, writeSwitch, writeComponent, writeUnsafe}
+use Rattle.formats.specs.Joint.{countUp}
+use Rattle.models.specs.Index.{entry, versionIn, componentPlace, modePlace, unsafePlace, componentFrom, GoodIndex}
+use Rattle.writing.specs.Changed.{changedComponent}
+use Rattle.writing.specs.Writing.{writeComponent}
 use Rattle.fair_models.specs.FairCopy.{fairCondition}
 
 -- a good index of a short sheet, of which each number that is written as a byte is one
@@ -23,24 +23,7 @@ Room kept sorted = (136 ≤ length kept) × (8 ≤ length sorted)
 abbrev pub entries : List ℕ → ℕ → ℕ → List ℕ
 entries index from count = map (λ k. entry index (from + k)) (countUp 0 count)
 
--- a mode, a switch, a component and an unsafe condition of the copy, by where the index keeps them
-abbrev pub modeBytes : List ℕ → List ℕ → ℕ → List ℕ
-modeBytes model index place = writeMode (versionIn index) (changedMode fairCondition (modeFrom model (versionIn index) (entry index 0) index place))
-
-abbrev pub switchBytes : List ℕ → List ℕ → ℕ → List ℕ
-switchBytes model index place = writeSwitch (versionIn index) (changedSwitch fairCondition (switchFrom model (versionIn index) (entry index 0) index place))
-
+-- a component of the copy, by its number
 abbrev pub componentBytes : List ℕ → List ℕ → ℕ → List ℕ
 componentBytes model index k =
     writeComponent (versionIn index) (changedComponent fairCondition (componentFrom model (versionIn index) (entry index 0) index (componentPlace k)))
-
-abbrev pub unsafeBytes : List ℕ → List ℕ → ℕ → List ℕ
-unsafeBytes model index u =
-    writeUnsafe (versionIn index) (changedUnsafe fairCondition (unsafeFrom model (versionIn index) (entry index 0) (entry index 1) index (unsafePlace u)))
-
--- all modes and all switches of a component
-abbrev pub modesBytes : List ℕ → List ℕ → ℕ → List ℕ
-modesBytes model index k = joinAll (λ j. modeBytes model index (modePlace (componentPlace k) j)) (countUp 0 (entry index (componentPlace k + 1)))
-
-abbrev pub switchesBytes : List ℕ → List ℕ → ℕ → List ℕ
-switchesBytes model index k = joinAll (λ i. switchBytes model index (switchPlace (componentPlace k) i)) (countUp 0 (entry index (componentPlace k + 2)))

@@ -1,1 +1,2 @@
 pub mod Copyable
+pub mod Items

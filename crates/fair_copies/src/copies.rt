@@ -1,7 +1,8 @@
 // The fair copy whole: how long it is, whether it fits, and its bytes.
+use crate::parts::conditions_of;
 use crate::parts::put_components;
 use crate::parts::put_entries;
-use crate::parts::put_unsafes;
+use crate::parts::put_items;
 use buffers::put_byte;
 use buffers::put_half;
 use fields::versions::HEADER_LENGTH;
@@ -46,9 +47,9 @@ fn put_body(
     sorted: &mut [u8],
 ) -> usize
     requires { ⌜ Copyable (now model) (now index) ⌝ }
-    requires { ⌜ (at < 2 ^ 52) × Room (now kept) (now sorted) ⌝ }
+    requires { ⌜ (at < 2 ^ 51) × Room (now kept) (now sorted) ⌝ }
     ensures { λ r. ⌜ Written (now (out .entry)) at (writeBody (fairModel (modelFrom (now (model .entry)) (now (index .entry))))) (now (out .exit)) r ⌝ }
-    ensures { λ r. ⌜ r ≤ at + 131307 ⌝ }
+    ensures { λ r. ⌜ r ≤ at + 472059 ⌝ }
 {
     let counts = put_entries(out, at, index, VARIABLES_AT, COUNTS);
     let owners = put_entries(
@@ -59,7 +60,15 @@ fn put_body(
         number_at(index, VARIABLES_AT),
     );
     let components = put_components(out, owners, model, index, kept, sorted);
-    put_unsafes(out, components, model, index, kept, sorted)
+    put_items(
+        out,
+        components,
+        model,
+        index,
+        conditions_of(index),
+        kept,
+        sorted,
+    )
 }
 
 // How long the copy is: its body on an empty buffer, after the header.
@@ -98,7 +107,7 @@ fn put_copy(
 ) -> usize
     requires { ⌜ Copyable (now model) (now index) × Room (now kept) (now sorted) ⌝ }
     ensures { λ r. ⌜ Written (now (out .entry)) 0 (fairCopy (modelFrom (now (model .entry)) (now (index .entry)))) (now (out .exit)) r ⌝ }
-    ensures { λ r. ⌜ r ≤ 131311 ⌝ }
+    ensures { λ r. ⌜ r ≤ 472063 ⌝ }
 {
     let end = put_body(out, HEADER_LENGTH, model, index, kept, sorted);
     put_half(out, 0, (end - 2) as u32);

@@ -11,13 +11,12 @@ use models::layout::FIRST_BLOCK;
 use models::layout::FIRST_MODE;
 use models::layout::FIRST_SWITCH;
 use models::layout::FIRST_UNSAFE;
-use models::layout::FLOW_AT;
 use models::layout::INITIAL_AT;
-use models::layout::INVARIANT_AT;
 use models::layout::Index;
 use models::layout::JUMP_AT;
 use models::layout::MODE_COUNT_AT;
 use models::layout::MODE_LENGTH;
+use models::layout::SECOND_SPAN;
 use models::layout::SWITCH_COUNT_AT;
 use models::layout::SWITCH_LENGTH;
 use models::layout::UNSAFE_LENGTH;
@@ -30,11 +29,25 @@ ghost use mathlib.Core.Path.{_≡_};
 ghost use Prim.Native.Nat.{ℕ, _+_, _*_, _^_, _≤_, _<_};
 ghost use lib.ListN.{length};
 ghost use Rattle.formats.specs.Joint.{countUp, joinAll};
-ghost use Rattle.models.specs.Index.{entry, versionIn, indexLength, componentsIn, conditionsIn, variablesIn, spanRows, GoodSpan, GoodModeAt, GoodSwitchAt};
+ghost use Rattle.models.specs.Index.{entry, versionIn, indexLength, componentsIn, variablesIn, spanRows, GoodSpan};
 ghost use Rattle.writing.specs.Writing.{writeCondition};
 ghost use Rattle.buffers.specs.Written.{Written};
 ghost use Rattle.fair_models.specs.FairCopy.{fairCondition};
-ghost use Rattle.fair_copies.specs.Copyable.{Copyable, Room, entries, modeBytes, switchBytes, componentBytes, unsafeBytes, modesBytes, switchesBytes};
+ghost use Rattle.fair_copies.specs.Copyable.{Copyable, Room, entries, componentBytes};
+ghost use Rattle.fair_copies.specs.Items.{spansBytes, itemBytes, itemsBytes, GoodSpans, GoodItem, GoodItems, modeItems, switchItems, conditionItems};
+
+// Items that an index keeps one after the other, the modes of a component, its switches, or the unsafe conditions: how many coefficients
+// their rows have, the place of the first, how many numbers each takes, and how many there are. Each has some numbers that are bytes of the
+// sheet, then, from a number on, its conditions.
+pub(crate) struct Items {
+    n: usize,
+    first: usize,
+    step: usize,
+    count: usize,
+    head: usize,
+    rows: usize,
+    spans: usize,
+}
 
 // So many numbers of an index, a byte each. The place after them.
 pub(crate) fn put_entries(
@@ -85,136 +98,154 @@ fn put_span(
     put_condition(out, at, model, stretch, kept, sorted)
 }
 
-// A mode: whether it is a start mode, then its initial, invariant and flow condition. The place after it.
-fn put_mode(
+// The conditions of an item, one after the other: an index keeps each as two numbers. The place after them.
+fn put_spans(
     out: &mut [u8],
     at: usize,
     model: &[u8],
     index: &Index,
+    items: Items,
     place: usize,
     kept: &mut [u32],
     sorted: &mut [u8],
 ) -> usize
-    requires { ⌜ (length (now model) ≤ 32768) × ((place + 7 ≤ indexLength) × GoodModeAt (now model) (versionIn (now index)) (variablesIn (now index)) (now index) place) ⌝ }
-    requires { ⌜ (at < 2 ^ 56) × ((variablesIn (now index) ≤ 8) × ((entry (now index) place < 256) × Room (now kept) (now sorted))) ⌝ }
-    ensures { λ r. ⌜ Written (now (out .entry)) at (modeBytes (now (model .entry)) (now (index .entry)) place) (now (out .exit)) r ⌝ }
-    ensures { λ r. ⌜ r ≤ at + 1636 ⌝ }
+    requires { ⌜ (length (now model) ≤ 32768) × ((place + 2 * items .spans ≤ indexLength) × GoodSpans (now model) (now index) items place) ⌝ }
+    requires { ⌜ (at < 2 ^ 56) × ((items .n ≤ 16) × ((items .spans ≤ 3) × Room (now kept) (now sorted))) ⌝ }
+    ensures { λ r. ⌜ Written (now (out .entry)) at (spansBytes (now (model .entry)) (now (index .entry)) items place) (now (out .exit)) r ⌝ }
+    ensures { λ r. ⌜ r ≤ at + 1635 ⌝ }
 {
-    let n = number_at(index, VARIABLES_AT);
-    let start = put_byte(out, at, number_at(index, place) as u8);
-    let initial = put_span(
-        out,
-        start,
-        model,
-        index,
-        place + INITIAL_AT,
-        n,
-        kept,
-        sorted,
-    );
-    let invariant = put_span(
-        out,
-        initial,
-        model,
-        index,
-        place + INVARIANT_AT,
-        n,
-        kept,
-        sorted,
-    );
-    put_span(
-        out,
-        invariant,
-        model,
-        index,
-        place + FLOW_AT,
-        n,
-        kept,
-        sorted,
-    )
-}
-
-// A switch: its source, its target and its label, then its jump condition. The place after it.
-fn put_switch(
-    out: &mut [u8],
-    at: usize,
-    model: &[u8],
-    index: &Index,
-    place: usize,
-    kept: &mut [u32],
-    sorted: &mut [u8],
-) -> usize
-    requires { ⌜ (length (now model) ≤ 32768) × ((place + 5 ≤ indexLength) × ((modes : ℕ) × ((modes ≤ 8) × GoodSwitchAt (now model) (versionIn (now index)) (variablesIn (now index)) modes (now index) place))) ⌝ }
-    requires { ⌜ (at < 2 ^ 56) × ((variablesIn (now index) ≤ 8) × Room (now kept) (now sorted)) ⌝ }
-    ensures { λ r. ⌜ Written (now (out .entry)) at (switchBytes (now (model .entry)) (now (index .entry)) place) (now (out .exit)) r ⌝ }
-    ensures { λ r. ⌜ r ≤ at + 548 ⌝ }
-{
-    let n = number_at(index, VARIABLES_AT);
-    let label = put_entries(out, at, index, place, JUMP_AT);
-    put_span(
-        out,
-        label,
-        model,
-        index,
-        place + JUMP_AT,
-        2 * n,
-        kept,
-        sorted,
-    )
-}
-
-// The modes of component k. The place after them.
-fn put_modes(
-    out: &mut [u8],
-    at: usize,
-    model: &[u8],
-    index: &Index,
-    k: usize,
-    kept: &mut [u32],
-    sorted: &mut [u8],
-) -> usize
-    requires { ⌜ Copyable (now model) (now index) × (k < componentsIn (now index)) ⌝ }
-    requires { ⌜ (at < 2 ^ 55) × Room (now kept) (now sorted) ⌝ }
-    ensures { λ r. ⌜ Written (now (out .entry)) at (modesBytes (now (model .entry)) (now (index .entry)) k) (now (out .exit)) r ⌝ }
-    ensures { λ r. ⌜ r ≤ at + 13088 ⌝ }
-{
-    let block = FIRST_BLOCK + BLOCK_LENGTH * k;
-    let count = number_at(index, block + MODE_COUNT_AT);
-    let mut next = at;
-    let mut j: usize = 0;
-    while j < count {
-        let place = block + FIRST_MODE + MODE_LENGTH * j;
-        next = put_mode(out, next, model, index, place, kept, sorted);
-        j += 1;
-    }
-    next
-}
-
-// The switches of component k. The place after them.
-fn put_switches(
-    out: &mut [u8],
-    at: usize,
-    model: &[u8],
-    index: &Index,
-    k: usize,
-    kept: &mut [u32],
-    sorted: &mut [u8],
-) -> usize
-    requires { ⌜ Copyable (now model) (now index) × (k < componentsIn (now index)) ⌝ }
-    requires { ⌜ (at < 2 ^ 55) × Room (now kept) (now sorted) ⌝ }
-    ensures { λ r. ⌜ Written (now (out .entry)) at (switchesBytes (now (model .entry)) (now (index .entry)) k) (now (out .exit)) r ⌝ }
-    ensures { λ r. ⌜ r ≤ at + 17536 ⌝ }
-{
-    let block = FIRST_BLOCK + BLOCK_LENGTH * k;
-    let count = number_at(index, block + SWITCH_COUNT_AT);
     let mut next = at;
     let mut i: usize = 0;
-    while i < count {
-        let place = block + FIRST_SWITCH + SWITCH_LENGTH * i;
-        next = put_switch(out, next, model, index, place, kept, sorted);
+    while i < items.spans {
+        next = put_span(
+            out,
+            next,
+            model,
+            index,
+            place + SECOND_SPAN * i,
+            items.n,
+            kept,
+            sorted,
+        );
         i += 1;
     }
     next
+}
+
+// The item that an index keeps at a place: its first numbers, a byte each, then its conditions. The place after it.
+fn put_item(
+    out: &mut [u8],
+    at: usize,
+    model: &[u8],
+    index: &Index,
+    items: Items,
+    place: usize,
+    kept: &mut [u32],
+    sorted: &mut [u8],
+) -> usize
+    requires { ⌜ (length (now model) ≤ 32768) × GoodItem (now model) (now index) items place ⌝ }
+    requires { ⌜ (at < 2 ^ 55) × Room (now kept) (now sorted) ⌝ }
+    ensures { λ r. ⌜ Written (now (out .entry)) at (itemBytes (now (model .entry)) (now (index .entry)) items place) (now (out .exit)) r ⌝ }
+    ensures { λ r. ⌜ r ≤ at + 1639 ⌝ }
+{
+    let head = put_entries(out, at, index, place, items.head);
+    put_spans(
+        out,
+        head,
+        model,
+        index,
+        items,
+        place + items.rows,
+        kept,
+        sorted,
+    )
+}
+
+// All items of a kind. The place after them.
+pub(crate) fn put_items(
+    out: &mut [u8],
+    at: usize,
+    model: &[u8],
+    index: &Index,
+    items: Items,
+    kept: &mut [u32],
+    sorted: &mut [u8],
+) -> usize
+    requires { ⌜ (length (now model) ≤ 32768) × GoodItems (now model) (now index) items ⌝ }
+    requires { ⌜ (at < 2 ^ 54) × Room (now kept) (now sorted) ⌝ }
+    ensures { λ r. ⌜ Written (now (out .entry)) at (itemsBytes (now (model .entry)) (now (index .entry)) items) (now (out .exit)) r ⌝ }
+    ensures { λ r. ⌜ r ≤ at + 52448 ⌝ }
+{
+    let mut next = at;
+    let mut i: usize = 0;
+    while i < items.count {
+        next = put_item(
+            out,
+            next,
+            model,
+            index,
+            items,
+            items.first + items.step * i,
+            kept,
+            sorted,
+        );
+        i += 1;
+    }
+    next
+}
+
+// The modes of the component whose block begins here.
+fn modes_of(index: &Index, block: usize) -> Items
+    requires { ⌜ block + 1 < indexLength ⌝ }
+    ensures { λ r. ⌜ r ≡ modeItems (now (index .entry)) block ⌝ }
+{
+    let n = number_at(index, VARIABLES_AT);
+    let count = number_at(index, block + MODE_COUNT_AT);
+    Items {
+        n,
+        first: block + FIRST_MODE,
+        step: MODE_LENGTH,
+        count,
+        head: INITIAL_AT,
+        rows: INITIAL_AT,
+        spans: 3,
+    }
+}
+
+// Its switches.
+fn switches_of(index: &Index, block: usize) -> Items
+    requires { ⌜ (block + 2 < indexLength) × (variablesIn (now index) ≤ 8) ⌝ }
+    ensures { λ r. ⌜ r ≡ switchItems (now (index .entry)) block ⌝ }
+{
+    let n = number_at(index, VARIABLES_AT);
+    let count = number_at(index, block + SWITCH_COUNT_AT);
+    Items {
+        n: 2 * n,
+        first: block + FIRST_SWITCH,
+        step: SWITCH_LENGTH,
+        count,
+        head: JUMP_AT,
+        rows: JUMP_AT,
+        spans: 1,
+    }
+}
+
+// The unsafe conditions.
+pub(crate) fn conditions_of(index: &Index) -> Items
+    ensures { λ r. ⌜ r ≡ conditionItems (now (index .entry)) ⌝ }
+{
+    let n = number_at(index, VARIABLES_AT);
+    let components = number_at(index, COMPONENTS_AT);
+    let count = number_at(index, CONDITIONS_AT);
+    Items {
+        n,
+        first: FIRST_UNSAFE,
+        step: UNSAFE_LENGTH,
+        count,
+        head: components,
+        rows: UNSAFE_ROWS_AT,
+        spans: 1,
+    }
 }
 
 // Component k: its alphabet, how many modes and switches it has, then these. The place after it.
@@ -228,42 +259,28 @@ fn put_component(
     sorted: &mut [u8],
 ) -> usize
     requires { ⌜ Copyable (now model) (now index) × (k < componentsIn (now index)) ⌝ }
-    requires { ⌜ (at < 2 ^ 54) × Room (now kept) (now sorted) ⌝ }
+    requires { ⌜ (at < 2 ^ 53) × Room (now kept) (now sorted) ⌝ }
     ensures { λ r. ⌜ Written (now (out .entry)) at (componentBytes (now (model .entry)) (now (index .entry)) k) (now (out .exit)) r ⌝ }
-    ensures { λ r. ⌜ r ≤ at + 30628 ⌝ }
+    ensures { λ r. ⌜ r ≤ at + 104900 ⌝ }
 {
     let block = FIRST_BLOCK + BLOCK_LENGTH * k;
     let alphabet = put_half(out, at, widened(index[block]));
     let counts = put_entries(out, alphabet, index, block + MODE_COUNT_AT, 2);
-    let modes = put_modes(out, counts, model, index, k, kept, sorted);
-    put_switches(out, modes, model, index, k, kept, sorted)
-}
-
-// Unsafe condition u: the modes that it asks for, then its rows. The place after it.
-fn put_unsafe(
-    out: &mut [u8],
-    at: usize,
-    model: &[u8],
-    index: &Index,
-    u: usize,
-    kept: &mut [u32],
-    sorted: &mut [u8],
-) -> usize
-    requires { ⌜ Copyable (now model) (now index) × (u < conditionsIn (now index)) ⌝ }
-    requires { ⌜ (at < 2 ^ 54) × Room (now kept) (now sorted) ⌝ }
-    ensures { λ r. ⌜ Written (now (out .entry)) at (unsafeBytes (now (model .entry)) (now (index .entry)) u) (now (out .exit)) r ⌝ }
-    ensures { λ r. ⌜ r ≤ at + 549 ⌝ }
-{
-    let n = number_at(index, VARIABLES_AT);
-    let place = FIRST_UNSAFE + UNSAFE_LENGTH * u;
-    let modes = put_entries(out, at, index, place, number_at(index, COMPONENTS_AT));
-    put_span(
+    let modes = put_items(
+        out,
+        counts,
+        model,
+        index,
+        modes_of(index, block),
+        kept,
+        sorted,
+    );
+    put_items(
         out,
         modes,
         model,
         index,
-        place + UNSAFE_ROWS_AT,
-        n,
+        switches_of(index, block),
         kept,
         sorted,
     )
@@ -279,9 +296,9 @@ pub(crate) fn put_components(
     sorted: &mut [u8],
 ) -> usize
     requires { ⌜ Copyable (now model) (now index) ⌝ }
-    requires { ⌜ (at < 2 ^ 53) × Room (now kept) (now sorted) ⌝ }
+    requires { ⌜ (at < 2 ^ 52) × Room (now kept) (now sorted) ⌝ }
     ensures { λ r. ⌜ Written (now (out .entry)) at (joinAll (componentBytes (now (model .entry)) (now (index .entry))) (countUp 0 (componentsIn (now (index .entry))))) (now (out .exit)) r ⌝ }
-    ensures { λ r. ⌜ r ≤ at + 122512 ⌝ }
+    ensures { λ r. ⌜ r ≤ at + 419600 ⌝ }
 {
     let count = number_at(index, COMPONENTS_AT);
     let mut next = at;
@@ -289,30 +306,6 @@ pub(crate) fn put_components(
     while k < count {
         next = put_component(out, next, model, index, k, kept, sorted);
         k += 1;
-    }
-    next
-}
-
-// All unsafe conditions. The place after them.
-pub(crate) fn put_unsafes(
-    out: &mut [u8],
-    at: usize,
-    model: &[u8],
-    index: &Index,
-    kept: &mut [u32],
-    sorted: &mut [u8],
-) -> usize
-    requires { ⌜ Copyable (now model) (now index) ⌝ }
-    requires { ⌜ (at < 2 ^ 53) × Room (now kept) (now sorted) ⌝ }
-    ensures { λ r. ⌜ Written (now (out .entry)) at (joinAll (unsafeBytes (now (model .entry)) (now (index .entry))) (countUp 0 (conditionsIn (now (index .entry))))) (now (out .exit)) r ⌝ }
-    ensures { λ r. ⌜ r ≤ at + 8784 ⌝ }
-{
-    let count = number_at(index, CONDITIONS_AT);
-    let mut next = at;
-    let mut u: usize = 0;
-    while u < count {
-        next = put_unsafe(out, next, model, index, u, kept, sorted);
-        u += 1;
     }
     next
 }
