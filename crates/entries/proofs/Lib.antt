@@ -1,3 +1,4 @@
 pub mod Demand
 pub mod ListPlan
 pub mod Element
+pub mod CopiedModel

@@ -94,7 +94,7 @@ fn put_numbers(out: &mut [u8], at: usize, kept: &[u32], base: usize, count: usiz
     next
 }
 
-// The rows of an order, with n coefficients each. The place after them.
+// The rows of an order, with n coefficients each. The place after them. The version is handed over for the contract.
 fn put_rows(
     out: &mut [u8],
     at: usize,

@@ -3,7 +3,7 @@
 use mathlib.Core.List.{List, _++_}
 use Prim.Native.Nat.{ℕ, _+_, _*_, _≤_, _<_}
 use Rattle.formats.specs.Joint.{countUp, joinAll}
-use Rattle.models.specs.Index.{entry, versionIn, indexLength, spanRows, GoodSpan}
+use Rattle.models.specs.Index.{entry, variablesIn, componentsIn, conditionsIn, versionIn, indexLength, firstMode, modeLength, firstSwitch, switchLength, firstUnsafe, unsafeLength, initialAt, jumpAt, unsafeRowsAt, spanRows, GoodSpan}
 use Rattle.writing.specs.Writing.{writeCondition}
 use Rattle.fair_models.specs.FairCopy.{fairCondition}
 use Rattle.fair_copies.specs.declared.parts.Items.{Items}
@@ -11,14 +11,40 @@ use Rattle.fair_copies.specs.Copyable.{entries}
 
 -- the modes and the switches of the component whose block begins here, and the unsafe conditions
 abbrev pub modeItems : List ℕ → ℕ → Items
-modeItems index block = record { n = entry index 0; first = block + 3; step = 7; count = entry index (block + 1); head = 1; rows = 1; spans = 3 }
+modeItems index block =
+    record {
+      n = variablesIn index;
+      first = block + firstMode;
+      step = modeLength;
+      count = entry index (block + 1);
+      head = initialAt;
+      rows = initialAt;
+      spans = 3;
+    }
 
 abbrev pub switchItems : List ℕ → ℕ → Items
 switchItems index block =
-    record { n = 2 * entry index 0; first = block + 59; step = 5; count = entry index (block + 2); head = 3; rows = 3; spans = 1 }
+    record {
+      n = 2 * variablesIn index;
+      first = block + firstSwitch;
+      step = switchLength;
+      count = entry index (block + 2);
+      head = jumpAt;
+      rows = jumpAt;
+      spans = 1;
+    }
 
 abbrev pub conditionItems : List ℕ → Items
-conditionItems index = record { n = entry index 0; first = 892; step = 6; count = entry index 2; head = entry index 1; rows = 4; spans = 1 }
+conditionItems index =
+    record {
+      n = variablesIn index;
+      first = firstUnsafe;
+      step = unsafeLength;
+      count = conditionsIn index;
+      head = componentsIn index;
+      rows = unsafeRowsAt;
+      spans = 1;
+    }
 
 -- a condition that is kept at a place, those of an item, an item, and all of them
 abbrev pub spanBytes : List ℕ → List ℕ → ℕ → ℕ → List ℕ

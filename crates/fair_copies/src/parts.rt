@@ -29,12 +29,10 @@ ghost use mathlib.Core.Path.{_≡_};
 ghost use Prim.Native.Nat.{ℕ, _+_, _*_, _^_, _≤_, _<_};
 ghost use lib.ListN.{length};
 ghost use Rattle.formats.specs.Joint.{countUp, joinAll};
-ghost use Rattle.models.specs.Index.{entry, versionIn, indexLength, componentsIn, variablesIn, spanRows, GoodSpan};
-ghost use Rattle.writing.specs.Writing.{writeCondition};
+ghost use Rattle.models.specs.Index.{entry, versionIn, indexLength, componentsIn, variablesIn, GoodSpan};
 ghost use Rattle.buffers.specs.Written.{Written};
-ghost use Rattle.fair_models.specs.FairCopy.{fairCondition};
 ghost use Rattle.fair_copies.specs.Copyable.{Copyable, Room, entries, componentBytes};
-ghost use Rattle.fair_copies.specs.Items.{spansBytes, itemBytes, itemsBytes, GoodSpans, GoodItem, GoodItems, modeItems, switchItems, conditionItems};
+ghost use Rattle.fair_copies.specs.Items.{spanBytes, spansBytes, itemBytes, itemsBytes, GoodSpans, GoodItem, GoodItems, modeItems, switchItems, conditionItems};
 
 // Items that an index keeps one after the other, the modes of a component, its switches, or the unsafe conditions: how many coefficients
 // their rows have, the place of the first, how many numbers each takes, and how many there are. Each has some numbers that are bytes of the
@@ -48,6 +46,9 @@ pub(crate) struct Items {
     rows: usize,
     spans: usize,
 }
+
+// What each function says of the place after what it writes is a bound: a condition has a byte for its count and eight rows of at most 68
+// bytes, 545 in all; an item four bytes and three conditions, 1,639; a component four bytes and twice 32 items; and so on.
 
 // So many numbers of an index, a byte each. The place after them.
 pub(crate) fn put_entries(
@@ -83,7 +84,7 @@ fn put_span(
 ) -> usize
     requires { ⌜ (length (now model) ≤ 32768) × ((place + 1 < indexLength) × GoodSpan (now model) (versionIn (now index)) n (now index) place) ⌝ }
     requires { ⌜ (at < 2 ^ 57) × ((n ≤ 16) × Room (now kept) (now sorted)) ⌝ }
-    ensures { λ r. ⌜ Written (now (out .entry)) at (writeCondition (versionIn (now (index .entry))) (fairCondition (spanRows (now (model .entry)) (versionIn (now (index .entry))) n (now (index .entry)) place))) (now (out .exit)) r ⌝ }
+    ensures { λ r. ⌜ Written (now (out .entry)) at (spanBytes (now (model .entry)) (now (index .entry)) n place) (now (out .exit)) r ⌝ }
     ensures { λ r. ⌜ r ≤ at + 545 ⌝ }
 {
     let version = version_of(index);

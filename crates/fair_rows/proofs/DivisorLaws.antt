@@ -74,7 +74,8 @@ common-small d (more {a = z} {xs = xs} h c) l = go (natAbs z) refl (common-small
     go zero e f = omega (arith, f (omega arith))
     go (suc k) e f = omega (arith, le-of-dvd {m = d} {n = natAbs z} (omega arith) h)
 
--- "the greatest common divisor of its numbers": the divisor divides them all, is at least 1, and no other that divides them all is greater
+-- "the greatest common divisor of its numbers": where they are not all 0, the divisor divides them all, is at least 1, and no other that
+-- divides them all is greater
 greatest-divisor : (xs : List ℤ) → Greatest (λ d. dividesAll d xs) (size xs) (divisor xs)
 unfolding divisor
 greatest-divisor xs =
@@ -184,7 +185,7 @@ zeros-stay d (more e h) =
     ap₂ (λ (x : ℤ) (ys : List ℤ). x ∷ ys) (ap (quotient d) e ∙ ap pos (zero-div d) ∙ sym e) (zeros-stay d h)
 
 -- the divisor of zeros and one number below 0 is that number without its sign, so that divided by it the number is −1
-divisor-zeros : (n : ℕ) {xs : List ℤ} → Zeros xs → suc n ≡ divisor (xs ++ (negsuc n ∷ []))
+pub divisor-zeros : (n : ℕ) {xs : List ℤ} → Zeros xs → suc n ≡ divisor (xs ++ (negsuc n ∷ []))
 divisor-zeros n {xs} h =
     common-is (xs ++ (negsuc n ∷ [])) (suc n)
     (λ d p. (

@@ -7,7 +7,7 @@ use Prim.Native.Nat.{ℕ, zero, suc, _≤_, max}
 use native.Mathlib.Omega.{arith}
 use lib.Dec.{T, eqb}
 use lib.IntN.{ℤ, pos, natAbs}
-use lib.ListN.{length, length-map}
+use lib.ListN.{length}
 use mir.Facts.{yes-eqb}
 use Rattle.farkas.specs.Lists.{every, All, none, more}
 use Rattle.farkas.specs.Rows.{Row, compared, zeroRow}
@@ -43,22 +43,6 @@ fair-each f (more {a = r} {xs = rows} p h) = insert-all-keeps (fairRow r) (fairR
 
 pub fair-all : (P : Row → Type 0) → ((r : Row) → P r → All P (fairRow r)) → (rows : List Row) → All P rows → All P (fairRows rows)
 fair-all P f rows h = fair-each f h
-
-pub fair-rows-plain : (rows : List Row) → All (λ r. r .strict ≡ false) rows → All (λ r. r .strict ≡ false) (fairRows rows)
-unfolding never lowest divided
-fair-rows-plain = fair-all (λ r. r .strict ≡ false) plain
-  where
-    plain : (r : Row) → r .strict ≡ false → All (λ x. x .strict ≡ false) (fairRow r)
-    plain r s = fair-row-cases (λ rs. All (λ x. x .strict ≡ false) rs) r (λ e f. none) (λ e f. more refl none) (λ e. more s none)
-
-pub fair-rows-wide : (n : ℕ) (rows : List Row) → All (λ r. length (r .coefficients) ≡ n) rows → All (λ r. length (r .coefficients) ≡ n) (fairRows rows)
-unfolding never lowest divided
-fair-rows-wide n = fair-all (λ r. length (r .coefficients) ≡ n) wide
-  where
-    wide : (r : Row) → length (r .coefficients) ≡ n → All (λ x. length (x .coefficients) ≡ n) (fairRow r)
-    wide r l =
-        fair-row-cases (λ rs. All (λ x. length (x .coefficients) ≡ n) rs) r (λ e f. none) (λ e f. more l none)
-        (λ e. more (length-map (r .coefficients) (quotient (divisor (numbersOf r))) ∙ l) none)
 
 -- "strictly ascending": sorted, without repeats
 pub fair-ascending : (rows : List Row) → Ascending (fairRows rows)
@@ -116,7 +100,7 @@ still r e =
     let d = divisor (r .coefficients ++ (r .bound ∷ [])) in
     quotients-zero d (common-parts d (r .coefficients) (r .bound) (row-common r e) .0) ∙ e
 
-once : (r : Row) → every isZero (r .coefficients) ≡ false → divisor (numbersOf (lowest r)) ≡ 1
+pub once : (r : Row) → every isZero (r .coefficients) ≡ false → divisor (numbersOf (lowest r)) ≡ 1
 unfolding lowest divided numbersOf
 once r e =
     let xs = r .coefficients ++ (r .bound ∷ []) in

@@ -3,3 +3,4 @@ pub mod DivisorLaws
 pub mod OrderLaws
 pub mod FairLaws
 pub mod TruthLaws
+pub mod SpellingLaws

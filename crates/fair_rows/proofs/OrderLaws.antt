@@ -1,5 +1,5 @@
--- The order of rows, and inserting a row among sorted ones: rows that stand nowhere before each other are the same row, what is inserted
--- among strictly ascending rows leaves them so, and a loop that carries the row not yet placed does the same. Assumes nothing.
+-- The order of rows, and inserting a row among sorted ones: rows that stand nowhere before each other are the same row, and what is
+-- inserted among strictly ascending rows leaves them so. Assumes nothing.
 use mathlib.Core.Path.{_≡_, refl, sym, ap, ap₂, _∙_, subst}
 use mathlib.Core.Bool.{Bool, true, false, not, _&&_, and-assoc}
 use mathlib.Core.List.{List, [], _∷_, _++_, head-eq-of-cons-eq, tail-eq-of-cons-eq}
@@ -23,7 +23,7 @@ code higher = 2
 differ : {A : Type 0} (x y : Order) → (code x ≡ code y → ⊥) → x ≡ y → A
 differ x y h e = absurd (h (ap code e))
 
-lower-same : {A : Type 0} → _≡_ {A = Order} lower same → A
+pub lower-same : {A : Type 0} → _≡_ {A = Order} lower same → A
 unfolding code
 lower-same = differ lower same (λ e. omega arith)
 
@@ -31,7 +31,7 @@ higher-same : {A : Type 0} → _≡_ {A = Order} higher same → A
 unfolding code
 higher-same = differ higher same (λ e. omega arith)
 
-lower-higher : {A : Type 0} → _≡_ {A = Order} lower higher → A
+pub lower-higher : {A : Type 0} → _≡_ {A = Order} lower higher → A
 unfolding code
 lower-higher = differ lower higher (λ e. omega arith)
 
@@ -40,7 +40,7 @@ unfolding code
 same-higher = differ same higher (λ e. omega arith)
 
 -- Numbers, and lists of numbers, neither of which stands before the other are the same
-not-lt : (x y : ℤ) → ltZ x y ≡ false → y ≤ℤ x
+pub not-lt : (x y : ℤ) → ltZ x y ≡ false → y ≤ℤ x
 not-lt x y e = ltZ-no (subst (λ b. T (not b)) (sym e) tt)
 
 numbers-same : (x y : ℤ) → orderOf (ltZ x y) (ltZ y x) ≡ same → x ≡ y

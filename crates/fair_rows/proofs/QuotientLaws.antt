@@ -1,13 +1,13 @@
 -- Division of one number: what it means that one number divides another, and what a whole number is after a division. Assumes nothing.
-use mathlib.Core.Path.{_≡_, refl, sym, ap, _∙_, subst}
-use mathlib.Core.Logic.{_↔_, _⊎_, inl, inr}
+use mathlib.Core.Path.{_≡_, refl, sym, ap, _∙_}
+use mathlib.Core.Logic.{_↔_}
 use mathlib.Core.Bool.{Bool, true, false}
-use Prim.Native.Nat.{ℕ, zero, suc, _*_, _-_, _/_, _%_, _^_, _≤_, _<_, _∣_}
+use Prim.Native.Nat.{ℕ, zero, suc, _*_, _/_, _%_, _≤_, _∣_}
 use native.Mathlib.Omega.{arith}
 use native.Mathlib.Nat.{div-one, zero-div, div-le-self, mul-div-cancel', dvd-mod-iff, dvd-of-mod-eq-zero, mod-eq-zero-of-dvd}
-use lib.Dec.{T, eqb, leb·zero, leb→le, le→leb, ltb→lt, lt→ltb}
+use lib.Dec.{T, eqb}
 use lib.IntN.{ℤ, pos, negsuc, negℤ, natAbs, _*ℤ_}
-use lib.Signed.{leZ, mag, _≤ℤ_, _<ℤ_}
+use lib.Signed.{mag}
 use mir.Facts.{eqb-yes, yes-eqb}
 use Rattle.fair_rows.specs.FairRows.{quotient, isZero}
 
@@ -51,28 +51,7 @@ unfolding quotient
 quotient-size d (pos n) = refl
 quotient-size d (negsuc n) = minus-size (suc n / d)
 
-pub fits-quotient : (d : ℕ) (z : ℤ) → natAbs (quotient d z) ≤ natAbs z
-fits-quotient d z = omega (arith, quotient-size d z, div-le-self (natAbs z) d)
-
-pub quotient-sign : (d : ℕ) (z : ℤ) → leZ (pos 0) z ≡ true → leZ (pos 0) (quotient d z) ≡ true
-unfolding quotient
-quotient-sign d (pos n) e = leb·zero (n / d)
-quotient-sign d (negsuc n) e = absurd (subst T (sym e) tt)
-
--- a number of at least 0 stays one; one below 0 stays one or becomes 0; neither gets larger
-pub quotient-pos : (d n : ℕ) → (k : ℕ) × (quotient d (pos n) ≡ pos k) × (k ≤ n)
-unfolding quotient
-quotient-pos d n = (n / d, refl, div-le-self n d)
-
-pub quotient-negsuc : (d n : ℕ) → (quotient d (negsuc n) ≡ pos 0) ⊎ ((k : ℕ) × (quotient d (negsuc n) ≡ negsuc k) × (k ≤ n))
-unfolding quotient
-quotient-negsuc d n = go (suc n / d) (div-le-self (suc n) d)
-  where
-    go : (k : ℕ) → k ≤ suc n → (negℤ (pos k) ≡ pos 0) ⊎ ((j : ℕ) × (negℤ (pos k) ≡ negsuc j) × (j ≤ n))
-    go zero h = inl refl
-    go (suc k) h = inr (k, refl, omega arith)
-
--- so a number stays within the range of a signed width: `mag` is below half the width's power there
+-- divided, a number stays within the range of a signed width: `mag` is below half the width's power there
 pub quotient-mag : (d : ℕ) (z : ℤ) → mag (quotient d z) ≤ mag z
 unfolding quotient
 quotient-mag d (pos n) = div-le-self n d
@@ -81,18 +60,6 @@ quotient-mag d (negsuc n) = go (suc n / d) (div-le-self (suc n) d)
     go : (k : ℕ) → k ≤ suc n → mag (negℤ (pos k)) ≤ n
     go zero h = omega arith
     go (suc k) h = omega arith
-
-mag-within : (z : ℤ) → (mag z < 2 ^ 31) ↔ ((negℤ (pos (2 ^ 31)) ≤ℤ z) × (z <ℤ pos (2 ^ 31)))
-mag-within (pos n) = (λ h. (record { le = tt }, record { lt = lt→ltb n (2 ^ 31) h }), λ h. ltb→lt n (2 ^ 31) (h .1 .lt))
-mag-within (negsuc n) =
-    (λ h. (record { le = le→leb n (2 ^ 31 - 1) (omega arith) }, record { lt = tt }), λ h. omega (arith, leb→le n (2 ^ 31 - 1) (h .0 .le)))
-
-pub quotient-within :
-    (d : ℕ) (z : ℤ) → 1 ≤ d → negℤ (pos (2 ^ 31)) ≤ℤ z → z <ℤ pos (2 ^ 31)
-    → (negℤ (pos (2 ^ 31)) ≤ℤ quotient d z) × (quotient d z <ℤ pos (2 ^ 31))
-quotient-within d z p l h =
-    let small : mag z < 2 ^ 31 = mag-within z .1 (l, h) in
-    mag-within (quotient d z) .0 (omega (arith, quotient-mag d z))
 
 -- a number that is divided without a remainder is 0 exactly where it was
 pub quotient-zero : (d : ℕ) (z : ℤ) → d ∣ natAbs z → isZero (quotient d z) ≡ isZero z

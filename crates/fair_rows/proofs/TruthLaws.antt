@@ -1,4 +1,4 @@
--- The fair rows of a condition hold where the condition holds: at every values p and every q of at least 1, and, where no row is strict, at
+-- The fair rows of a condition hold where the condition holds: at all values p and every q of at least 1, and, where no row is strict, at
 -- q = 0 too, as rates are compared with. Both are one argument, in which a strict row asks that q is at least 1. Assumes nothing.
 use mathlib.Core.Path.{_≡_, refl, sym, ap, ap₂, _∙_, subst}
 use mathlib.Core.Bool.{Bool, true, false, _&&_, and-true}

@@ -8,7 +8,7 @@ use lib.Signed.{ltZ}
 use Rattle.farkas.specs.Rows.{Row, compared}
 use Rattle.farkas.specs.Lists.{every}
 
--- a row's numbers: its coefficients, then its bound. The mark "is none of the numbers that are divided"
+-- a row's numbers: its coefficients, then its bound. Its mark is none of them
 unfoldable pub numbersOf : Row → List ℤ
 numbersOf r = r .coefficients ++ (r .bound ∷ [])
 
@@ -21,7 +21,7 @@ unfoldable pub greatest : (ℕ → Bool) → ℕ → ℕ
 greatest f zero = zero
 greatest f (suc n) = cond (f (suc n)) (suc n) (greatest f n)
 
--- no divisor is greater than the largest of the numbers, without their signs
+-- no number that divides them all is greater than the largest of them without their signs, where they are not all 0
 unfoldable pub size : List ℤ → ℕ
 size [] = zero
 size (z ∷ zs) = max (natAbs z) (size zs)

@@ -1,4 +1,5 @@
-// How a paper opens: the stated limits and the model, in every call that reads one; then the second sheet, in every call that takes two.
+// How a paper opens: the stated limits and the model, in every call that reads one; then the second sheet, in every call that takes two. And
+// what a model's index says by the places of its numbers.
 use crate::answers::on_model;
 use crate::answers::on_second;
 use fields::Field;

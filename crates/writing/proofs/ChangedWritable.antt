@@ -27,9 +27,9 @@ pub record Shortens (f : Condition → Condition) : Type 0 where
   pub fits : (version n : ℕ) (rows : Condition) → All (FitsRow version n) rows → All (FitsRow version n) (f rows)
 
 -- what holds of each element's image
-all-map : {A B : Type 0} {P : A → Type 0} {Q : B → Type 0} {xs : List A} (g : A → B) → ((a : A) → P a → Q (g a)) → All P xs → All Q (map g xs)
-all-map g f none = none
-all-map g f (more {a = a} h hs) = more (f a h) (all-map g f hs)
+all-mapped : {A B : Type 0} {P : A → Type 0} {Q : B → Type 0} {xs : List A} (g : A → B) → ((a : A) → P a → Q (g a)) → All P xs → All Q (map g xs)
+all-mapped g f none = none
+all-mapped g f (more {a = a} h hs) = more (f a h) (all-mapped g f hs)
 
 -- bytes that are no more than others: the same; one part after another; for each element of a list
 record NoMore (xs ys : List ℕ) : Type 0 where
@@ -109,11 +109,11 @@ module _ (f : Condition → Condition) (short : Shortens f) where
         least = subst (λ (k : ℕ). 1 ≤ k) (sym modes) (w .least);
         most = subst (λ (k : ℕ). k ≤ 8) (sym modes) (w .most);
         few = subst (λ (k : ℕ). k ≤ 32) (sym switches) (w .few);
-        modes = all-map (changedMode f) (mode-writable version n) (w .modes);
+        modes = all-mapped (changedMode f) (mode-writable version n) (w .modes);
         switches = subst
             (λ (k : ℕ). All (WritableSwitch version n (c .alphabet) k) (map (changedSwitch f) (c .switches)))
             (sym modes)
-            (all-map (changedSwitch f) (switch-writable version n (c .alphabet) (length (c .modes))) (w .switches));
+            (all-mapped (changedSwitch f) (switch-writable version n (c .alphabet) (length (c .modes))) (w .switches));
       }
 
   unsafe-writable : (version n : ℕ) (components : List Component) (u : Unsafe) → WritableUnsafe version n components u → WritableUnsafe version n (map (changedComponent f) components) (changedUnsafe f u)
@@ -140,8 +140,8 @@ module _ (f : Condition → Condition) (short : Shortens f) where
         some = subst (λ (k : ℕ). 1 ≤ k) (sym components) (w .some);
         few = subst (λ (k : ℕ). k ≤ 4) (sym components) (w .few);
         conditions = subst (λ (k : ℕ). k ≤ 16) (sym unsafe) (w .conditions);
-        components = all-map (changedComponent f) (component-writable (m .version) (m .variables)) (w .components);
-        unsafe = all-map (changedUnsafe f) (unsafe-writable (m .version) (m .variables) (m .components)) (w .unsafe);
+        components = all-mapped (changedComponent f) (component-writable (m .version) (m .variables)) (w .components);
+        unsafe = all-mapped (changedUnsafe f) (unsafe-writable (m .version) (m .variables) (m .components)) (w .unsafe);
       }
 
   -- part by part, it takes no more bytes
