@@ -15,6 +15,7 @@ use lib.Seq.{drop-cons, take-suc-set, drop-set-lt, take-set-lt, length-take-le, 
 use lib.Signed.{ltZ}
 use Rattle.farkas.specs.Lists.{All, none, more}
 use Rattle.farkas.specs.Rows.{Row}
+use Rattle.formats.proofs.Members.{all-below}
 use Rattle.fair_rows.specs.FairRows.{Order, lower, same, higher, orderOf, firstOf, order, keysOf, markOf, placed, insert}
 use Rattle.fair_rows.proofs.OrderLaws.{Ascending, rise, insert-first}
 use Rattle.fair_conditions.specs.Held.{lowered, keptNumbers, keptRow, standing, carriedOn, leftBehind, slipBy, slip, Among}
@@ -265,11 +266,6 @@ stands-as same n e = (λ h. absurd (omega (arith, e, h)), (λ h. refl, λ h k. a
 stands-as higher n e = (λ h. refl, (λ h. absurd (omega (arith, e, h)), λ h k. absurd (h e)))
 
 -- the row numbers of an order, each by its place
-pub all-at : {P : ℕ → Type 0} {xs : List ℕ} → All P xs → (i : ℕ) → i < length xs → P (getD xs i 0)
-all-at none i h = absurd (omega arith)
-all-at (more h a) zero l = h
-all-at (more h a) (suc i) l = all-at a i (omega arith)
-
 pub among-at : {least : ℕ} (count : ℕ) (sorted : List ℕ) → Among least (take count sorted) → count ≤ length sorted → (j : ℕ) → j < count → getD sorted j 0 < 8
 among-at count sorted a h j l =
-    subst (λ (k : ℕ). k < 8) (getD-take count sorted j 0 l) (all-at a j (omega (arith, length-take-le count sorted h)) .1)
+    subst (λ (k : ℕ). k < 8) (getD-take count sorted j 0 l) (all-below a j 0 (omega (arith, length-take-le count sorted h)) .1)

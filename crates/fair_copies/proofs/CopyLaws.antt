@@ -17,6 +17,7 @@ use Rattle.formats.specs.ModelSheet.{readModel}
 use Rattle.formats.proofs.Members.{all-in, in-map, in-count}
 use Rattle.models.specs.Index.{entry, versionIn, ownerPlace, componentPlace, modePlace, unsafePlace, modeFrom, componentFrom, componentsFrom, unsafeFrom, modelFrom}
 use Rattle.rules.specs.Opening.{ModelOpened, opens, shut, openModel}
+use Rattle.rules.proofs.ListFacts.{joined-alike}
 use Rattle.rules.proofs.Opening.{Begins, begins}
 use Rattle.rules.specs.declared.Answer.{Answer}
 use Rattle.rules.specs.Marking.{answer, withModel}
@@ -36,7 +37,7 @@ use Rattle.fair_models.proofs.CopyMeans.{copy-short}
 use Rattle.fair_copies.specs.Copyable.{Copyable, entries, componentBytes}
 use Rattle.fair_copies.specs.Items.{conditionItems, itemBytes, itemsBytes}
 use Rattle.fair_copies.proofs.PartLaws.{total, unsafe-item}
-use Rattle.fair_copies.proofs.EachPut.{joined-map, joined-same}
+use Rattle.fair_copies.proofs.EachPut.{joined-map}
 
 -- an open model was read
 record Read (limits : Limits) (model : List ℕ) (m : Model) : Type 0 where
@@ -114,7 +115,7 @@ body-parts model index =
     (joined-map (writeComponent v) (changedComponent fairCondition) components ∙ joined-map (λ c. writeComponent v (changedComponent fairCondition c)) component (countUp 0 (entry index 1)))
     (joined-map (writeUnsafe v) (changedUnsafe fairCondition) conditions
     ∙ joined-map (λ u. writeUnsafe v (changedUnsafe fairCondition u)) unsafe (countUp 0 (entry index 2))
-    ∙ joined-same (λ u. writeUnsafe v (changedUnsafe fairCondition (unsafe u))) (λ u. itemBytes model index (conditionItems index) (892 + 6 * u)) (unsafe-item model index) (countUp 0 (entry index 2)))
+    ∙ joined-alike (λ u. writeUnsafe v (changedUnsafe fairCondition (unsafe u))) (λ u. itemBytes model index (conditionItems index) (892 + 6 * u)) (countUp 0 (entry index 2)) (unsafe-item model index))
 
 -- how long the copy is: its header, then its body
 pub copy-length : (model index : List ℕ) (end : ℕ) → end ≡ 4 + length (writeBody (fairModel (modelFrom model index))) → end ≡ length (fairCopy (modelFrom model index))

@@ -8,14 +8,14 @@ use native.Mathlib.Omega.{arith}
 use lib.ListN.{length, length-map}
 use Rattle.formats.specs.Joint.{countUp, joinAll}
 use Rattle.formats.specs.Model.{Mode, Switch}
-use Rattle.rules.proofs.ListFacts.{count-length}
+use Rattle.rules.proofs.ListFacts.{count-length, joined-alike}
 use Rattle.models.specs.Index.{entry, versionIn, componentPlace, modePlace, switchPlace, unsafePlace, modeFrom, switchFrom, componentFrom, unsafeFrom, GoodSpan}
 use Rattle.writing.specs.Changed.{changedMode, changedSwitch, changedComponent, changedUnsafe}
 use Rattle.writing.specs.Writing.{half, writeMode, writeSwitch, writeComponent, writeUnsafe}
 use Rattle.fair_models.specs.FairCopy.{fairCondition}
 use Rattle.fair_copies.specs.Copyable.{Copyable, entries, componentBytes}
 use Rattle.fair_copies.specs.Items.{modeItems, switchItems, conditionItems, spanBytes, itemBytes, itemsBytes, GoodItems}
-use Rattle.fair_copies.proofs.EachPut.{joined-map, joined-same}
+use Rattle.fair_copies.proofs.EachPut.{joined-map}
 
 -- the numbers of an index that stand at a place and after it
 pub two-entries : (index : List ℕ) (place : ℕ) → entries index place 2 ≡ entry index place ∷ entry index (place + 1) ∷ []
@@ -79,7 +79,7 @@ module _ (model index : List ℕ) where
       let count = countUp 0 (entry index (block + 1)) in
       joined-map (writeMode (versionIn index)) (changedMode fairCondition) (map each count)
       ∙ joined-map (λ m. writeMode (versionIn index) (changedMode fairCondition m)) each count
-      ∙ joined-same (λ j. writeMode (versionIn index) (changedMode fairCondition (each j))) (λ j. itemBytes model index (modeItems index block) (block + 3 + 7 * j)) (mode-item block) count
+      ∙ joined-alike (λ j. writeMode (versionIn index) (changedMode fairCondition (each j))) (λ j. itemBytes model index (modeItems index block) (block + 3 + 7 * j)) count (mode-item block)
 
   switches-written : (block : ℕ) → joinAll (writeSwitch (versionIn index)) (map (changedSwitch fairCondition) (map (λ i. switchFrom model (versionIn index) (entry index 0) index (switchPlace block i)) (countUp 0 (entry index (block + 2))))) ≡ itemsBytes model index (switchItems index block)
   switches-written block =
@@ -87,7 +87,7 @@ module _ (model index : List ℕ) where
       let count = countUp 0 (entry index (block + 2)) in
       joined-map (writeSwitch (versionIn index)) (changedSwitch fairCondition) (map each count)
       ∙ joined-map (λ w. writeSwitch (versionIn index) (changedSwitch fairCondition w)) each count
-      ∙ joined-same (λ i. writeSwitch (versionIn index) (changedSwitch fairCondition (each i))) (λ i. itemBytes model index (switchItems index block) (block + 59 + 5 * i)) (switch-item block) count
+      ∙ joined-alike (λ i. writeSwitch (versionIn index) (changedSwitch fairCondition (each i))) (λ i. itemBytes model index (switchItems index block) (block + 59 + 5 * i)) count (switch-item block)
 
   pub component-parts : (k : ℕ) → componentBytes model index k ≡ half (entry index (componentPlace k)) ++ (entries index (componentPlace k + 1) 2 ++ (itemsBytes model index (modeItems index (componentPlace k)) ++ itemsBytes model index (switchItems index (componentPlace k))))
   unfolding writeComponent changedComponent componentFrom
