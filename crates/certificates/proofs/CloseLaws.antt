@@ -2,8 +2,7 @@
 -- each part's answer makes that of the whole. Assumes nothing.
 use mathlib.Core.Path.{_≡_, refl, sym, ap, ap₂, _∙_, subst}
 use mathlib.Core.List.{List}
-use Prim.Native.Nat.{ℕ, zero, suc, _≤_, min}
-use native.Mathlib.Nat.{mul-div-cancel}
+use Prim.Native.Nat.{ℕ, _≤_, min}
 use native.Mathlib.Omega.{arith}
 use lib.ListN.{length}
 use Rattle.formats.specs.Reading.{Got, got, refused, finished}
@@ -27,6 +26,7 @@ use Rattle.scores.proofs.CountGoals.{obligations-length, locations-few, jumps-f
 use Rattle.certificates.proofs.MarkLaws.{Goes, goes, mark-tasks, stands-passed, stands-stopped}
 use Rattle.hypotheses.specs.Listing.{tasks}
 use Rattle.papers.specs.Opening.{opened, Open}
+use Rattle.rules.proofs.Scores.{full-score}
 use Rattle.rules.proofs.Calls.{certificateBy}
 use Rattle.papers.proofs.OpenLaws.{open-refused, open-goes-on, opened-answer}
 
@@ -35,15 +35,10 @@ pub obligations-few : {model index second regions : List ℕ} → GoodPaper mode
 obligations-few {model} {index} {second} {regions} g locations l h =
     omega (arith, obligations-length model index second regions locations l, locations-few g locations l, jumps-few g h)
 
--- where all proofs have passed the score is 100, and 99 where bytes are left
-score-whole : (done : ℕ) → scoreOf done done ≡ 100
-unfolding scoreOf
-score-whole zero = refl
-score-whole (suc done) = mul-div-cancel 100 (omega arith)
-
+-- where all proofs have passed and bytes are left the score is 99
 score-left : (done : ℕ) → refusedScore done done ≡ 99
 unfolding refusedScore
-score-left done = ap (λ (n : ℕ). min 99 n) (score-whole done)
+score-left done = ap (λ (n : ℕ). min 99 n) (full-score done)
 
 -- The end, once the proofs have passed
 unfoldable ended : ℕ → List ℕ → ℕ → Got (Unit {0}) → Answer
@@ -62,7 +57,7 @@ module _ (s : List ℕ) (place done : ℕ) where
   pub end-whole : (next : ℕ) → finished s place ≡ got tt next → answer 0 1 (length s) done 100 ≡ closeCertificate done s (passed tt place done)
   unfolding ended
   end-whole next e =
-      ap (λ (n : ℕ). answer 0 1 (length s) done n) (sym (score-whole done)) ∙ sym (close-passed done s place done ∙ ap (ended done s done) e)
+      ap (λ (n : ℕ). answer 0 1 (length s) done n) (sym (full-score done)) ∙ sym (close-passed done s place done ∙ ap (ended done s done) e)
 
   pub end-left : (number at : ℕ) → finished s place ≡ refused number at → answer number 1 at done 99 ≡ closeCertificate done s (passed tt place done)
   unfolding ended

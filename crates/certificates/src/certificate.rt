@@ -13,7 +13,7 @@ use papers::opening::locations_of;
 use papers::opening::open_paper;
 use rules::Answer;
 use scores::counting::obligation_count;
-use scores::counting::refused_score;
+use scores::rounding::refused_score;
 use second_sheets::certificate::read_regions;
 use second_sheets::ranges::REGIONS_LENGTH;
 use second_sheets::ranges::Regions;

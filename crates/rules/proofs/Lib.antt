@@ -7,6 +7,8 @@ pub mod ObligationTotal
 pub mod Opening
 pub mod Calls
 pub mod EveryHypothesis
+pub mod Nearest
+pub mod Scores
 pub mod MarkedRanges
 pub mod CertificateExactly
 pub mod RunExactly

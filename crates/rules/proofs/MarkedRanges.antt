@@ -5,7 +5,6 @@ use mathlib.Core.Logic.{⊎-elim}
 use mathlib.Core.Bool.{Bool, true, false, cond, _&&_}
 use mathlib.Core.List.{List, [], _∷_, map}
 use Prim.Native.Nat.{ℕ, zero, suc, _+_, _-_, _^_, _≤_, _<_}
-use native.Mathlib.Nat.{div-le-of-le-mul, min-le-left}
 use native.Mathlib.Omega.{arith}
 use lib.Dec.{leb, ltb}
 use lib.ListN.{length, getD}
@@ -37,6 +36,7 @@ use Rattle.rules.specs.Opening.{openModel, openSecond}
 use Rattle.rules.specs.Marking.{answer, scoreOf, refusedScore, Marked, passed, stopped, testProof, markProof, markProofs, closeCertificate, markRegions, markCertificate, testStep, markStep, markSteps, closeRun, firstState, markOpening, markRun}
 use Rattle.rules.specs.Beside.{listAnswer, Found, found, unfound, noObligation, findIn, findAfter, findHypothesis, foundAnswer, showAnswer, sheetOf, listOf}
 use Rattle.rules.proofs.Hypotheses.{all-so}
+use Rattle.rules.proofs.Scores.{score-fits, refused-score-fits}
 use Rattle.rules.proofs.EveryHypothesis.{Serves, every-obligation}
 
 -- the fields of an answer on these two sheets, all but done, whose bound is each call's own
@@ -47,16 +47,6 @@ pub record AnswerRange (model second : List ℕ) (a : Answer) : Type 0 where
   pub inSecond : a .sheet ≡ 1 → a .place ≤ length second
   pub score : a .score ≤ 100
   pub refused : 1 ≤ a .number → a .score ≤ 99
-
--- scores
-score-fits : (done total : ℕ) → done ≤ total → scoreOf done total ≤ 100
-unfolding scoreOf
-score-fits done zero h = omega arith
-score-fits done (suc total) h = div-le-of-le-mul (suc total) (omega arith)
-
-refused-score-fits : (done total : ℕ) → refusedScore done total ≤ 99
-unfolding refusedScore
-refused-score-fits done total = min-le-left 99 _
 
 -- a proof or step once tested: a value ends within the sheet; a refusal has a number, and a place within the sheet
 abbrev Judged : {A : Type 0} → List ℕ → Got A → Type 0

@@ -23,6 +23,7 @@ use Rattle.formats.specs.RunSheet.{readValues, readOpening, readFlow, readJump,
 use Rattle.rules.specs.Runs.{conditionHolds, present, modesIn, admissible, startAllowed, difference, sameValues, ratesHold, stillAtZero, flowRule, movers, stayingVariables, stayingKept, jumpRows, jumpRule, after, ruleMet, stepAllowed, modesFit, isUnsafe}
 use Rattle.rules.specs.Obligations.{nowhere, standing, onX, onNext, onRates, timeRow, unit, stayingRows, modeRows, startHypotheses, flowHypotheses, unsafeHypotheses, jumpHypotheses, zeroOnly, perRow, startObligations, flowObligations, unsafeObligations, locationObligations, jumpObligations, jumpsObligations, obligationsOver, regionOf, obligations}
 use Rattle.rules.specs.Opening.{openAs, openModel, openSecond}
+use Rattle.rules.specs.Nearest.{nearer, nearest}
 use Rattle.rules.specs.Marking.{answer, scoreOf, refusedScore, testProof, markProof, markProofs, closeCertificate, markRegions, withModel, markCertificate, testStep, markStep, markSteps, closeRun, firstState, markOpening, markRun}
 use Rattle.rules.specs.Papers.{upperRow, down, tUntil, t, tNine, tCut, one, c, cTurned, cTwice, cNine, still, flowing}
 use Rattle.rules.specs.Program.{digits, decimal, numbered, textOf, firstLength, firstSheet, secondSheet, refusedLine, lineFor, isRun, markLine, printed}
@@ -50,12 +51,12 @@ runs-differ e =
 
 -- `SAFE 3`
 pub prints-safe : printed (t ++ c) ≡ 83 ∷ 65 ∷ 70 ∷ 69 ∷ 32 ∷ 51 ∷ 10 ∷ []
-unfolding ones every some item dot compared rowHolds zeroRow plus counts strictAfter addRow addEntry addEntries summed sameZ coefficientsAgree boundPasses sumsTest farkasTest andThen _>>=_ _>>_ give here expect bigEndian field u8 u16 u32 signed s32 passing must within below many each lengthRight sized versionFits kindFits header finished withinSigned readStrict strictAt readRow readCondition hasEvent readMode readSwitch readComponent readUnsafe readModelBody locationCount modesAt locationOf modeOf stays switchOf leaves moves bit scopeMask moverCount partIn membersMove allStay oneMoves isJoint modesAfter numbersFrom leaving allStaying silent inFront together switchesOf countUp joinAll jointsOf joints examLimits limitFits limitsFit readWhole limitsTest readModel openAs openModel openSecond readRegions readEntry readEntries readProof readValues readOpening readFlow readJump readStepOf readStep conditionHolds present modesIn admissible startAllowed difference sameValues ratesHold stillAtZero flowRule movers stayingVariables stayingKept jumpRows jumpRule after ruleMet stepAllowed modesFit isUnsafe nowhere standing onX onNext onRates timeRow unit stayingRows modeRows startHypotheses flowHypotheses unsafeHypotheses jumpHypotheses zeroOnly perRow startObligations flowObligations unsafeObligations locationObligations jumpObligations jumpsObligations obligationsOver regionOf obligations answer scoreOf refusedScore testProof markProof markProofs closeCertificate markRegions withModel markCertificate testStep markStep markSteps closeRun firstState markOpening markRun upperRow down tUntil t tNine tCut one c cTurned cTwice cNine still flowing digits decimal numbered textOf firstLength firstSheet secondSheet refusedLine lineFor isRun markLine printed
+unfolding ones every some item dot compared rowHolds zeroRow plus counts strictAfter addRow addEntry addEntries summed sameZ coefficientsAgree boundPasses sumsTest farkasTest andThen _>>=_ _>>_ give here expect bigEndian field u8 u16 u32 signed s32 passing must within below many each lengthRight sized versionFits kindFits header finished withinSigned readStrict strictAt readRow readCondition hasEvent readMode readSwitch readComponent readUnsafe readModelBody locationCount modesAt locationOf modeOf stays switchOf leaves moves bit scopeMask moverCount partIn membersMove allStay oneMoves isJoint modesAfter numbersFrom leaving allStaying silent inFront together switchesOf countUp joinAll jointsOf joints examLimits limitFits limitsFit readWhole limitsTest readModel openAs openModel openSecond readRegions readEntry readEntries readProof readValues readOpening readFlow readJump readStepOf readStep conditionHolds present modesIn admissible startAllowed difference sameValues ratesHold stillAtZero flowRule movers stayingVariables stayingKept jumpRows jumpRule after ruleMet stepAllowed modesFit isUnsafe nowhere standing onX onNext onRates timeRow unit stayingRows modeRows startHypotheses flowHypotheses unsafeHypotheses jumpHypotheses zeroOnly perRow startObligations flowObligations unsafeObligations locationObligations jumpObligations jumpsObligations obligationsOver regionOf obligations answer nearer nearest scoreOf refusedScore testProof markProof markProofs closeCertificate markRegions withModel markCertificate testStep markStep markSteps closeRun firstState markOpening markRun upperRow down tUntil t tNine tCut one c cTurned cTwice cNine still flowing digits decimal numbered textOf firstLength firstSheet secondSheet refusedLine lineFor isRun markLine printed
 prints-safe = refl
 
 -- `REFUSED 14 1 15 0 0`
 pub prints-refused : printed (t ++ still 5) ≡ 82 ∷ 69 ∷ 70 ∷ 85 ∷ 83 ∷ 69 ∷ 68 ∷ 32 ∷ 49 ∷ 52 ∷ 32 ∷ 49 ∷ 32 ∷ 49 ∷ 53 ∷ 32 ∷ 48 ∷ 32 ∷ 48 ∷ 10 ∷ []
-unfolding ones every some item dot compared rowHolds zeroRow plus counts strictAfter addRow addEntry addEntries summed sameZ coefficientsAgree boundPasses sumsTest farkasTest andThen _>>=_ _>>_ give here expect bigEndian field u8 u16 u32 signed s32 passing must within below many each lengthRight sized versionFits kindFits header finished withinSigned readStrict strictAt readRow readCondition hasEvent readMode readSwitch readComponent readUnsafe readModelBody locationCount modesAt locationOf modeOf stays switchOf leaves moves bit scopeMask moverCount partIn membersMove allStay oneMoves isJoint modesAfter numbersFrom leaving allStaying silent inFront together switchesOf countUp joinAll jointsOf joints examLimits limitFits limitsFit readWhole limitsTest readModel openAs openModel openSecond readRegions readEntry readEntries readProof readValues readOpening readFlow readJump readStepOf readStep conditionHolds present modesIn admissible startAllowed difference sameValues ratesHold stillAtZero flowRule movers stayingVariables stayingKept jumpRows jumpRule after ruleMet stepAllowed modesFit isUnsafe nowhere standing onX onNext onRates timeRow unit stayingRows modeRows startHypotheses flowHypotheses unsafeHypotheses jumpHypotheses zeroOnly perRow startObligations flowObligations unsafeObligations locationObligations jumpObligations jumpsObligations obligationsOver regionOf obligations answer scoreOf refusedScore testProof markProof markProofs closeCertificate markRegions withModel markCertificate testStep markStep markSteps closeRun firstState markOpening markRun upperRow down tUntil t tNine tCut one c cTurned cTwice cNine still flowing digits decimal numbered textOf firstLength firstSheet secondSheet refusedLine lineFor isRun markLine printed
+unfolding ones every some item dot compared rowHolds zeroRow plus counts strictAfter addRow addEntry addEntries summed sameZ coefficientsAgree boundPasses sumsTest farkasTest andThen _>>=_ _>>_ give here expect bigEndian field u8 u16 u32 signed s32 passing must within below many each lengthRight sized versionFits kindFits header finished withinSigned readStrict strictAt readRow readCondition hasEvent readMode readSwitch readComponent readUnsafe readModelBody locationCount modesAt locationOf modeOf stays switchOf leaves moves bit scopeMask moverCount partIn membersMove allStay oneMoves isJoint modesAfter numbersFrom leaving allStaying silent inFront together switchesOf countUp joinAll jointsOf joints examLimits limitFits limitsFit readWhole limitsTest readModel openAs openModel openSecond readRegions readEntry readEntries readProof readValues readOpening readFlow readJump readStepOf readStep conditionHolds present modesIn admissible startAllowed difference sameValues ratesHold stillAtZero flowRule movers stayingVariables stayingKept jumpRows jumpRule after ruleMet stepAllowed modesFit isUnsafe nowhere standing onX onNext onRates timeRow unit stayingRows modeRows startHypotheses flowHypotheses unsafeHypotheses jumpHypotheses zeroOnly perRow startObligations flowObligations unsafeObligations locationObligations jumpObligations jumpsObligations obligationsOver regionOf obligations answer nearer nearest scoreOf refusedScore testProof markProof markProofs closeCertificate markRegions withModel markCertificate testStep markStep markSteps closeRun firstState markOpening markRun upperRow down tUntil t tNine tCut one c cTurned cTwice cNine still flowing digits decimal numbered textOf firstLength firstSheet secondSheet refusedLine lineFor isRun markLine printed
 prints-refused = refl
 
 pub lines-differ : printed (t ++ c) ≡ printed (t ++ still 5) → ⊥

@@ -4,9 +4,8 @@ use mathlib.Core.Path.{_≡_, refl, sym, ap, ap₂, _∙_, subst}
 use mathlib.Core.Logic.{_↔_}
 use mathlib.Core.Bool.{Bool, true, false, cond}
 use mathlib.Core.List.{List, [], _∷_, _++_}
-use Prim.Native.Nat.{ℕ, zero, suc, _+_, _*_, _-_, _/_, _≤_, _<_}
+use Prim.Native.Nat.{ℕ, zero, suc, _+_, _-_, _≤_, _<_}
 use native.Mathlib.Omega.{arith}
-use lib.Arith.{digits-div}
 use lib.Dec.{T}
 use lib.ListN.{length}
 use mir.Facts.{yes-and}
@@ -28,17 +27,9 @@ use Rattle.rules.specs.Opening.{ModelOpened, openModel, openSecond}
 use Rattle.rules.specs.Marking.{answer, scoreOf, refusedScore, Marked, passed, stopped, testProof, markProof, markProofs, closeCertificate, markRegions, withModel, markCertificate, testStep, markStep, markSteps, closeRun, firstState, markOpening, markRun}
 use Rattle.rules.specs.ReadWell.{readProofs, rowsOf, AllMeet, met-none, met-more, CertificateHolds, RunSheet}
 use Rattle.rules.specs.Outcomes.{ProofFails, ProofsStop, StepFails, StepsStop, CertificateEnds, RunEnds}
+use Rattle.rules.proofs.Scores.{full-score}
 use Rattle.rules.proofs.CertificateExactly.{readOne, tested-proof, marked-read, read-marked, whole-certificate, parts-of}
 use Rattle.rules.proofs.RunExactly.{parts-read, step-passed, many-more, steps-onward, steps-stop, steps-passed, pass-steps}
-
--- all of `total` obligations passed: the score is 100
-pub full-score : (total : ℕ) → scoreOf total total ≡ 100
-unfolding scoreOf
-full-score zero = refl
-full-score (suc n) = ap (λ (k : ℕ). k / suc n) (law n) ∙ digits-div 100 {m = suc n} {r = 0} (omega arith)
-  where
-    law : (n : ℕ) → 100 * suc n ≡ 100 * suc n + 0
-    law n = omega arith
 
 -- a proof that fails
 test-fails : (o : Obligation) (s : List ℕ) (place : ℕ) (p : Proof) (next n number at : ℕ) → readOne o s place ≡ got p next → farkasTest (rowsOf o) (o .goal) p ≡ n → _≡_ {A = Got Proof} (elim n [ zero ↦ got p next | suc k ↦ refused (suc k) place ]) (refused number at) → ProofFails o s place number at

@@ -18,6 +18,7 @@ use Rattle.formats.specs.RunSheet.{readValues, readOpening, readFlow, readJump,
 use Rattle.rules.specs.Runs.{conditionHolds, present, modesIn, admissible, startAllowed, difference, sameValues, ratesHold, stillAtZero, flowRule, movers, stayingVariables, stayingKept, jumpRows, jumpRule, after, ruleMet, stepAllowed, modesFit, isUnsafe}
 use Rattle.rules.specs.Obligations.{nowhere, standing, onX, onNext, onRates, timeRow, unit, stayingRows, modeRows, startHypotheses, flowHypotheses, unsafeHypotheses, jumpHypotheses, zeroOnly, perRow, startObligations, flowObligations, unsafeObligations, locationObligations, jumpObligations, jumpsObligations, obligationsOver, regionOf, obligations}
 use Rattle.rules.specs.Opening.{openAs, openModel, openSecond}
+use Rattle.rules.specs.Nearest.{nearer, nearest}
 use Rattle.rules.specs.Marking.{answer, scoreOf, refusedScore, testProof, markProof, markProofs, closeCertificate, markRegions, withModel, markCertificate, testStep, markStep, markSteps, closeRun, firstState, markOpening, markRun}
 use Rattle.rules.specs.Papers.{upperRow, down, tUntil, t, tNine, tCut, one, c, cTurned, cTwice, cNine, still, flowing}
 
@@ -39,7 +40,7 @@ pub twelve :
     ∷ answer 3 0 3 0 0
     ∷ answer 4 0 62 0 0
     ∷ answer 5 0 4 0 0
-    ∷ answer 9 1 44 2 66
+    ∷ answer 9 1 44 2 67
     ∷ answer 10 1 14 0 0
     ∷ answer 11 1 14 0 0
     ∷ answer 12 1 10 0 0
@@ -48,5 +49,5 @@ pub twelve :
     ∷ answer 0 1 49 3 100
     ∷ answer 0 1 24 1 100
     ∷ [])
-unfolding ones every some item dot compared rowHolds zeroRow plus counts strictAfter addRow addEntry addEntries summed sameZ coefficientsAgree boundPasses sumsTest farkasTest andThen _>>=_ _>>_ give here expect bigEndian field u8 u16 u32 signed s32 passing must within below many each lengthRight sized versionFits kindFits header finished withinSigned readStrict strictAt readRow readCondition hasEvent readMode readSwitch readComponent readUnsafe readModelBody locationCount modesAt locationOf modeOf stays switchOf leaves moves bit scopeMask moverCount partIn membersMove allStay oneMoves isJoint modesAfter numbersFrom leaving allStaying silent inFront together switchesOf countUp joinAll jointsOf joints examLimits limitFits limitsFit readWhole limitsTest readModel openAs openModel openSecond readRegions readEntry readEntries readProof readValues readOpening readFlow readJump readStepOf readStep conditionHolds present modesIn admissible startAllowed difference sameValues ratesHold stillAtZero flowRule movers stayingVariables stayingKept jumpRows jumpRule after ruleMet stepAllowed modesFit isUnsafe nowhere standing onX onNext onRates timeRow unit stayingRows modeRows startHypotheses flowHypotheses unsafeHypotheses jumpHypotheses zeroOnly perRow startObligations flowObligations unsafeObligations locationObligations jumpObligations jumpsObligations obligationsOver regionOf obligations answer scoreOf refusedScore testProof markProof markProofs closeCertificate markRegions withModel markCertificate testStep markStep markSteps closeRun firstState markOpening markRun upperRow down tUntil t tNine tCut one c cTurned cTwice cNine still flowing
+unfolding ones every some item dot compared rowHolds zeroRow plus counts strictAfter addRow addEntry addEntries summed sameZ coefficientsAgree boundPasses sumsTest farkasTest andThen _>>=_ _>>_ give here expect bigEndian field u8 u16 u32 signed s32 passing must within below many each lengthRight sized versionFits kindFits header finished withinSigned readStrict strictAt readRow readCondition hasEvent readMode readSwitch readComponent readUnsafe readModelBody locationCount modesAt locationOf modeOf stays switchOf leaves moves bit scopeMask moverCount partIn membersMove allStay oneMoves isJoint modesAfter numbersFrom leaving allStaying silent inFront together switchesOf countUp joinAll jointsOf joints examLimits limitFits limitsFit readWhole limitsTest readModel openAs openModel openSecond readRegions readEntry readEntries readProof readValues readOpening readFlow readJump readStepOf readStep conditionHolds present modesIn admissible startAllowed difference sameValues ratesHold stillAtZero flowRule movers stayingVariables stayingKept jumpRows jumpRule after ruleMet stepAllowed modesFit isUnsafe nowhere standing onX onNext onRates timeRow unit stayingRows modeRows startHypotheses flowHypotheses unsafeHypotheses jumpHypotheses zeroOnly perRow startObligations flowObligations unsafeObligations locationObligations jumpObligations jumpsObligations obligationsOver regionOf obligations answer nearer nearest scoreOf refusedScore testProof markProof markProofs closeCertificate markRegions withModel markCertificate testStep markStep markSteps closeRun firstState markOpening markRun upperRow down tUntil t tNine tCut one c cTurned cTwice cNine still flowing
 twelve = refl

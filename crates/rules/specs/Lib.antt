@@ -2,6 +2,7 @@ pub mod Opening
 pub mod Runs
 pub mod Between
 pub mod Obligations
+pub mod Nearest
 pub mod Marking
 pub mod ReadWell
 pub mod Outcomes

@@ -1,7 +1,7 @@
 -- Marking (01, Certificate, Run sheet and What is handed back): the five numbers for any two sheets. Assumes nothing.
 use mathlib.Core.Bool.{true, false, cond}
 use mathlib.Core.List.{List, [], _∷_, map}
-use Prim.Native.Nat.{ℕ, zero, suc, _*_, _/_, min}
+use Prim.Native.Nat.{ℕ, zero, suc, _*_, min}
 use lib.ListN.{length}
 use Rattle.rules.specs.declared.Answer.{Answer}
 use Rattle.farkas.specs.Farkas.{Proof, farkasTest}
@@ -11,6 +11,7 @@ use Rattle.formats.specs.Model.{Model}
 use Rattle.formats.specs.declared.Limits.{Limits}
 use Rattle.formats.specs.Certificate.{readRegions, readProof}
 use Rattle.formats.specs.RunSheet.{Step, Opening, readOpening, readStep}
+use Rattle.rules.specs.Nearest.{nearest}
 use Rattle.rules.specs.Opening.{ModelOpened, opens, shut, openModel, openSecond}
 use Rattle.rules.specs.Runs.{State, startAllowed, stepAllowed, after, isUnsafe}
 use Rattle.rules.specs.Obligations.{Obligation, zeroOnly, obligations}
@@ -19,12 +20,13 @@ unfoldable pub answer : ℕ → ℕ → ℕ → ℕ → ℕ → Answer
 answer number sheet place done score =
     record { number = number; sheet = sheet; place = place; done = done; score = score }
 
--- "100·done over all obligations, rounded down, 100 if there are none"
+-- "100·done over all obligations .. 100 if there are none"; where 01 rounds down, 02, order 5 rounds "to the nearest whole percent, a half
+-- going to the even one"
 unfoldable pub scoreOf : ℕ → ℕ → ℕ
 scoreOf done zero = 100
-scoreOf done (suc total) = 100 * done / suc total
+scoreOf done (suc total) = nearest (100 * done) (suc total)
 
--- "at most 99 when refused"
+-- "at most 99 when refused"; 02, order 5: "The cap of 99 on a refused paper stays", after the rounding
 unfoldable pub refusedScore : ℕ → ℕ → ℕ
 refusedScore done total = min 99 (scoreOf done total)
 

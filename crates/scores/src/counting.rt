@@ -19,7 +19,6 @@ ghost use Rattle.models.specs.Index.{entry, componentsFrom, modelFrom, GoodInde
 ghost use Rattle.models.specs.Counts.{perComponent};
 ghost use Rattle.joint_switches.specs.Numbered.{ByMode};
 ghost use Rattle.rules.specs.Runs.{modesFit};
-ghost use Rattle.rules.specs.Marking.{refusedScore};
 ghost use Rattle.papers.specs.Standing.{Stands};
 ghost use Rattle.papers.specs.Paper.{GoodPaper, regionsOf, locationObligationsFor, obligationsFor};
 ghost use Rattle.scores.specs.Counting.{rowsInto};
@@ -151,20 +150,4 @@ pub fn obligation_count(
     let mut table = [0u8; ENTERING_LENGTH];
     count_entering(model, index, &mut table);
     goals_by(model, index, second, regions, &table, locations)
-}
-
-// The score of a refused certificate: 100 times the proofs that passed over all obligations, rounded down, or 100 if there are none; at
-// most 99.
-pub fn refused_score(done: u32, total: u32) -> u32
-    requires { ⌜ done ≤ 1000000 ⌝ }
-    ensures { λ r. ⌜ r ≡ refusedScore done total ⌝ }
-{
-    if total == 0 {
-        return 99;
-    }
-    let score = 100 * done / total;
-    if 99 < score {
-        return 99;
-    }
-    score
 }
