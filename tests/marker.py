@@ -9,6 +9,7 @@ Every call that reads a model takes the caller's limits last, and has the exam's
 """
 import sys
 from collections import namedtuple
+from fractions import Fraction
 from itertools import product
 
 MODEL, CERTIFICATE, RUN = 1, 2, 3
@@ -421,7 +422,8 @@ def mark_proof(r, model, regions, obligation):
 
 
 def score(done, total):
-    return 100 * done // total if total else 100
+    """Rounded to the nearest whole percent; a fraction's `round` takes a half to the even one."""
+    return round(Fraction(100 * done, total)) if total else 100
 
 
 def mark_certificate(model_sheet, second, limits=EXAM):

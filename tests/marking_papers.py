@@ -135,7 +135,7 @@ def the_table(papers):
     p.certificate('table 6: label 1, alphabet 0', labelled, C, 6, 0, 58, 0, 0)
     p.certificate('table 7: 8, 8, 2 modes', plain(modes=(8, 8, 2))[0], C, 7, 0, 4, 0, 0)
     p.certificate('table 8: 32768 joint switches', model([0], three_full), C, 8, 0, 4, 0, 0)
-    p.certificate('table 9: last proof as 2, 0', T, C.set('hypothesis2.0', 2).set('hypothesis2.1', 0), 9, 1, 44, 2, 66)
+    p.certificate('table 9: last proof as 2, 0', T, C.set('hypothesis2.0', 2).set('hypothesis2.1', 0), 9, 1, 44, 2, 67)
     p.certificate('table 10: first multiplier 2', T, C.set('multiplier0.0', 2), 10, 1, 14, 0, 0)
     p.certificate('table 11: region bound 9', T, C.set('region0.0.1', 9), 11, 1, 14, 0, 0)
     p.run('table 12: T from 6', T, run(1, 0, (6,)), 12, 1, 10, 0, 0)
@@ -246,7 +246,7 @@ def cuts(papers):
         papers.certificate(f'T cut to {cut}', fixed(T.bytes()[:cut]), C, *expected)
     for cut in range(4, 49):
         done = (cut >= 24) + (cut >= 34)
-        papers.certificate(f'C cut to {cut}', T, fixed(C.bytes()[:cut]), 4, 1, first_bytes(C)[cut], done, (0, 33, 66)[done])
+        papers.certificate(f'C cut to {cut}', T, fixed(C.bytes()[:cut]), 4, 1, first_bytes(C)[cut], done, (0, 33, 67)[done])
     for cut in range(4, 24):
         papers.run(f'run cut to {cut}', UNSAFE_AT_NINE, fixed(TO_NINE.bytes()[:cut]), 4, 1, first_bytes(TO_NINE)[cut], 0, 0)
     papers.certificate('T and a byte', fixed(T.bytes() + b'\0'), C, 4, 0, 66, 0, 0)
@@ -380,8 +380,8 @@ def fields_of_a_certificate(papers):
     field('k', 'k0', 2 ** 24, 2 ** 32 - 1)
     field('k in range', 'k0', 0, 2, 2 ** 24 - 1, number=10)
     p.certificate('k and multiplier 16777215', T, C.set('k0', 2 ** 24 - 1).set('multiplier0.0', 2 ** 24 - 1), 0, 1, 49, 3, 100)
-    field('unsafe k', 'k2', 1, 2 ** 24 - 1, 2 ** 24, done=2, score=66)
-    p.certificate('unsafe k before its entries', T, C.set('k2', 1).set('entries2', 129), 5, 1, 34, 2, 66)
+    field('unsafe k', 'k2', 1, 2 ** 24 - 1, 2 ** 24, done=2, score=67)
+    p.certificate('unsafe k before its entries', T, C.set('k2', 1).set('entries2', 129), 5, 1, 34, 2, 67)
     field('entries', 'entries0', 129, 255)
     field('entries in range', 'entries0', 128, number=9, at=24)
     p.certificate('entries 0', T, certificate([[(0, 0)]], [(1, []), (2 ** 24 - 1, []), (0, [(1, 1), (2, 1)])]), 0, 1, 39, 3, 100)
@@ -390,18 +390,18 @@ def fields_of_a_certificate(papers):
     field('first hypothesis not fitting', 'hypothesis0.0', 1, number=10, at=14)
     field('flow hypothesis', 'hypothesis1.0', 6, 255, done=1, score=33)
     field('flow hypothesis in range', 'hypothesis1.0', 5, number=10, at=24, done=1, score=33)
-    field('unsafe hypothesis', 'hypothesis2.1', 3, 255, done=2, score=66)
-    field('hypothesis repeated', 'hypothesis2.1', 0, number=9, done=2, score=66)
-    p.certificate('out of range before not ascending', T, C.set('hypothesis2.0', 2).set('hypothesis2.1', 3), 5, 1, 44, 2, 66)
-    p.certificate('not ascending before multiplier 0', T, C.set('hypothesis2.1', 0).set('multiplier2.1', 0), 9, 1, 44, 2, 66)
-    p.certificate('not ascending before the end', T, fixed(C.set('hypothesis2.1', 0).bytes()[:45]), 9, 1, 44, 2, 66)
+    field('unsafe hypothesis', 'hypothesis2.1', 3, 255, done=2, score=67)
+    field('hypothesis repeated', 'hypothesis2.1', 0, number=9, done=2, score=67)
+    p.certificate('out of range before not ascending', T, C.set('hypothesis2.0', 2).set('hypothesis2.1', 3), 5, 1, 44, 2, 67)
+    p.certificate('not ascending before multiplier 0', T, C.set('hypothesis2.1', 0).set('multiplier2.1', 0), 9, 1, 44, 2, 67)
+    p.certificate('not ascending before the end', T, fixed(C.set('hypothesis2.1', 0).bytes()[:45]), 9, 1, 44, 2, 67)
     field('multiplier', 'multiplier0.0', 0, 2 ** 24, 2 ** 32 - 1)
     field('multiplier in range', 'multiplier0.0', 2, 2 ** 24 - 1, number=10, at=14)
-    field('last multiplier', 'multiplier2.1', 0, 2 ** 24, done=2, score=66)
+    field('last multiplier', 'multiplier2.1', 0, 2 ** 24, done=2, score=67)
     p.certificate('both multipliers 16777215', T, C.set('multiplier2.0', 2 ** 24 - 1).set('multiplier2.1', 2 ** 24 - 1), 0, 1, 49, 3, 100)
     p.certificate('a proof is read before it is tested', T, C.set('multiplier0.0', 2).set('entries0', 2).set('k1', 0), 9, 1, 24, 0, 0)
     p.certificate('10 before 11', T, C.set('multiplier0.0', 2).set('region0.0.1', 9), 10, 1, 14, 0, 0)
-    p.certificate('unsafe bound just fails', tank(-10), C, 11, 1, 34, 2, 66)
+    p.certificate('unsafe bound just fails', tank(-10), C, 11, 1, 34, 2, 67)
 
 
 def fields_of_a_run(papers):
@@ -572,12 +572,12 @@ def large_numbers(papers):
     two = (0, [(0, 1), (1, 1)])
     below = certificate([region], [two] * 16 + [two] * 16 + [(0, every)] + [two] * 15)
     p.certificate('120 entries, bound as low as may be', sheet, below, 0, 1, below.length(), 48, 100)
-    p.certificate('hypothesis 120 of 120', sheet, below.set('hypothesis32.119', 120), 5, 1, below.place('hypothesis32.119'), 32, 66)
-    p.certificate('120 entries, one multiplier less', sheet, below.set('multiplier32.7', multiplier - 1), 10, 1, below.place('k32'), 32, 66)
+    p.certificate('hypothesis 120 of 120', sheet, below.set('hypothesis32.119', 120), 5, 1, below.place('hypothesis32.119'), 32, 67)
+    p.certificate('120 entries, one multiplier less', sheet, below.set('multiplier32.7', multiplier - 1), 10, 1, below.place('k32'), 32, 67)
     sheet, region = wide(2 ** 31 - 1, 0)
     same = [(1, [(48 + i % 2, 1)]) for i in range(16)]
     above = certificate([region], same + same[:15] + [(0, every)])
-    p.certificate('120 entries, bound as high as may be', sheet, above, 11, 1, above.place('k31'), 31, 96)
+    p.certificate('120 entries, bound as high as may be', sheet, above, 11, 1, above.place('k31'), 31, 97)
     rates = [(least, least), (0, 2 ** 31 - 1), (0, 1)]
     steep = model([0], [component([mode(0, [], [], rates)])])
     slope = certificate([[(least, 0)]], [(multiplier, [(0, multiplier), (1, multiplier), (2, multiplier), (3, multiplier)])])
@@ -609,9 +609,9 @@ def order_of_joint_switches(papers):
     p.certificate('order of joint switches', sheet, whole, 0, 1, whole.length(), 6, 100)
     for i in range(2, 6):
         other = 9 - whole.value(f'k{i}')
-        p.certificate(f'proof {i} for another joint switch', sheet, whole.set(f'k{i}', other), 10, 1, whole.place(f'k{i}'), i, 100 * i // 6)
+        p.certificate(f'proof {i} for another joint switch', sheet, whole.set(f'k{i}', other), 10, 1, whole.place(f'k{i}'), i, refused_score(i, 6))
     late = certificate([[(1, 0)]], [flows] + pairs + [lone])
-    p.certificate('event 0 last', sheet, late, 10, 1, late.place('k1'), 1, 16)
+    p.certificate('event 0 last', sheet, late, 10, 1, late.place('k1'), 1, 17)
 
 
 def order_of_hypotheses(papers):
@@ -644,7 +644,7 @@ def order_of_locations(papers):
     whole = certificate(regions, [(1, [(4, 1)]), (1, [(5, 1)])] * 6)
     papers.certificate('order of locations', model([0], components), whole, 0, 1, whole.length(), 12, 100)
     turned = certificate([[(a, 0), (b, 0)] for b in second for a in first], [(1, [(4, 1)]), (1, [(5, 1)])] * 6)
-    papers.certificate('order of locations, the other way', model([0], components), turned, 10, 1, turned.place('k2'), 2, 16)
+    papers.certificate('order of locations, the other way', model([0], components), turned, 10, 1, turned.place('k2'), 2, 17)
     some = model([0], [component([mode(1), mode(0)]), component([mode(1), mode(1)])])
     six = certificate([[(0, 0)]] * 4, [(1, [])] * 6)
     papers.certificate('start rows where all modes start', some, six, 0, 1, six.length(), 6, 100)
@@ -657,7 +657,7 @@ def order_of_staying_variables(papers):
     flows = [(1, [(i, 1), (3 + i, 1)]) for i in range(3)]
     whole = certificate([still], flows + [(1, [(0, 1), (3, 1)]), (0, []), (1, [(2, 1), (5, 1)])])
     sheet = model([2, 1, 0], components)
-    papers.certificate('a moving variable with no row', sheet, whole, 11, 1, whole.place('k4'), 4, 66)
+    papers.certificate('a moving variable with no row', sheet, whole, 11, 1, whole.place('k4'), 4, 67)
     two = [still[0], still[2]]
     kept = certificate([two], [(1, [(0, 1), (2, 1)]), (1, [(1, 1), (4, 1)]), (1, [(0, 1), (2, 1)]), (1, [(1, 1), (4, 1)])])
     papers.certificate('order of staying variables', sheet, kept, 0, 1, kept.length(), 4, 100)
@@ -669,7 +669,21 @@ def contradictions(papers):
     blocked = model([0], [component([mode(), mode(0)], [switch(0, 1, 0, never)])], [([1], [(0, 0)])])
     cut_off = certificate([[], [(0, -1)]], [(0, [(0, 1)]), (0, [(0, 1)]), (0, [(0, 1)])])
     papers.certificate('k 0 after a flow and a jump', blocked, cut_off, 0, 1, cut_off.length(), 3, 100)
-    papers.certificate('k 0 after a jump with bound 0', blocked.set('jump0.0.0.2', 0), cut_off, 11, 1, cut_off.place('k2'), 2, 66)
+    papers.certificate('k 0 after a jump with bound 0', blocked.set('jump0.0.0.2', 0), cut_off, 11, 1, cut_off.place('k2'), 2, 67)
+
+
+def refused_score(done, total):
+    """The percent that is nearest, of two the even one; at most 99."""
+    return min(99, min(range(101), key=lambda percent: (abs(100 * done - percent * total), percent % 2)))
+
+
+def halves(papers, total, expected, **parts):
+    """Cut where a proof begins: 1 of 8 is 12.5 percent, 1 of 200 a half, 199 of them 99.5."""
+    sheet, proofs, count = plain(**parts)
+    assert count == total
+    for done, score in expected:
+        place = proofs.place(f'k{done}')
+        papers.certificate(f'cut at proof {done} of {total}', sheet, fixed(proofs.bytes()[:place]), 4, 1, place, done, score)
 
 
 def scores(papers):
@@ -680,14 +694,16 @@ def scores(papers):
     p.certificate('no obligations, a byte left', none, fixed(empty.bytes() + b'\0'), 4, 1, 6, 0, 99)
     p.certificate('no obligations, locations wrong', none, empty.set('locations', 2), 5, 1, 4, 0, 0)
     p.certificate('no obligations, cut in the regions', none, fixed(empty.bytes()[:5]), 4, 1, 5, 0, 0)
-    for total in (1, 7, 16):
+    for total in (1, 3, 7, 8, 16):
         sheet, proofs, _ = plain(unsafe=total)
         for done in range(total):
-            p.certificate(f'{done} of {total}', sheet, proofs.set(f'entries{done}', 129), 5, 1, proofs.place(f'entries{done}'), done, 100 * done // total)
+            p.certificate(f'{done} of {total}', sheet, proofs.set(f'entries{done}', 129), 5, 1, proofs.place(f'entries{done}'), done, refused_score(done, total))
         p.certificate(f'{total} of {total} and a byte', sheet, fixed(proofs.bytes() + b'\0'), 4, 1, proofs.length(), total, 99)
+    halves(p, 8, ((1, 12), (3, 38), (5, 62), (7, 88)), unsafe=8)
+    halves(p, 200, ((0, 0), (1, 0), (2, 1), (3, 2), (5, 2), (99, 50), (101, 50), (195, 98), (197, 98), (198, 99), (199, 99)), modes=(8, 5), unsafe=5)
     sheet, proofs, total = plain(modes=(8, 8), unsafe=2)
     for done in (1, 2, 127):
-        p.certificate(f'{done} of {total}', sheet, proofs.set(f'k{done}', 1), 5, 1, proofs.place(f'k{done}'), done, 100 * done // total)
+        p.certificate(f'{done} of {total}', sheet, proofs.set(f'k{done}', 1), 5, 1, proofs.place(f'k{done}'), done, refused_score(done, total))
     p.certificate('cut in the last region', sheet, fixed(proofs.bytes()[:68]), 4, 1, 68, 0, 0)
     p.certificate('last region out of range', sheet, proofs.set('region63', 17), 5, 1, 68, 0, 0)
 
@@ -699,7 +715,7 @@ def plant_certificate(papers):
     p.certificate('plant', SAFE_PLANT, whole, 0, 1, 2108, 115, 100)
 
     def change(name, value, number, done, at=None):
-        p.certificate(f'plant, {name} as {value}', SAFE_PLANT, whole.set(name, value), number, 1, whole.place(at or name), done, 100 * done // 115)
+        p.certificate(f'plant, {name} as {value}', SAFE_PLANT, whole.set(name, value), number, 1, whole.place(at or name), done, refused_score(done, 115))
 
     change('k6', 1, 5, 6)
     change('hypothesis30.1', 3, 9, 30)
@@ -806,7 +822,8 @@ def inputs(papers):
     p.input('input: run of version 2', t + AT_FIVE.set('version', 2).bytes(), 'REFUSED 2 1 2 0 0')
     p.input('input: C then T', c + t, 'REFUSED 3 0 3 0 0')
     p.input('input: T, C and a byte', t + c + b'\0', 'REFUSED 1 1 0 0 0')
-    p.input('input: last proof fails', t + C.set('multiplier2.1', 2).bytes(), 'REFUSED 10 1 34 2 66')
+    p.input('input: last proof fails', t + C.set('multiplier2.1', 2).bytes(), 'REFUSED 10 1 34 2 67')
+    p.input('input: last proof as 2, 0', t + C.set('hypothesis2.0', 2).set('hypothesis2.1', 0).bytes(), 'REFUSED 9 1 44 2 67')
 
 
 # The limits that a caller states (document 02, order 2)
@@ -945,7 +962,7 @@ def limits_of_two_desks(papers):
     p.run('practice desk: T from 6', T, run(1, 0, (6,)), 12, 1, 10, 0, 0, limits=PRACTICE)
     p.run('practice desk: T at 5', T, AT_FIVE, 14, 1, 15, 0, 0, limits=PRACTICE)
     p.run('practice desk: 5 to 8 in 1', T, run(1, 0, (5,), flow(1, 8)), 13, 1, 15, 0, 0, limits=PRACTICE)
-    p.certificate('practice desk: last proof as 2, 0', T, C.set('hypothesis2.0', 2).set('hypothesis2.1', 0), 9, 1, 44, 2, 66, limits=PRACTICE)
+    p.certificate('practice desk: last proof as 2, 0', T, C.set('hypothesis2.0', 2).set('hypothesis2.1', 0), 9, 1, 44, 2, 67, limits=PRACTICE)
     p.certificate('practice desk: 64 locations', located(8, 8), C, 7, 0, 4, 0, 0, limits=PRACTICE)
     p.certificate('practice desk: 4096 joint switches', joined(8)[0], C, 8, 0, 4, 0, 0, limits=PRACTICE)
     p.state(marker.Limits(1, 1))

@@ -28,7 +28,6 @@ as-much-past n r b l h k =
     sym (not-less-past n r b l h ∙ ap (λ (t : Bool). cond t (suc n) (n + n % 2)) (le-ltb b (2 * r) (omega arith)))
 
 module _ (a b : ℕ) (some : 1 ≤ b) where
-
   pub past-fits : a % b ≤ b
   past-fits = omega (arith, mod-lt a some)
 
@@ -59,7 +58,6 @@ unfolding refusedScore scoreOf
 score-none done total h = sym (ap (refusedScore done) h)
 
 module _ (done total score : ℕ) (some : total ≡ 0 → ⊥) (e : score ≡ nearest (100 * done) total) where
-
   pub score-most : 99 < score → 99 ≡ refusedScore done total
   unfolding refusedScore
   score-most l = sym (ap (λ (n : ℕ). min 99 n) (score-of done total some ∙ sym e) ∙ min-eq-left (omega arith))

@@ -15,22 +15,22 @@ sub-left : tie.Need-sub-left
 sub-left c = past-fits (c .args .part) (c .args .whole) (c .pre)
 
 returns : tie.Need-returns
-returns c = nearest-below (c .before .args .part) (c .before .args .whole) (c .before .pre) (c .if1 .taken)
+returns c = nearest-below (c .before .args .part) (c .before .args .whole) (c .before .pre) (omega (arith, c .if1 .taken))
 
 add-result : tie.Need-add-result
 add-result c =
-    omega (arith, next-fits (c .before .before .args .part) (c .before .before .args .whole) (c .before .before .pre) (c .before .if1 .left))
+    omega (arith, next-fits (c .before .before .args .part) (c .before .before .args .whole) (c .before .before .pre) (omega (arith, c .before .if1 .left)))
 
 returns-2 : tie.Need-returns-2
-returns-2 c = nearest-above (c .before .before .args .part) (c .before .before .args .whole) (c .before .before .pre) (c .if2 .taken)
+returns-2 c = nearest-above (c .before .before .args .part) (c .before .before .args .whole) (c .before .before .pre) (omega (arith, c .if2 .taken))
 
 add-result-2 : tie.Need-add-result-2
 add-result-2 c =
-    omega (arith, next-fits (c .before .before .args .part) (c .before .before .args .whole) (c .before .before .pre) (c .before .if1 .left))
+    omega (arith, next-fits (c .before .before .args .part) (c .before .before .args .whole) (c .before .before .pre) (omega (arith, c .before .if1 .left)))
 
 returns-3 : tie.Need-returns-3
 returns-3 c =
-    nearest-half (c .before .before .args .part) (c .before .before .args .whole) (c .before .before .pre) (c .before .if1 .left) (c .if2 .left)
+    nearest-half (c .before .before .args .part) (c .before .before .args .whole) (c .before .before .pre) (omega (arith, c .before .if1 .left)) (omega (arith, c .if2 .left))
 
 pub nearest-spec : {M : Type 1} → statement M
 nearest-spec = tie.close (tie.spec div-quotient rem-past sub-left returns add-result returns-2 add-result-2 returns-3)
