@@ -32,8 +32,9 @@ struct silfoddra_answer {
     /* How many proofs or steps passed, in order, before marking stopped; 0 where none was reached. In the joint list the records, in the
        fair copy the bytes that were written. */
     uint32_t done;
-    /* 0 to 100. A certificate: 100 times done over all its obligations, rounded down, 100 if there are none, at most 99 when
-       refused, 0 until its regions are read. A run: 100 when accepted, else 0. */
+    /* 0 to 100. A certificate: 100 times done over all its obligations, rounded to the nearest whole number, a half to the even one (1 of
+       8 is 12, 3 of 8 is 38), 100 if there are none; then at most 99 when refused (199 of 200); 0 until its regions are read. A run:
+       100 when accepted, else 0. */
     uint32_t score;
 };
 

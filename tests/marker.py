@@ -1,5 +1,5 @@
 #!/usr/bin/env python3
-"""A second marker of papers, written from document 01 and order 2 of document 02 alone, to try the proved one against.
+"""A second marker of papers, written from document 01 and orders 2 and 5 of document 02 alone, to try the proved one against.
 
 usage: marker.py MODEL SECOND      prints the line that the program `mark` prints for the two files, one after the other
 
@@ -422,7 +422,7 @@ def mark_proof(r, model, regions, obligation):
 
 
 def score(done, total):
-    """Rounded to the nearest whole percent; a fraction's `round` takes a half to the even one."""
+    """Document 02, order 5: rounded to the nearest whole percent; a fraction's `round` takes a half to the even one."""
     return round(Fraction(100 * done, total)) if total else 100
 
 

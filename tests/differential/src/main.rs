@@ -12,7 +12,7 @@ mod compare;
 use compare::{Compared, Comparison};
 use differential::marker::Limits;
 use differential::papers::damage::{ALL, damaged, random_bytes};
-use differential::papers::{Random, Sheet, certificates, extremes, models, runs, spellings, texts};
+use differential::papers::{Random, Sheet, certificates, extremes, models, runs, scores, spellings, texts};
 use std::path::PathBuf;
 use std::process::ExitCode;
 use std::time::{Duration, Instant};
@@ -85,6 +85,7 @@ fn compare_all(options: &Options, comparison: &mut Comparison) -> Compared<u64> 
     }
     compare_limits(&mut random, comparison)?;
     compare_copies(&mut random, comparison)?;
+    compare_scores(&mut random, comparison)?;
     let short = texts::short().filter(|_| !options.guard);
     for text in texts::fixed().into_iter().chain(short) {
         comparison.origin = format!("fixed text of {} bytes", text.bytes.len());
@@ -131,6 +132,15 @@ fn compare_copies(random: &mut Random, comparison: &mut Comparison) -> Compared<
             comparison.compare("fixed, for the fair copy", &paper.model, &paper.second, random)?;
             compare_spellings(&paper.model, &paper.second, random, comparison)?;
         }
+    }
+    Ok(())
+}
+
+/// Certificates of 0 to 64 obligations and of 200, cut at each of their proofs.
+fn compare_scores(random: &mut Random, comparison: &mut Comparison) -> Compared<()> {
+    for paper in (0..=64).chain([200]).flat_map(scores::cut_at_each_proof) {
+        comparison.origin = format!("fixed paper \"{}\"", paper.name);
+        comparison.compare_score(&paper, random)?;
     }
     Ok(())
 }

@@ -43,7 +43,7 @@ fn the_table_of_document_01() {
     assert_eq!(mark_certificate(&many.model.bytes, &many.second.bytes, EXAM), answer([8, 0, 4, 0, 0]));
     let mut order = c.clone();
     (order[39], order[44]) = (2, 0);
-    assert_eq!(mark_certificate(&t, &order, EXAM), answer([9, 1, 44, 2, 66]));
+    assert_eq!(mark_certificate(&t, &order, EXAM), answer([9, 1, 44, 2, 67]));
     let mut multiplier = c.clone();
     multiplier[23] = 2;
     assert_eq!(mark_certificate(&t, &multiplier, EXAM), answer([10, 1, 14, 0, 0]));

@@ -4,6 +4,7 @@ mod fair;
 mod joint_list;
 mod limits;
 mod rows;
+mod scores;
 mod typed;
 
 use differential::fence::{Edge, Fence};
@@ -87,6 +88,8 @@ pub struct Comparison {
     changed: Changed,
     /// How often two spellings of a model were copied.
     spellings: u64,
+    /// How many certificates' scores were compared with the definition.
+    scores: u64,
     stated: Stated,
     other_calls: u64,
     fences: Option<Fences>,
@@ -115,6 +118,7 @@ impl Comparison {
             roles: [0; 9],
             changed: Changed::default(),
             spellings: 0,
+            scores: 0,
             stated: Stated::default(),
             other_calls: 0,
             fences: guard.then(fences),
@@ -153,6 +157,7 @@ impl Comparison {
         println!("rows of hypotheses by role: {}", by_number(&self.roles));
         self.changed.print();
         println!("copies compared between two spellings: {}", self.spellings);
+        println!("certificates cut at each proof, scores compared with the definition: {}", self.scores);
         println!("calls beside the marking: {}", self.other_calls);
         self.stated.print();
     }

@@ -242,8 +242,16 @@ pub fn mark_certificate(model: &[u8], second: &[u8], limits: Limits) -> Answer {
     }
 }
 
+/// The percentage, to the nearest whole one, a half to the even one (02, order 5); 100 without obligations.
 fn score(done: usize, obligations: usize) -> u32 {
-    (100 * done).checked_div(obligations).unwrap_or(100) as u32
+    if obligations == 0 {
+        return 100;
+    }
+    // With half a percent more, rounding down sends halves up, and it was a half where nothing remains. All is doubled to be whole.
+    let (part, whole) = (200 * done + obligations, 2 * obligations);
+    let up = part / whole;
+    let was_half = part % whole == 0;
+    (if was_half { up - up % 2 } else { up }) as u32
 }
 
 /// Counts in `done` the proofs that pass.

@@ -6,6 +6,7 @@ pub mod extremes;
 pub mod models;
 pub mod random;
 pub mod runs;
+pub mod scores;
 pub mod sheet;
 pub mod spellings;
 pub mod texts;
