@@ -21,7 +21,7 @@ between : (a b n m : ℕ) → n < m → b ≤ apart a (n * b) + apart a (m * b)
 unfolding apart
 between a b n m h = omega (arith, mul-le-mul-right {m = suc n} {n = m} b h)
 
--- two more than n is further off than b in all
+-- and 2 · b or more where they are no neighbours
 between-two : (a b n m : ℕ) → suc n < m → 2 * b ≤ apart a (n * b) + apart a (m * b)
 unfolding apart
 between-two a b n m h = omega (arith, mul-le-mul-right {m = suc (suc n)} {n = m} b h)
@@ -35,23 +35,26 @@ near-least a b n m h =
     (λ l. omega (arith, between a b m n l))
 
 -- a, which is n wholes and r of the next: less than half of it, more, or just half
-less : (a b n r : ℕ) → 2 * r < b → n * b + r ≡ a → Nearest a b n
+pub less : (a b n r : ℕ) → 2 * r < b → n * b + r ≡ a → Nearest a b n
 unfolding apart
 less a b n r h e =
     record { near = omega arith; even = λ t. absurd (omega arith); least = λ m. near-least a b n m (omega arith) }
 
-more : (a b n r : ℕ) → r < b → b < 2 * r → n * b + r ≡ a → Nearest a b (suc n)
+pub more : (a b n r : ℕ) → r < b → b < 2 * r → n * b + r ≡ a → Nearest a b (suc n)
 unfolding apart
 more a b n r l h e =
     record { near = omega arith; even = λ t. absurd (omega arith); least = λ m. near-least a b (suc n) m (omega arith) }
 
-half : (a b n r k : ℕ) → 2 * r ≡ b → n * b + r ≡ a → n % 2 ≡ k → k < 2 → Nearest a b (n + k)
+to-even : (a b n r k : ℕ) → 2 * r ≡ b → n * b + r ≡ a → n % 2 ≡ k → k < 2 → Nearest a b (n + k)
 unfolding apart
-half a b n r zero h e p l =
+to-even a b n r zero h e p l =
     record { near = omega arith; even = λ t. omega arith; least = λ m. near-least a b (n + 0) m (omega arith) }
-half a b n r (suc zero) h e p l =
+to-even a b n r (suc zero) h e p l =
     record { near = omega arith; even = λ t. omega arith; least = λ m. near-least a b (n + 1) m (omega arith) }
-half a b n r (suc (suc k)) h e p l = absurd (omega arith)
+to-even a b n r (suc (suc k)) h e p l = absurd (omega arith)
+
+pub half : (a b n r : ℕ) → 2 * r ≡ b → n * b + r ≡ a → Nearest a b (n + n % 2)
+half a b n r h e = to-even a b n r (n % 2) h e refl (mod-lt n (omega arith))
 
 nearer-is : (a b n r : ℕ) → r < b → n * b + r ≡ a → Nearest a b (nearer n r b)
 unfolding nearer
@@ -60,8 +63,7 @@ nearer-is a b n r l e = go (ltb (2 * r) b) (ltb b (2 * r)) refl refl
     go : (s t : Bool) → ltb (2 * r) b ≡ s → ltb b (2 * r) ≡ t → Nearest a b (cond s n (cond t (suc n) (n + n % 2)))
     go true t p q = less a b n r (ltb-true (2 * r) b p) e
     go false true p q = more a b n r l (ltb-true b (2 * r) q) e
-    go false false p q =
-        half a b n r (n % 2) (omega (arith, ltb-false (2 * r) b p, ltb-false b (2 * r) q)) e refl (mod-lt n (omega arith))
+    go false false p q = half a b n r (omega (arith, ltb-false (2 * r) b p, ltb-false b (2 * r) q)) e
 
 -- The theorem beside the definition: twice the distance is at most b, at a tie the result is even, no other whole number is nearer
 pub nearest-is : (a b : ℕ) → 1 ≤ b → Nearest a b (nearest a b)
@@ -77,6 +79,10 @@ not-less a b n m h v w l =
     (λ f. omega arith)
 
 -- and it is the only one
-pub nearest-only : (a b n m : ℕ) → 1 ≤ b → Nearest a b n → Nearest a b m → n ≡ m
-nearest-only a b n m h v w =
-    by-order n m (n ≡ m) (λ l. absurd (not-less a b n m h v w l)) (λ e. e) (λ l. absurd (not-less a b m n h w v l))
+pub nearest-only : (a b n : ℕ) → 1 ≤ b → Nearest a b n → n ≡ nearest a b
+nearest-only a b n h v =
+    let w = nearest-is a b h in
+    by-order n (nearest a b) (n ≡ nearest a b)
+    (λ l. absurd (not-less a b n (nearest a b) h v w l))
+    (λ e. e)
+    (λ l. absurd (not-less a b (nearest a b) n h w v l))

@@ -15,7 +15,9 @@ score-nearest done zero h = absurd (omega arith)
 score-nearest done (suc total) h = nearest-is (100 * done) (suc total) h
 
 pub score-only : (done total n : ℕ) → 1 ≤ total → Nearest (100 * done) total n → n ≡ scoreOf done total
-score-only done total n h v = nearest-only (100 * done) total n (scoreOf done total) h v (score-nearest done total h)
+unfolding scoreOf
+score-only done zero n h v = absurd (omega arith)
+score-only done (suc total) n h v = nearest-only (100 * done) (suc total) n h v
 
 -- all of them passed: 100
 whole : (total : ℕ) → Nearest (100 * total) total 100
