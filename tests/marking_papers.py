@@ -1,5 +1,5 @@
 #!/usr/bin/env python3
-"""Writes the papers that crates/marking_test marks, and what it must print for each, from document 01 and order 2 of document 02.
+"""Writes the papers that crates/marking_test marks, and what it must print for each, from document 01 and orders 2 and 5 of document 02.
 
 usage: marking_papers.py FOLDER                 writes FOLDER/stdin and FOLDER/stdout
        marking_papers.py --examples FOLDER      writes the sheets of examples/

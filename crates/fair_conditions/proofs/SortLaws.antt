@@ -3,12 +3,12 @@
 use mathlib.Core.Path.{_≡_, refl, sym, ap, ap₂, _∙_, subst}
 use mathlib.Core.Bool.{Bool, true, false}
 use mathlib.Core.List.{List, [], _∷_, _++_, map, append-assoc}
+use mathlib.Core.Logic.{⊎-elim}
 use Prim.Native.Nat.{ℕ, zero, suc, _+_, _*_, _-_, _^_, _≤_, _<_}
 use native.Mathlib.Numerals.{add-one}
 use native.Mathlib.Nat.{add-zero}
 use native.Mathlib.Omega.{arith}
-use borrow.Author.Tests.{ltb-true, ltb-false, lt-ltb, le-ltb}
-use lib.Dec.{ltb}
+use borrow.Author.Tests.{lt-ltb, le-ltb}
 use lib.IntN.{ℤ, pos}
 use lib.ListN.{length, getD, take, drop, set, take-append-drop, drop-of-length-le}
 use lib.Seq.{drop-cons, take-suc-set, drop-set-lt, take-set-lt, length-take-le, getD-take, take-take, set-getD}
@@ -16,6 +16,7 @@ use lib.Signed.{ltZ}
 use Rattle.farkas.specs.Lists.{All, none, more}
 use Rattle.farkas.specs.Rows.{Row}
 use Rattle.formats.proofs.Members.{all-below}
+use Rattle.farkas.proofs.Order.{compare}
 use Rattle.fair_rows.specs.FairRows.{Order, lower, same, higher, orderOf, firstOf, order, keysOf, markOf, placed, insert}
 use Rattle.fair_rows.proofs.OrderLaws.{Ascending, rise, insert-first}
 use Rattle.fair_conditions.specs.Held.{lowered, keptNumbers, keptRow, standing, carriedOn, leftBehind, slipBy, slip, Among}
@@ -23,11 +24,7 @@ use Rattle.fair_conditions.proofs.NumberLaws.{lowered-low, lowered-high
 
 -- raised numbers compare as the numbers do
 by-half : (n : ℕ) (P : Type 0) → (n < 2 ^ 31 → P) → (2 ^ 31 ≤ n → P) → P
-by-half n P f g = go (ltb n (2 ^ 31)) refl
-  where
-    go : (t : Bool) → ltb n (2 ^ 31) ≡ t → P
-    go true e = f (ltb-true n (2 ^ 31) e)
-    go false e = g (ltb-false n (2 ^ 31) e)
+by-half n P f g = ⊎-elim f g (compare n (2 ^ 31))
 
 lowered-below : (x y : ℕ) → x < y → ltZ (lowered x) (lowered y) ≡ true
 lowered-below x y h =

@@ -1,9 +1,13 @@
 -- More laws on the whole numbers: order and equality, what a factor of at least 1 does, and sums with nothing added.
--- Each is a fact on naturals once the unknowns are split (Integers.antt). Assumes nothing.
-use mathlib.Core.Path.{_≡_}
-use Prim.Native.Nat.{ℕ, _≤_}
+-- Each is a fact on naturals once the unknowns are split (Integers.antt). Of two naturals, which is less. Assumes nothing.
+use mathlib.Core.Path.{_≡_, refl}
+use mathlib.Core.Logic.{_⊎_, inl, inr}
+use mathlib.Core.Bool.{Bool, true, false}
+use Prim.Native.Nat.{ℕ, _≤_, _<_}
 use native.Mathlib.Nat.{le-of-mul-le-mul-left}
 use native.Mathlib.Omega.{arith}
+use lib.Dec.{ltb}
+use borrow.Author.Tests.{ltb-true, ltb-false}
 use lib.IntN.{ℤ, pos, _+ℤ_, _*ℤ_, *ℤ-comm}
 use lib.Signed.{_≤ℤ_}
 use Rattle.farkas.proofs.Integers.{split, by-parts, ≤-*}
@@ -28,3 +32,11 @@ plus-nothing s m = rw (split s) (simp by-parts (omega arith))
 
 pub zero-plus-nothing : (p : ℤ) → pos 0 ≡ pos 0 *ℤ p +ℤ pos 0
 zero-plus-nothing p = rw (split p) (simp by-parts (omega arith))
+
+-- the one is less, or it is not
+pub compare : (a b : ℕ) → (a < b) ⊎ (b ≤ a)
+compare a b = go (ltb a b) refl
+  where
+    go : (t : Bool) → ltb a b ≡ t → (a < b) ⊎ (b ≤ a)
+    go true e = inl (ltb-true a b e)
+    go false e = inr (ltb-false a b e)

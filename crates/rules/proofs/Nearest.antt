@@ -7,14 +7,12 @@ use native.Mathlib.Nat.{mod-lt, div-add-mod', mul-le-mul-right, eq-or-lt-of-le, 
 use native.Mathlib.Omega.{arith}
 use borrow.Author.Tests.{ltb-true, ltb-false}
 use lib.Dec.{ltb}
+use Rattle.farkas.proofs.Order.{compare}
 use Rattle.rules.specs.Nearest.{nearer, nearest, apart, Nearest}
 
+-- two numbers, in the three ways that they may stand
 pub by-order : (n m : ℕ) (P : Type 0) → (n < m → P) → (n ≡ m → P) → (m < n → P) → P
-by-order n m P below same above = go (ltb n m) refl
-  where
-    go : (t : Bool) → ltb n m ≡ t → P
-    go true e = below (ltb-true n m e)
-    go false e = ⊎-elim (λ s. same (sym s)) above (eq-or-lt-of-le (ltb-false n m e))
+by-order n m P below same above = ⊎-elim below (λ h. ⊎-elim (λ e. same (sym e)) above (eq-or-lt-of-le h)) (compare n m)
 
 -- multiples of b that differ: what a is apart from the one and from the other makes b or more
 between : (a b n m : ℕ) → n < m → b ≤ apart a (n * b) + apart a (m * b)
@@ -35,14 +33,14 @@ near-least a b n m h =
     (λ l. omega (arith, between a b m n l))
 
 -- a, which is n wholes and r of the next: less than half of it, more, or just half
-pub less : (a b n r : ℕ) → 2 * r < b → n * b + r ≡ a → Nearest a b n
+pub below-half : (a b n r : ℕ) → 2 * r < b → n * b + r ≡ a → Nearest a b n
 unfolding apart
-less a b n r h e =
+below-half a b n r h e =
     record { near = omega arith; even = λ t. absurd (omega arith); least = λ m. near-least a b n m (omega arith) }
 
-pub more : (a b n r : ℕ) → r < b → b < 2 * r → n * b + r ≡ a → Nearest a b (suc n)
+pub above-half : (a b n r : ℕ) → r < b → b < 2 * r → n * b + r ≡ a → Nearest a b (suc n)
 unfolding apart
-more a b n r l h e =
+above-half a b n r l h e =
     record { near = omega arith; even = λ t. absurd (omega arith); least = λ m. near-least a b (suc n) m (omega arith) }
 
 to-even : (a b n r k : ℕ) → 2 * r ≡ b → n * b + r ≡ a → n % 2 ≡ k → k < 2 → Nearest a b (n + k)
@@ -53,17 +51,17 @@ to-even a b n r (suc zero) h e p l =
     record { near = omega arith; even = λ t. omega arith; least = λ m. near-least a b (n + 1) m (omega arith) }
 to-even a b n r (suc (suc k)) h e p l = absurd (omega arith)
 
-pub half : (a b n r : ℕ) → 2 * r ≡ b → n * b + r ≡ a → Nearest a b (n + n % 2)
-half a b n r h e = to-even a b n r (n % 2) h e refl (mod-lt n (omega arith))
+pub at-half : (a b n r : ℕ) → 2 * r ≡ b → n * b + r ≡ a → Nearest a b (n + n % 2)
+at-half a b n r h e = to-even a b n r (n % 2) h e refl (mod-lt n (omega arith))
 
 nearer-is : (a b n r : ℕ) → r < b → n * b + r ≡ a → Nearest a b (nearer n r b)
 unfolding nearer
 nearer-is a b n r l e = go (ltb (2 * r) b) (ltb b (2 * r)) refl refl
   where
     go : (s t : Bool) → ltb (2 * r) b ≡ s → ltb b (2 * r) ≡ t → Nearest a b (cond s n (cond t (suc n) (n + n % 2)))
-    go true t p q = less a b n r (ltb-true (2 * r) b p) e
-    go false true p q = more a b n r l (ltb-true b (2 * r) q) e
-    go false false p q = half a b n r (omega (arith, ltb-false (2 * r) b p, ltb-false b (2 * r) q)) e
+    go true t p q = below-half a b n r (ltb-true (2 * r) b p) e
+    go false true p q = above-half a b n r l (ltb-true b (2 * r) q) e
+    go false false p q = at-half a b n r (omega (arith, ltb-false (2 * r) b p, ltb-false b (2 * r) q)) e
 
 -- The theorem beside the definition: twice the distance is at most b, at a tie the result is even, no other whole number is nearer
 pub nearest-is : (a b : ℕ) → 1 ≤ b → Nearest a b (nearest a b)

@@ -49,30 +49,32 @@ runs-differ e =
     let other : markRun examLimits t (still 5) .number ≡ 14 = ap (numberAt 9) twelve in
     absurd (omega (arith, one, other, e))
 
--- these three lines; the third has 2 of 3 rounded up (02, order 5)
+-- `SAFE 3`
 abbrev lineSafe : List ℕ
 lineSafe = 83 ∷ 65 ∷ 70 ∷ 69 ∷ 32 ∷ 51 ∷ 10 ∷ []
 
+-- `REFUSED 14 1 15 0 0`
 abbrev lineStill : List ℕ
 lineStill = 82 ∷ 69 ∷ 70 ∷ 85 ∷ 83 ∷ 69 ∷ 68 ∷ 32 ∷ 49 ∷ 52 ∷ 32 ∷ 49 ∷ 32 ∷ 49 ∷ 53 ∷ 32 ∷ 48 ∷ 32 ∷ 48 ∷ 10 ∷ []
 
+-- `REFUSED 9 1 44 2 67`: 2 of 3 rounded up (02, order 5)
 abbrev lineTurned : List ℕ
 lineTurned = 82 ∷ 69 ∷ 70 ∷ 85 ∷ 83 ∷ 69 ∷ 68 ∷ 32 ∷ 57 ∷ 32 ∷ 49 ∷ 32 ∷ 52 ∷ 52 ∷ 32 ∷ 50 ∷ 32 ∷ 54 ∷ 55 ∷ 10 ∷ []
 
-pub prints-three : (printed (t ++ c) ∷ printed (t ++ still 5) ∷ printed (t ++ cTurned) ∷ []) ≡ (lineSafe ∷ lineStill ∷ lineTurned ∷ [])
+pub printed-lines : (printed (t ++ c) ∷ printed (t ++ still 5) ∷ printed (t ++ cTurned) ∷ []) ≡ (lineSafe ∷ lineStill ∷ lineTurned ∷ [])
 unfolding ones every some item dot compared rowHolds zeroRow plus counts strictAfter addRow addEntry addEntries summed sameZ coefficientsAgree boundPasses sumsTest farkasTest andThen _>>=_ _>>_ give here expect bigEndian field u8 u16 u32 signed s32 passing must within below many each lengthRight sized versionFits kindFits header finished withinSigned readStrict strictAt readRow readCondition hasEvent readMode readSwitch readComponent readUnsafe readModelBody locationCount modesAt locationOf modeOf stays switchOf leaves moves bit scopeMask moverCount partIn membersMove allStay oneMoves isJoint modesAfter numbersFrom leaving allStaying silent inFront together switchesOf countUp joinAll jointsOf joints examLimits limitFits limitsFit readWhole limitsTest readModel openAs openModel openSecond readRegions readEntry readEntries readProof readValues readOpening readFlow readJump readStepOf readStep conditionHolds present modesIn admissible startAllowed difference sameValues ratesHold stillAtZero flowRule movers stayingVariables stayingKept jumpRows jumpRule after ruleMet stepAllowed modesFit isUnsafe nowhere standing onX onNext onRates timeRow unit stayingRows modeRows startHypotheses flowHypotheses unsafeHypotheses jumpHypotheses zeroOnly perRow startObligations flowObligations unsafeObligations locationObligations jumpObligations jumpsObligations obligationsOver regionOf obligations answer nearer nearest scoreOf refusedScore testProof markProof markProofs closeCertificate markRegions withModel markCertificate testStep markStep markSteps closeRun firstState markOpening markRun upperRow down tUntil t tNine tCut one c cTurned cTwice cNine still flowing digits decimal numbered textOf firstLength firstSheet secondSheet refusedLine lineFor isRun markLine printed
-prints-three = refl
+printed-lines = refl
 
 pub prints-safe : printed (t ++ c) ≡ lineSafe
-prints-safe = ap (λ (l : List (List ℕ)). getD l 0 []) prints-three
+prints-safe = ap (λ (l : List (List ℕ)). getD l 0 []) printed-lines
 
-pub prints-refused : printed (t ++ still 5) ≡ lineStill
-prints-refused = ap (λ (l : List (List ℕ)). getD l 1 []) prints-three
+pub prints-still : printed (t ++ still 5) ≡ lineStill
+prints-still = ap (λ (l : List (List ℕ)). getD l 1 []) printed-lines
 
 pub prints-turned : printed (t ++ cTurned) ≡ lineTurned
-prints-turned = ap (λ (l : List (List ℕ)). getD l 2 []) prints-three
+prints-turned = ap (λ (l : List (List ℕ)). getD l 2 []) printed-lines
 
 pub lines-differ : printed (t ++ c) ≡ printed (t ++ still 5) → ⊥
 lines-differ e =
-    let same : _≡_ {A = ℕ} 83 82 = ap (λ (l : List ℕ). getD l 0 0) (sym prints-safe ∙ e ∙ prints-refused) in
+    let same : _≡_ {A = ℕ} 83 82 = ap (λ (l : List ℕ). getD l 0 0) (sym prints-safe ∙ e ∙ prints-still) in
     absurd (omega (arith, same))

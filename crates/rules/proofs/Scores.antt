@@ -1,8 +1,8 @@
--- Scores (01, What is handed back; 02, order 5): the nearest whole percent, within 0 to 100, and more for more. Assumes nothing.
+-- Scores (01, What is handed back; 02, order 5): the nearest whole percent, within 0 to 100, never less for more proofs. Assumes nothing.
 use mathlib.Core.Path.{_≡_, refl, ap, sym}
 use mathlib.Core.Logic.{_⊎_, inl, inr, ⊎-elim}
 use Prim.Native.Nat.{ℕ, zero, suc, _*_, _≤_, min}
-use native.Mathlib.Nat.{mul-le-mul-right, le-of-eq, min-le-left, min-eq-right, eq-or-lt-of-le}
+use native.Mathlib.Nat.{mul-le-mul-right, le-of-eq, le-min, min-le-left, min-le-right, min-eq-right, eq-or-lt-of-le}
 use native.Mathlib.Omega.{arith}
 use Rattle.rules.specs.Nearest.{nearer, nearest, apart, Nearest}
 use Rattle.rules.specs.Marking.{scoreOf, refusedScore}
@@ -49,6 +49,10 @@ pub refused-score-fits : (done total : ℕ) → refusedScore done total ≤ 99
 unfolding refusedScore
 refused-score-fits done total = min-le-left 99 _
 
+pub refused-score-rises : (done further total : ℕ) → done ≤ further → refusedScore done total ≤ refusedScore further total
+unfolding refusedScore
+refused-score-rises done further total h = le-min (min-le-left 99 _) (omega (arith, min-le-right 99 (scoreOf done total), score-rises done further total h))
+
 -- the cap is felt only where the nearest is 100
 pub refused-score-is : (done total : ℕ) → done ≤ total → (refusedScore done total ≡ scoreOf done total) ⊎ ((refusedScore done total ≡ 99) × (scoreOf done total ≡ 100))
 unfolding refusedScore
@@ -58,7 +62,7 @@ refused-score-is done total h =
     (λ l. inl (min-eq-right (omega arith)))
     (eq-or-lt-of-le (score-fits done total h))
 
--- document 02's own, and both ends: no obligations; halves to the even percent, down and up; the cap
+-- document 02's own: a half that goes down, one that goes up; row 9 of document 01's table; the cap; no obligations
 pub one-of-eight : scoreOf 1 8 ≡ 12
 unfolding scoreOf nearest nearer
 one-of-eight = refl

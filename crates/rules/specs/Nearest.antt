@@ -4,7 +4,8 @@ use mathlib.Core.Path.{_≡_}
 use Prim.Native.Nat.{ℕ, suc, _+_, _*_, _-_, _/_, _%_, _≤_}
 use lib.Dec.{ltb}
 
--- what is past n of a whole, on the way to n + 1: "to the nearest", "a half going to the even one"; of n and n + 1 that one is n + n % 2
+-- what is past n of a whole, on the way to n + 1: "to the nearest", "a half going to the even one"; the even one of n and n + 1 is
+-- n + n % 2
 unfoldable pub nearer : ℕ → ℕ → ℕ → ℕ
 nearer n past whole = cond (ltb (2 * past) whole) n (cond (ltb whole (2 * past)) (suc n) (n + n % 2))
 

@@ -6,7 +6,7 @@ use native.Mathlib.Nat.{min-eq-left, min-eq-right, mod-lt, div-add-mod', mul-le-
 use native.Mathlib.Omega.{arith}
 use Rattle.rules.specs.Nearest.{nearest}
 use Rattle.rules.specs.Marking.{scoreOf, refusedScore}
-use Rattle.rules.proofs.Nearest.{less, more, half, nearest-only}
+use Rattle.rules.proofs.Nearest.{below-half, above-half, at-half, nearest-only}
 
 module _ (a b : ℕ) (some : 1 ≤ b) where
   pub past-fits : a % b ≤ b
@@ -18,14 +18,14 @@ module _ (a b : ℕ) (some : 1 ≤ b) where
 
   -- less is past the quotient than is left to the next, more, or as much
   pub nearest-below : a % b < b - a % b → a / b ≡ nearest a b
-  nearest-below h = nearest-only a b (a / b) some (less a b (a / b) (a % b) (omega arith) (div-add-mod' a b))
+  nearest-below h = nearest-only a b (a / b) some (below-half a b (a / b) (a % b) (omega arith) (div-add-mod' a b))
 
   pub nearest-above : b - a % b < a % b → a / b + 1 ≡ nearest a b
   nearest-above h =
-      omega (arith, nearest-only a b (suc (a / b)) some (more a b (a / b) (a % b) (mod-lt a some) (omega (arith, mod-lt a some)) (div-add-mod' a b)))
+      omega (arith, nearest-only a b (suc (a / b)) some (above-half a b (a / b) (a % b) (mod-lt a some) (omega (arith, mod-lt a some)) (div-add-mod' a b)))
 
   pub nearest-half : b - a % b ≤ a % b → a % b ≤ b - a % b → a / b + a / b % 2 ≡ nearest a b
-  nearest-half h k = nearest-only a b (a / b + a / b % 2) some (half a b (a / b) (a % b) (omega (arith, mod-lt a some)) (div-add-mod' a b))
+  nearest-half h k = nearest-only a b (a / b + a / b % 2) some (at-half a b (a / b) (a % b) (omega (arith, mod-lt a some)) (div-add-mod' a b))
 
 -- The score of a refused certificate
 score-of : (done total : ℕ) → (total ≡ 0 → ⊥) → scoreOf done total ≡ nearest (100 * done) total

@@ -21,7 +21,7 @@ fn nearest(part: u32, whole: u32) -> u32
     quotient + quotient % 2
 }
 
-// 100 times the proofs that passed over all obligations, or 100 if there are none; then at most 99.
+// 100 times the proofs that passed over all obligations, to the nearest whole number, or 100 if there are none; then at most 99.
 pub fn refused_score(done: u32, total: u32) -> u32
     requires { ⌜ done ≤ 1000000 ⌝ }
     ensures { λ r. ⌜ r ≡ refusedScore done total ⌝ }

@@ -22,7 +22,7 @@ use Rattle.typed.specs.Forms.{s32, single, plus, reaches, refused, fit, 
 use Rattle.typed.specs.Forms as forms
 use Rattle.typed.specs.Values.{decimalOf, workExpression, workTerm, workFactor, workRow}
 use Rattle.typed.specs.Typed.{Typed, count-refused, length-refused, text-refused, value-refused, accepted, typedRow}
-use Rattle.typed.proofs.ReadLaws.{compare}
+use Rattle.farkas.proofs.Order.{compare}
 use Rattle.typed.proofs.TypedLaws.{typed-is}
 
 -- 0 from n on

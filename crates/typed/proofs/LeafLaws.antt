@@ -21,7 +21,8 @@ use Rattle.typed.specs.Signs.{signs, signAt}
 use Rattle.typed.specs.Turns.{byClose}
 use Rattle.typed.specs.Forms.{zeroForm, constant, single, combined, fit, reaches, refused, varies, product, variableAt, numberAt}
 use Rattle.typed.specs.Working.{skip, capped, decimal, digitCount, digitsAt, wholeAt, closedAt}
-use Rattle.typed.proofs.ReadLaws.{compare, capped-small, capped-large}
+use Rattle.farkas.proofs.Order.{compare}
+use Rattle.typed.proofs.ReadLaws.{capped-small, capped-large}
 use Rattle.typed.proofs.TurnLaws.{next-at, no-close}
 
 -- a product, by which of its factors vary

@@ -20,7 +20,7 @@ use Rattle.typed.specs.Signs.{signOf, signs}
 use Rattle.typed.specs.Text.{Valid, Mendable, Breaks}
 use Rattle.typed.specs.Scan.{step, run, accepted, passes, passesBy, start, scanned}
 use Rattle.typed.proofs.SignLaws.{signs-length}
-use Rattle.typed.proofs.ReadLaws.{compare}
+use Rattle.farkas.proofs.Order.{compare}
 use Rattle.typed.proofs.AcceptLaws.{run-append, Ended, in-number, after-all, spelled-accepted}
 use Rattle.typed.proofs.ParseLaws.{dead-not, accepted-spelled}
 

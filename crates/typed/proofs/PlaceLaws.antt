@@ -23,7 +23,8 @@ use Rattle.typed.specs.Turns.{byClose}
 use Rattle.typed.specs.Forms.{reaches, refused, s32, fit, onwards, next, combined, joined, varies, zeroForm, product, multiplied, variableAt, numberAt}
 use Rattle.typed.specs.Working.{skip, onDigit, digitCount, decimal, wholeAt, closedAt}
 use Rattle.typed.proofs.SignLaws.{signs-length, sign-past, signs-from}
-use Rattle.typed.proofs.ReadLaws.{compare, skip-from}
+use Rattle.farkas.proofs.Order.{compare}
+use Rattle.typed.proofs.ReadLaws.{skip-from}
 
 pub no : {A : Type 0} {p q : ℕ} → Fault p ≡ At q → A
 no e = absurd (let z : _≡_ {A = ℕ} 0 1 = cc in omega arith)

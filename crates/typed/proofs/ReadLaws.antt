@@ -1,15 +1,15 @@
 -- Blanks and digits, read one byte at a time. Assumes nothing.
 use mathlib.Core.Path.{_≡_, refl, sym, ap, _∙_}
-use mathlib.Core.Logic.{_⊎_, inl, inr, ⊎-elim}
-use mathlib.Core.Bool.{Bool, true, false, cond}
+use mathlib.Core.Logic.{⊎-elim}
+use mathlib.Core.Bool.{cond}
 use mathlib.Core.List.{List, [], _∷_}
 use Prim.Native.Nat.{ℕ, zero, suc, _+_, _*_, _^_, _≤_, _<_}
 use native.Mathlib.Omega.{arith}
-use lib.Dec.{ltb}
 use lib.ListN.{length, drop, drop-of-length-le}
 use types.Run.{OneOf, miss}
 use denote.Enum.Declared.{tagOf}
-use borrow.Author.Tests.{lt-ltb, le-ltb, ltb-true, ltb-false}
+use borrow.Author.Tests.{lt-ltb, le-ltb}
+use Rattle.farkas.proofs.Order.{compare}
 use Rattle.typed.proofs.signs.Sign.{the-type}
 use Rattle.typed.specs.declared.signs.Sign.{Sign}
 use Rattle.typed.specs.declared.signs.Sign.the-variants.{Blank, Digit, Letter, Open, Close, Plus, Minus, Times, Less, Equal, Other}
@@ -66,13 +66,6 @@ module _ (text : List ℕ) (p : ℕ) where
   skip-from = omega arith
 
 -- digits. A number cut at 2 ^ 31 is as good as the number: one digit more, and it is cut to the same
-pub compare : (a b : ℕ) → (a < b) ⊎ (b ≤ a)
-compare a b = go (ltb a b) refl
-  where
-    go : (t : Bool) → ltb a b ≡ t → (a < b) ⊎ (b ≤ a)
-    go true e = inl (ltb-true a b e)
-    go false e = inr (ltb-false a b e)
-
 pub capped-small : (v : ℕ) → v < 2 ^ 31 → capped v ≡ v
 unfolding capped
 capped-small v h = ap (λ t. cond t v (2 ^ 31)) (lt-ltb v (2 ^ 31) h)

@@ -15,7 +15,7 @@ use Rattle.typed.specs.Text.{blanks, digits}
 use Rattle.typed.specs.Working.{leadBy, lead, skip, onDigit, digitCount, decimal}
 use Rattle.typed.specs.Values.{decimalOf}
 use Rattle.typed.proofs.SignLaws.{sign-past, signs-from}
-use Rattle.typed.proofs.ReadLaws.{compare}
+use Rattle.farkas.proofs.Order.{compare}
 
 -- the first sign, and the first that is no blank
 unfoldable pub first : List Sign → Sign

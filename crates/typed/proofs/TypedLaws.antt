@@ -22,7 +22,7 @@ use Rattle.typed.specs.Working.{rowAt}
 use Rattle.typed.specs.Following.{FaultBelow}
 use Rattle.typed.specs.Typed.{rowOf, countRefused, lengthRefused, textRefused, valueRefused, Typed, count-refused, length-refused, text-refused, value-refused, accepted, reachedRow, workedRow, scannedRow, shortRow, countedRow, typedRow}
 use Rattle.typed.proofs.SignLaws.{signs-length}
-use Rattle.typed.proofs.ReadLaws.{compare}
+use Rattle.farkas.proofs.Order.{compare}
 use Rattle.typed.proofs.MendLaws.{keeps-valid, fails-breaks, valid-keeps, breaks-fails}
 use Rattle.typed.proofs.RowLaws.{row-works}
 use Rattle.typed.proofs.FaultLaws.{row-below}

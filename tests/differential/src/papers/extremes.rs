@@ -19,7 +19,7 @@ impl Paper {
     }
 }
 
-fn plan(owners: Vec<u8>, components: Vec<Component>, unsafe_conditions: Vec<(Vec<u8>, Vec<Row>)>) -> Plan {
+pub(super) fn plan(owners: Vec<u8>, components: Vec<Component>, unsafe_conditions: Vec<(Vec<u8>, Vec<Row>)>) -> Plan {
     let n = owners.len();
     Plan { owners, components, unsafe_conditions, start: vec![0; n], low: vec![0; n], high: vec![0; n] }
 }

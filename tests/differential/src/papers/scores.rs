@@ -1,7 +1,8 @@
 //! Certificates of any number of obligations that stop at any of their proofs, for the rounding of scores (02, order 5).
 
 use super::certificates::certificate_sheet;
-use super::models::{ANY, Component, Mode, Plan};
+use super::extremes::plan;
+use super::models::{ANY, Component, Mode};
 use super::sheet::{Proof, Sheet, fix_length};
 
 /// In each of the two components; they make 64 locations.
@@ -43,15 +44,7 @@ fn model(total: usize) -> Sheet {
     let in_location = (0..total % MODES).map(|mode| vec![0, mode as u8]);
     let modes = everywhere.into_iter().chain(in_mode).chain(in_location);
     let component = Component { modes: vec![Mode { start: true, ..Mode::default() }; MODES], ..Component::default() };
-    let plan = Plan {
-        owners: vec![0],
-        components: vec![component; 2],
-        unsafe_conditions: modes.map(|modes| (modes, vec![vec![0, -1]])).collect(),
-        start: vec![0],
-        low: vec![0],
-        high: vec![0],
-    };
-    plan.sheet()
+    plan(vec![0], vec![component; 2], modes.map(|modes| (modes, vec![vec![0, -1]])).collect()).sheet()
 }
 
 /// No region has rows, and each proof is the unsafe condition's row, 0 ≤ −1, once.
