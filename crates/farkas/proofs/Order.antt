@@ -1,10 +1,10 @@
 -- More laws on the whole numbers: order and equality, what a factor of at least 1 does, and sums with nothing added.
 -- Each is a fact on naturals once the unknowns are split (Integers.antt). Of two naturals, which is less. Assumes nothing.
-use mathlib.Core.Path.{_≡_, refl}
-use mathlib.Core.Logic.{_⊎_, inl, inr}
+use mathlib.Core.Path.{_≡_, refl, sym}
+use mathlib.Core.Logic.{_⊎_, inl, inr, ⊎-elim}
 use mathlib.Core.Bool.{Bool, true, false}
 use Prim.Native.Nat.{ℕ, _≤_, _<_}
-use native.Mathlib.Nat.{le-of-mul-le-mul-left}
+use native.Mathlib.Nat.{le-of-mul-le-mul-left, eq-or-lt-of-le}
 use native.Mathlib.Omega.{arith}
 use lib.Dec.{ltb}
 use borrow.Author.Tests.{ltb-true, ltb-false}
@@ -40,3 +40,7 @@ compare a b = go (ltb a b) refl
     go : (t : Bool) → ltb a b ≡ t → (a < b) ⊎ (b ≤ a)
     go true e = inl (ltb-true a b e)
     go false e = inr (ltb-false a b e)
+
+-- the one is less, they are the same, or it is more
+pub by-order : (n m : ℕ) (P : Type 0) → (n < m → P) → (n ≡ m → P) → (m < n → P) → P
+by-order n m P below same above = ⊎-elim below (λ h. ⊎-elim (λ e. same (sym e)) above (eq-or-lt-of-le h)) (compare n m)

@@ -1,18 +1,13 @@
 -- What `nearest` gives is the nearest whole number, the even one at a half, and no other number is that (02, order 5). Assumes nothing.
 use mathlib.Core.Bool.{Bool, true, false, cond}
-use mathlib.Core.Path.{_≡_, refl, sym, ap}
-use mathlib.Core.Logic.{⊎-elim}
+use mathlib.Core.Path.{_≡_, refl, ap}
 use Prim.Native.Nat.{ℕ, zero, suc, _+_, _*_, _/_, _%_, _≤_, _<_}
-use native.Mathlib.Nat.{mod-lt, div-add-mod', mul-le-mul-right, eq-or-lt-of-le, le-of-eq}
+use native.Mathlib.Nat.{mod-lt, div-add-mod', mul-le-mul-right, le-of-eq}
 use native.Mathlib.Omega.{arith}
 use borrow.Author.Tests.{ltb-true, ltb-false}
 use lib.Dec.{ltb}
-use Rattle.farkas.proofs.Order.{compare}
+use Rattle.farkas.proofs.Order.{by-order}
 use Rattle.rules.specs.Nearest.{nearer, nearest, apart, Nearest}
-
--- two numbers, in the three ways that they may stand
-pub by-order : (n m : ℕ) (P : Type 0) → (n < m → P) → (n ≡ m → P) → (m < n → P) → P
-by-order n m P below same above = ⊎-elim below (λ h. ⊎-elim (λ e. same (sym e)) above (eq-or-lt-of-le h)) (compare n m)
 
 -- multiples of b that differ: what a is apart from the one and from the other makes b or more
 between : (a b n m : ℕ) → n < m → b ≤ apart a (n * b) + apart a (m * b)

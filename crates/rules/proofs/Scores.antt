@@ -1,23 +1,25 @@
 -- Scores (01, What is handed back; 02, order 5): the nearest whole percent, within 0 to 100, never less for more proofs. Assumes nothing.
-use mathlib.Core.Path.{_≡_, refl, ap, sym}
+use mathlib.Core.Path.{_≡_, refl, ap, sym, _∙_, subst}
 use mathlib.Core.Logic.{_⊎_, inl, inr, ⊎-elim}
 use Prim.Native.Nat.{ℕ, zero, suc, _*_, _≤_, min}
 use native.Mathlib.Nat.{mul-le-mul-right, le-of-eq, le-min, min-le-left, min-le-right, min-eq-right, eq-or-lt-of-le}
 use native.Mathlib.Omega.{arith}
 use Rattle.rules.specs.Nearest.{nearer, nearest, apart, Nearest}
 use Rattle.rules.specs.Marking.{scoreOf, refusedScore}
-use Rattle.rules.proofs.Nearest.{by-order, near-least, nearest-is, nearest-only}
+use Rattle.farkas.proofs.Order.{by-order}
+use Rattle.rules.proofs.Nearest.{near-least, nearest-is, nearest-only}
+
+pub score-rounded : (done total : ℕ) → 1 ≤ total → scoreOf done total ≡ nearest (100 * done) total
+unfolding scoreOf
+score-rounded done zero h = absurd (omega arith)
+score-rounded done (suc total) h = refl
 
 -- Of some obligations the score is the nearest to 100 · done over all of them, and the only one that is
 pub score-nearest : (done total : ℕ) → 1 ≤ total → Nearest (100 * done) total (scoreOf done total)
-unfolding scoreOf
-score-nearest done zero h = absurd (omega arith)
-score-nearest done (suc total) h = nearest-is (100 * done) (suc total) h
+score-nearest done total h = subst (Nearest (100 * done) total) (sym (score-rounded done total h)) (nearest-is (100 * done) total h)
 
 pub score-only : (done total n : ℕ) → 1 ≤ total → Nearest (100 * done) total n → n ≡ scoreOf done total
-unfolding scoreOf
-score-only done zero n h v = absurd (omega arith)
-score-only done (suc total) n h v = nearest-only (100 * done) (suc total) n h v
+score-only done total n h v = nearest-only (100 * done) total n h v ∙ sym (score-rounded done total h)
 
 -- all of them passed: 100
 whole : (total : ℕ) → Nearest (100 * total) total 100

@@ -1,11 +1,12 @@
 -- A fraction rounded by what is past its quotient and what is left to the next; the score of a refused certificate, by cases. Assumes
 -- nothing.
-use mathlib.Core.Path.{_≡_, refl, sym, ap, _∙_}
-use Prim.Native.Nat.{ℕ, zero, suc, _+_, _*_, _-_, _/_, _%_, _≤_, _<_, min}
+use mathlib.Core.Path.{_≡_, sym, ap, _∙_}
+use Prim.Native.Nat.{ℕ, suc, _+_, _*_, _-_, _/_, _%_, _≤_, _<_, min}
 use native.Mathlib.Nat.{min-eq-left, min-eq-right, mod-lt, div-add-mod', mul-le-mul-left}
 use native.Mathlib.Omega.{arith}
 use Rattle.rules.specs.Nearest.{nearest}
 use Rattle.rules.specs.Marking.{scoreOf, refusedScore}
+use Rattle.rules.proofs.Scores.{score-rounded}
 use Rattle.rules.proofs.Nearest.{below-half, above-half, at-half, nearest-only}
 
 module _ (a b : ℕ) (some : 1 ≤ b) where
@@ -28,20 +29,18 @@ module _ (a b : ℕ) (some : 1 ≤ b) where
   nearest-half h k = nearest-only a b (a / b + a / b % 2) some (at-half a b (a / b) (a % b) (omega (arith, mod-lt a some)) (div-add-mod' a b))
 
 -- The score of a refused certificate
-score-of : (done total : ℕ) → (total ≡ 0 → ⊥) → scoreOf done total ≡ nearest (100 * done) total
-unfolding scoreOf
-score-of done zero h = absurd (h refl)
-score-of done (suc total) h = refl
-
 pub score-none : (done total : ℕ) → total ≡ 0 → 99 ≡ refusedScore done total
 unfolding refusedScore scoreOf
 score-none done total h = sym (ap (refusedScore done) h)
 
 module _ (done total score : ℕ) (some : total ≡ 0 → ⊥) (e : score ≡ nearest (100 * done) total) where
+  rounded : scoreOf done total ≡ score
+  rounded = score-rounded done total (omega (arith, some)) ∙ sym e
+
   pub score-most : 99 < score → 99 ≡ refusedScore done total
   unfolding refusedScore
-  score-most l = sym (ap (λ (n : ℕ). min 99 n) (score-of done total some ∙ sym e) ∙ min-eq-left (omega arith))
+  score-most l = sym (ap (λ (n : ℕ). min 99 n) rounded ∙ min-eq-left (omega arith))
 
   pub score-some : score ≤ 99 → score ≡ refusedScore done total
   unfolding refusedScore
-  score-some l = sym (ap (λ (n : ℕ). min 99 n) (score-of done total some ∙ sym e) ∙ min-eq-right l)
+  score-some l = sym (ap (λ (n : ℕ). min 99 n) rounded ∙ min-eq-right l)
