@@ -12,9 +12,10 @@ use Rattle.formats.specs.Reading.{got}
 use Rattle.formats.specs.Model.{Model}
 use Rattle.formats.specs.declared.Limits.{Limits}
 use Rattle.formats.specs.ModelSheet.{stated, readModel}
+use Rattle.rules.specs.ReadAs.{Safe}
 use Rattle.rules.specs.declared.Answer.{Answer}
 use Rattle.fair_models.specs.FairCopy.{fairCopy, fairAnswer, bufferAfter}
-use Rattle.fair_models.proofs.CopyMeans.{Copied, copied, Safe, safe-alike}
+use Rattle.fair_models.proofs.CopyMeans.{Copied, copied, safe-alike}
 use Rattle.fair_models.proofs.CopyCall.{handed}
 
 -- the sheet is a model under these limits; the first bytes of the buffer, as many as done says, are its fair copy; the copy reads well under

@@ -25,11 +25,12 @@ use Rattle.writing.proofs.ChangedWritable.{changed-writable, changed-length}
 use Rattle.writing.proofs.FromSheets.{writable}
 use Rattle.writing.proofs.RoundTrip.{reads-back}
 use Rattle.writing.proofs.Lengths.{sheet-of, written-length}
-use Rattle.rules.specs.Runs.{State, Run, startAllowed, stepsAllowed, visited, isUnsafe}
+use Rattle.rules.specs.Runs.{State, stillVariables, stayingVariables, Run, startAllowed, stepsAllowed, visited, isUnsafe}
+use Rattle.rules.specs.ReadAs.{SameRun, Safe}
 use Rattle.fair_rows.proofs.OrderLaws.{Ascending}
 use Rattle.fair_rows.proofs.FairLaws.{fair-ascending}
 use Rattle.fair_models.specs.FairCopy.{fairCondition, fairModel, fairCopy}
-use Rattle.fair_models.proofs.SameRuns.{same-start, same-steps, same-visited, same-unsafe}
+use Rattle.fair_models.proofs.SameRuns.{same-start, same-still, same-staying, same-steps, same-visited, same-unsafe}
 use Rattle.fair_models.proofs.FairConditions.{rowsIn, placed-none, bare-by-rows, fair-faithful, bare-faithful, fair-bare, bare-fair, fair-twice}
 use Rattle.fair_models.proofs.FairWritable.{fair-shortens}
 use Rattle.fair_models.proofs.EveryCondition.{ModelConditions, every-changed, every-unchanged}
@@ -98,16 +99,6 @@ copy-read-ascending limits m c =
     (c .model)
     (subst (ModelConditions Sorted) (sym (c .same)) (copy-ascending m))
 
--- Runs that begin alike, with the same steps
-pub record SameRun {x m : Model} (a : Run x) (b : Run m) : Type 0 where
-  pub q : a .q ≡ b .q
-  pub first : a .first ≡ b .first
-  pub steps : a .steps ≡ b .steps
-
--- no run visits an unsafe state
-abbrev pub Safe : Model → Type 0
-Safe m = (run : Run m) (s : State) → List·Memᴰ s (visited m (run .first) (run .steps)) → T (isUnsafe m (run .q) s) → ⊥
-
 -- What is allowed, visited and unsafe, of the copy as of the model
 module _ (limits : Limits) (s : List ℕ) (m : Model) (next : ℕ) (e : readModel limits s ≡ got m next) (c : Copied limits m) where
   original : All (GoodComponent (m .variables)) (m .components)
@@ -146,6 +137,25 @@ module _ (limits : Limits) (s : List ℕ) (m : Model) (next : ℕ) (e : readMode
       alike (λ y. isUnsafe y q x)
       (same-unsafe bareRows bare-faithful (c .model) copy q l x)
       (same-unsafe fairCondition fair-faithful m original q l x)
+
+  -- it has the model's version, and keeps the same variables: those that are still in a flow, and those that stay in a jump
+  pub copy-version : c .model .version ≡ m .version
+  unfolding bare fairModel changed
+  copy-version = alike (λ y. y .version) refl refl
+
+  pub copy-still : (location : ℕ) → stillVariables (c .model) location ≡ stillVariables m location
+  unfolding bare fairModel
+  copy-still location =
+      alike (λ y. stillVariables y location)
+      (same-still bareRows bare-faithful (c .model) copy location)
+      (same-still fairCondition fair-faithful m original location)
+
+  pub copy-staying : (switches : List ℕ) → stayingVariables (c .model) switches ≡ stayingVariables m switches
+  unfolding bare fairModel
+  copy-staying switches =
+      alike (λ y. stayingVariables y switches)
+      (same-staying bareRows bare-faithful (c .model) copy switches)
+      (same-staying fairCondition fair-faithful m original switches)
 
   -- "The copy allows the same runs": each run of the one is a run of the other
   pub to-copy : (a : Run m) → (b : Run (c .model)) × SameRun b a

@@ -10,9 +10,10 @@ use Rattle.farkas.proofs.All.{all-map}
 use Rattle.fair_rows.specs.FairRows.{fairRows}
 use Rattle.fair_rows.proofs.FairLaws.{fair-again}
 use Rattle.fair_rows.proofs.TruthLaws.{fair-holds, fair-holds-plain}
+use Rattle.fair_rows.proofs.BlankLaws.{blankAt, fair-blank}
 use Rattle.formats.specs.Rows.{Condition}
 use Rattle.writing.specs.Changed.{unplaced, bareRows}
-use Rattle.rules.specs.Runs.{conditionHolds}
+use Rattle.rules.specs.Runs.{conditionHolds, unmentioned}
 use Rattle.fair_models.specs.FairCopy.{fairCondition}
 use Rattle.fair_models.proofs.SameRuns.{Faithful, every-map}
 
@@ -33,12 +34,22 @@ fair-by-rows : (q : ℕ) (p : List ℤ) (rows : Condition) → conditionHolds q 
 unfolding fairCondition
 fair-by-rows q p rows = by-rows q p (map unplaced (fairRows (rowsIn rows))) ∙ ap (every (rowHolds q p)) (placed-none (fairRows (rowsIn rows)))
 
+-- and mentions what its rows mention
+blank-by-rows : (i : ℕ) (rows : Condition) → unmentioned i rows ≡ every (blankAt i) (rowsIn rows)
+unfolding unmentioned
+blank-by-rows i rows = sym (every-map (blankAt i) (λ r. r .row) rows)
+
+fair-blank-by-rows : (i : ℕ) (rows : Condition) → unmentioned i (fairCondition rows) ≡ every (blankAt i) (fairRows (rowsIn rows))
+unfolding fairCondition
+fair-blank-by-rows i rows = blank-by-rows i (map unplaced (fairRows (rowsIn rows))) ∙ ap (every (blankAt i)) (placed-none (fairRows (rowsIn rows)))
+
 pub fair-faithful : Faithful fairCondition
 unfolding fairCondition fairRows
 fair-faithful =
     record {
       holds = λ q p rows l. fair-by-rows q p rows ∙ fair-holds q p (rowsIn rows) l ∙ sym (by-rows q p rows);
       rates = λ δ p rows h. fair-by-rows δ p rows ∙ fair-holds-plain δ p (rowsIn rows) (all-map (λ r. r .row) h) ∙ sym (by-rows δ p rows);
+      blank = λ i rows. fair-blank-by-rows i rows ∙ fair-blank i (rowsIn rows) ∙ sym (blank-by-rows i rows);
       none = refl;
     }
 
@@ -51,7 +62,13 @@ bare-holds q p rows = by-rows q p (bareRows rows) ∙ ap (every (rowHolds q p)) 
 
 pub bare-faithful : Faithful bareRows
 unfolding bareRows
-bare-faithful = record { holds = λ q p rows l. bare-holds q p rows; rates = λ δ p rows h. bare-holds δ p rows; none = refl }
+bare-faithful =
+    record {
+      holds = λ q p rows l. bare-holds q p rows;
+      rates = λ δ p rows h. bare-holds δ p rows;
+      blank = λ i rows. blank-by-rows i (bareRows rows) ∙ ap (every (blankAt i)) (bare-by-rows rows) ∙ sym (blank-by-rows i rows);
+      none = refl;
+    }
 
 -- places do not matter to the fair rows, which have none; and they are fair already
 pub fair-bare : (rows : Condition) → fairCondition (bareRows rows) ≡ fairCondition rows

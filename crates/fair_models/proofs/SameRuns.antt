@@ -1,23 +1,24 @@
 -- A model with its conditions changed allows the same runs and has the same unsafe states, if each changed condition holds where the
--- condition held (`Faithful`): at every q of at least 1, and, as rates are compared with any time, at every number where no row is strict.
--- Assumes nothing.
+-- condition held (`Faithful`): at every q of at least 1, and, as rates are compared with any time, at every number where no row is strict;
+-- and if it mentions the same unknowns, so that the same variables are blank (02, order 6). Assumes nothing.
 use mathlib.Core.Path.{_≡_, refl, sym, ap, ap₂, _∙_, fun-ext}
 use mathlib.Core.Bool.{Bool, true, false, _&&_, _||_}
 use mathlib.Core.List.{List, [], _∷_, _++_, map}
-use Prim.Native.Nat.{ℕ, _≤_}
+use Prim.Native.Nat.{ℕ, _+_, _≤_}
 use lib.Dec.{ltb, eqb}
 use lib.IntN.{ℤ}
 use lib.ListN.{length, getD, List·getD-map}
 use Rattle.farkas.specs.Lists.{every, some, All, none, more}
+use Rattle.formats.specs.Versions.{keepsBlanks}
 use Rattle.formats.specs.Rows.{Condition}
 use Rattle.formats.specs.Model.{Mode, Switch, Component, Unsafe, Model}
-use Rattle.formats.specs.Locations.{modesAt, locationOf, modeOf}
+use Rattle.formats.specs.Locations.{modesAt, locationOf, noMode, modeOf}
 use Rattle.formats.specs.Joint.{stays, switchOf, isJoint, modesAfter}
 use Rattle.formats.specs.RunSheet.{Step, flow, jump}
 use Rattle.formats.proofs.WellFormed.{Plain, GoodMode, GoodComponent}
 use Rattle.writing.specs.Changed.{changedMode, changedSwitch, changedComponent, changedUnsafe, changed}
 use Rattle.writing.proofs.ChangedJoints.{changed-locations, changed-modes-at, changed-location-of, changed-is-joint, changed-modes-after}
-use Rattle.rules.specs.Runs.{State, conditionHolds, present, modesIn, admissible, startAllowed, difference, ratesHold, stillAtZero, flowRule, movers, stayingVariables, stayingKept, jumpRows, jumpRule, after, ruleMet, stepAllowed, stepsAllowed, visited, modesFit, isUnsafe}
+use Rattle.rules.specs.Runs.{State, conditionHolds, present, modesIn, admissible, startAllowed, difference, ratesHold, stillAtZero, unmentioned, ownerOf, variablesThat, kept, blankInFlow, stillVariables, blanksKept, flowRule, movers, ownerStays, noComponent, ownersJump, blankInJump, stayingVariables, stayingKept, jumpRows, jumpRule, after, ruleMet, stepAllowed, stepsAllowed, visited, modesFit, isUnsafe}
 use Rattle.rules.proofs.Hypotheses.{good-modes}
 
 -- Tests of mapped lists, and tests that answer alike
@@ -40,19 +41,21 @@ some-map t g (x ∷ xs) = ap (λ (b : Bool). t (g x) || b) (some-map t g xs)
 pub record Faithful (f : Condition → Condition) : Type 0 where
   pub holds : (q : ℕ) (p : List ℤ) (rows : Condition) → 1 ≤ q → conditionHolds q p (f rows) ≡ conditionHolds q p rows
   pub rates : (δ : ℕ) (p : List ℤ) (rows : Condition) → Plain rows → conditionHolds δ p (f rows) ≡ conditionHolds δ p rows
+  pub blank : (i : ℕ) (rows : Condition) → unmentioned i (f rows) ≡ unmentioned i rows
   pub none : f [] ≡ []
 
 -- A mode and a switch by number: what stands for a missing one has no rows
 module _ (f : Condition → Condition) (faith : Faithful f) where
-  mode-changed : (c : Component) (i : ℕ) → modeOf (changedComponent f c) i ≡ changedMode f (modeOf c i)
-  unfolding modeOf changedComponent changedMode
-  mode-changed c i = ap (getD (map (changedMode f) (c .modes)) i) (sym empty) ∙ List·getD-map (changedMode f) (c .modes) i nothing
-    where
-      nothing : Mode
-      nothing = record { start = 0; initial = []; invariant = []; flow = [] }
+  no-mode : changedMode f noMode ≡ noMode
+  unfolding changedMode
+  no-mode = λ j. record { start = 0; initial = faith .none j; invariant = faith .none j; flow = faith .none j }
 
-      empty : changedMode f nothing ≡ nothing
-      empty = λ j. record { start = 0; initial = faith .none j; invariant = faith .none j; flow = faith .none j }
+  mode-at : (modes : List Mode) (i : ℕ) → getD (map (changedMode f) modes) i noMode ≡ changedMode f (getD modes i noMode)
+  mode-at modes i = ap (getD (map (changedMode f) modes) i) (sym no-mode) ∙ List·getD-map (changedMode f) modes i noMode
+
+  mode-changed : (c : Component) (i : ℕ) → modeOf (changedComponent f c) i ≡ changedMode f (modeOf c i)
+  unfolding modeOf changedComponent
+  mode-changed c i = mode-at (c .modes) i
 
   switch-changed : (c : Component) (i : ℕ) → switchOf (changedComponent f c) i ≡ changedSwitch f (switchOf c i)
   unfolding switchOf changedComponent changedSwitch
@@ -87,13 +90,18 @@ module _ (f : Condition → Condition) (faith : Faithful f) where
 
 -- What is asked of the present modes, of the moving switches and of the unsafe conditions
 module _ (f : Condition → Condition) (faith : Faithful f) (m : Model) (good : All (GoodComponent (m .variables)) (m .components)) where
+  modes-changed : (location : ℕ) → modesIn (changed f m) location ≡ map (changedMode f) (modesIn m location)
+  unfolding modesIn changed
+  modes-changed location =
+      ap (present (map (changedComponent f) (m .components))) (changed-modes-at f (m .components) location)
+      ∙ present-changed f faith (m .components) (modesAt (m .components) location)
+
   every-mode :
       (t : Mode → Bool) → ((mode : Mode) → GoodMode (m .variables) mode → t (changedMode f mode) ≡ t mode)
       → (location : ℕ) → every t (modesIn (changed f m) location) ≡ every t (modesIn m location)
-  unfolding modesIn changed
+  unfolding modesIn
   every-mode t e location =
-      ap (λ (modes : List ℕ). every t (present (map (changedComponent f) (m .components)) modes)) (changed-modes-at f (m .components) location)
-      ∙ ap (every t) (present-changed f faith (m .components) (modesAt (m .components) location))
+      ap (every t) (modes-changed location)
       ∙ every-map t (changedMode f) (modesIn m location)
       ∙ every-alike (λ mode. t (changedMode f mode)) t e (good-modes (m .variables) (m .components) (modesAt (m .components) location) good)
 
@@ -115,11 +123,23 @@ module _ (f : Condition → Condition) (faith : Faithful f) (m : Model) (good : 
       (every-mode (λ mode. conditionHolds q (s .values) (mode .initial)) (λ mode g. faith .holds q (s .values) (mode .initial) l) (s .location))))
 
   -- a flow: rates are compared with any time, 0 too, and are not strict
+  pub same-still : (location : ℕ) → stillVariables (changed f m) location ≡ stillVariables m location
+  unfolding stillVariables variablesThat ownerOf blankInFlow changed changedMode
+  same-still location =
+      ap (variablesThat m)
+      (fun-ext
+      (λ v.
+      ap (λ (rows : Condition). keepsBlanks (m .version) && unmentioned v rows)
+      (ap (λ (modes : List Mode). getD modes (ownerOf m v) noMode .flow) (modes-changed location)
+      ∙ ap (λ (mode : Mode). mode .flow) (mode-at f faith (modesIn m location) (ownerOf m v)))
+      ∙ ap (λ (b : Bool). keepsBlanks (m .version) && b) (faith .blank v (getD (modesIn m location) (ownerOf m v) noMode .flow))))
+
   same-flow : (s : State) (δ : ℕ) (next : List ℤ) → flowRule (changed f m) s δ next ≡ flowRule m s δ next
-  unfolding flowRule ratesHold changedMode
+  unfolding flowRule ratesHold blanksKept changedMode
   same-flow s δ next =
-      ap (λ (b : Bool). b && stillAtZero s δ next)
+      ap₂ (λ (a b : Bool). a && (b && stillAtZero s δ next))
       (every-mode (λ mode. conditionHolds δ (difference next (s .values)) (mode .flow)) (λ mode g. faith .rates δ (difference next (s .values)) (mode .flow) (g .rates)) (s .location))
+      (ap (λ (variables : List ℕ). kept variables next (s .values)) (same-still (s .location)))
 
   -- a jump
   same-jump-rows : (q : ℕ) → 1 ≤ q → (s : State) (switches : List ℕ) (next : List ℤ) → jumpRows (changed f m) q s switches next ≡ jumpRows m q s switches next
@@ -130,6 +150,17 @@ module _ (f : Condition → Condition) (faith : Faithful f) (m : Model) (good : 
       ∙ every-map t (changedSwitch f) (movers (m .components) switches)
       ∙ ap (λ (u : Switch → Bool). every u (movers (m .components) switches)) (fun-ext (λ w. faith .holds q (s .values ++ next) (w .jump) l))
 
+  pub same-staying : (switches : List ℕ) → stayingVariables (changed f m) switches ≡ stayingVariables m switches
+  unfolding stayingVariables variablesThat ownerOf ownerStays ownersJump blankInJump changed changedComponent changedSwitch
+  same-staying switches =
+      ap (variablesThat m)
+      (fun-ext
+      (λ v.
+      ap (λ (rows : Condition). ownerStays m switches v || (keepsBlanks (m .version) && unmentioned (m .variables + v) rows))
+      (ap (λ (c : Component). switchOf c (getD switches (ownerOf m v) stays) .jump) (List·getD-map (changedComponent f) (m .components) (ownerOf m v) noComponent)
+      ∙ ap (λ (w : Switch). w .jump) (switch-changed f faith (getD (m .components) (ownerOf m v) noComponent) (getD switches (ownerOf m v) stays)))
+      ∙ ap (λ (b : Bool). ownerStays m switches v || (keepsBlanks (m .version) && b)) (faith .blank (m .variables + v) (ownersJump m switches v))))
+
   same-joint : (location event : ℕ) (switches : List ℕ) → isJoint (changed f m .components) (modesAt (changed f m .components) location) event switches ≡ isJoint (m .components) (modesAt (m .components) location) event switches
   unfolding changed
   same-joint location event switches =
@@ -137,12 +168,14 @@ module _ (f : Condition → Condition) (faith : Faithful f) (m : Model) (good : 
       ∙ ap (λ (modes : List ℕ). isJoint (m .components) modes event switches) (changed-modes-at f (m .components) location)
 
   same-rule : (q : ℕ) → 1 ≤ q → (s : State) (t : Step) → ruleMet (changed f m) q s t ≡ ruleMet m q s t
-  unfolding ruleMet jumpRule stayingKept stayingVariables changed
+  unfolding ruleMet jumpRule stayingKept
   same-rule q l s (flow δ next) = same-flow s δ next
   same-rule q l s (jump event switches next) =
       ap₂ (λ (a b : Bool). a && b)
       (same-joint (s .location) event switches)
-      (ap (λ (b : Bool). b && stayingKept m s switches next) (same-jump-rows q l s switches next))
+      (ap₂ (λ (a b : Bool). a && b)
+      (same-jump-rows q l s switches next)
+      (ap (λ (variables : List ℕ). kept variables next (s .values)) (same-staying switches)))
 
   -- the state after a step
   pub same-after : (s : State) (t : Step) → after (changed f m) s t ≡ after m s t

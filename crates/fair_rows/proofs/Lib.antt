@@ -4,3 +4,4 @@ pub mod OrderLaws
 pub mod FairLaws
 pub mod TruthLaws
 pub mod SpellingLaws
+pub mod BlankLaws

@@ -1,6 +1,6 @@
 -- Membership in the lists that the definitions make, both ways: a list that is mapped, joined or counted up. Assumes nothing.
 use mathlib.Core.Path.{_≡_, refl, sym, ap, subst}
-use mathlib.Core.Logic.{⊎-elim}
+use mathlib.Core.Logic.{_⊎_, inl, inr, ⊎-elim}
 use mathlib.Core.Bool.{Bool, true, false, cond}
 use mathlib.Core.List.{List, [], _∷_, _++_, map, List·Memᴰ, List·Memᴰ·head, List·Memᴰ·tail, List·Memᴰ·not-nil, List·Memᴰ·cases-cons, List·Memᴰ·append-cases, Memᴰ·append-left, Memᴰ·append-right}
 use Prim.Native.Nat.{ℕ, zero, suc, _+_, _-_, _≤_, _<_}
@@ -8,7 +8,7 @@ use native.Mathlib.Nat.{eq-or-lt-of-le}
 use native.Mathlib.Omega.{arith}
 use lib.Dec.{T}
 use lib.ListN.{length, getD}
-use Rattle.formats.specs.Joint.{numbersFrom, countUp, joinAll}
+use Rattle.formats.specs.Joint.{numbersFrom, those, countUp, joinAll}
 use Rattle.farkas.specs.Lists.{All, none, more}
 
 -- what holds of all holds of a member
@@ -165,3 +165,37 @@ in-numbers k test (x ∷ xs) d i w =
 
     one-more : (i k : ℕ) → suc k ≤ i → i - k ≡ suc (i - suc k)
     one-more i k h = omega arith
+
+-- the elements that pass a test: a member is an element, and passes
+pub record Chosen {A : Type 0} (test : A → Bool) (xs : List A) (a : A) : Type 0 where
+  pub member : List·Memᴰ a xs
+  pub passes : T (test a)
+
+chosen-later : {A : Type 0} {test : A → Bool} {x : A} {xs : List A} {a : A} → Chosen test xs a → Chosen test (x ∷ xs) a
+chosen-later w = record { member = List·Memᴰ·tail (w .member); passes = w .passes }
+
+chosen-step : {A : Type 0} (test : A → Bool) (x : A) (xs rest : List A) {a : A} (b : Bool) → test x ≡ b → (List·Memᴰ a rest → Chosen test xs a) → List·Memᴰ a (cond b (x ∷ rest) rest) → Chosen test (x ∷ xs) a
+chosen-step test x xs rest true e later d =
+    ⊎-elim
+    (λ k. record { member = List·Memᴰ·head k; passes = subst (λ y. T (test y)) (sym k) (subst T (sym e) tt) })
+    (λ k. chosen-later (later k))
+    (List·Memᴰ·cases-cons d)
+chosen-step test x xs rest false e later d = chosen-later (later d)
+
+pub chosen-in : {A : Type 0} (test : A → Bool) (xs : List A) {a : A} → List·Memᴰ a (those test xs) → Chosen test xs a
+unfolding those
+chosen-in test [] d = absurd (List·Memᴰ·not-nil d)
+chosen-in test (x ∷ xs) d = chosen-step test x xs (those test xs) (test x) refl (λ k. chosen-in test xs k) d
+
+in-chosen-step : {A : Type 0} (test : A → Bool) (x : A) (rest : List A) {a : A} (b : Bool) → test x ≡ b → T (test a) → (a ≡ x) ⊎ List·Memᴰ a rest → List·Memᴰ a (cond b (x ∷ rest) rest)
+in-chosen-step test x rest true e t (inl k) = List·Memᴰ·head k
+in-chosen-step test x rest true e t (inr k) = List·Memᴰ·tail k
+in-chosen-step test x rest false e t (inl k) = absurd (subst T e (subst (λ y. T (test y)) k t))
+in-chosen-step test x rest false e t (inr k) = k
+
+pub in-chosen : {A : Type 0} (test : A → Bool) (xs : List A) {a : A} → List·Memᴰ a xs → T (test a) → List·Memᴰ a (those test xs)
+unfolding those
+in-chosen test [] d t = absurd (List·Memᴰ·not-nil d)
+in-chosen test (x ∷ xs) d t =
+    in-chosen-step test x (those test xs) (test x) refl t
+    (⊎-elim (λ k. inl k) (λ k. inr (in-chosen test xs k t)) (List·Memᴰ·cases-cons d))

@@ -1,18 +1,48 @@
 -- What a sheet's version decides, as far as what reads and tests sheets asks for it. Assumes nothing.
-use mathlib.Core.Path.{_≡_}
+use mathlib.Core.Path.{_≡_, refl, sym, subst}
+use mathlib.Core.Logic.{_↔_, ⊎-elim}
+use mathlib.Core.Bool.{Bool, true, false, not, _&&_, _||_, or-true}
 use Prim.Native.Nat.{ℕ, _+_, _*_, _≤_, _<_}
 use native.Mathlib.Nat.{mul-le-mul-left, mul-le-mul-right, le-trans}
 use native.Mathlib.Omega.{arith}
-use lib.Dec.{T, eqb→eq}
-use Rattle.formats.specs.Versions.{versionFits, rowBytes}
+use mir.Facts.{and-yes, yes-and, or-yes}
+use lib.Dec.{T, T-not, leb, eqb, leb→le, le→leb, eqb→eq}
+use borrow.Author.Tests.{leb-true, le-leb, eqb-true, eq-eqb}
+use Rattle.formats.specs.Versions.{newest, versionFits, rowBytes, keepsBlanks}
 
--- a sheet that reads well has version 1; a version is a byte
-pub only-one : (kind version : ℕ) → T (versionFits kind version) → version ≡ 1
-unfolding versionFits
-only-one kind version t = eqb→eq version 1 t
+-- which versions sheets have: 1 or 2, and 2 none but a model; a version is a byte
+pub versions-exactly : (kind version : ℕ) → T (versionFits kind version) ↔ (((1 ≤ version) × (version ≤ 2)) × (version ≡ 2 → kind ≡ 1))
+unfolding versionFits newest
+versions-exactly kind version = (there, back)
+  where
+    there : T ((leb 1 version && leb version 2) && (eqb kind 1 || not (eqb version 2))) → ((1 ≤ version) × (version ≤ 2)) × (version ≡ 2 → kind ≡ 1)
+    there t =
+        let h = and-yes (leb 1 version && leb version 2) (eqb kind 1 || not (eqb version 2)) t in
+        let k = and-yes (leb 1 version) (leb version 2) (h .0) in (
+          (leb→le 1 version (k .0), leb→le version 2 (k .1)),
+          λ e. ⊎-elim (eqb→eq kind 1) (λ n. absurd (T-not (eqb version 2) n (subst T (sym (eq-eqb version 2 e)) tt))) (or-yes (eqb kind 1) (not (eqb version 2)) (h .1)),
+        )
+
+    last : (b : Bool) → eqb version 2 ≡ b → (version ≡ 2 → kind ≡ 1) → T (eqb kind 1 || not b)
+    last true e f = rw (eq-eqb kind 1 (f (eqb-true version 2 e))) tt
+    last false e f = rw (or-true (eqb kind 1)) tt
+
+    back : ((1 ≤ version) × (version ≤ 2)) × (version ≡ 2 → kind ≡ 1) → T ((leb 1 version && leb version 2) && (eqb kind 1 || not (eqb version 2)))
+    back w =
+        yes-and (leb 1 version && leb version 2) (eqb kind 1 || not (eqb version 2))
+        (yes-and (leb 1 version) (leb version 2) (le→leb 1 version (w .0 .0)) (le→leb version 2 (w .0 .1)))
+        (last (eqb version 2) refl (w .1))
+
+pub version-range : (kind version : ℕ) → T (versionFits kind version) → (1 ≤ version) × (version ≤ 2)
+version-range kind version t = versions-exactly kind version .0 t .0
 
 pub version-small : (kind version : ℕ) → T (versionFits kind version) → version < 256
-version-small kind version t = omega (arith, only-one kind version t)
+version-small kind version t = omega (arith, version-range kind version t .1)
+
+-- blanks are kept from version 2 on
+pub blanks-exactly : (version : ℕ) → (keepsBlanks version ≡ true) ↔ (2 ≤ version)
+unfolding keepsBlanks
+blanks-exactly version = (leb-true 2 version, le-leb 2 version)
 
 -- a row has a word for each coefficient and one for its bound
 pub numbers-in-row : (version n : ℕ) → 4 * (n + 1) ≤ rowBytes version n

@@ -125,6 +125,11 @@ switchesOf components modes zero = silent components modes
 switchesOf components modes (suc e) =
     cond (eqb (moverCount components (suc e)) 0) [] (together components modes (suc e))
 
+-- the elements that pass a test, in order
+unfoldable pub those : {A : Type 0} → (A → Bool) → List A → List A
+those test [] = []
+those test (a ∷ xs) = cond (test a) (a ∷ those test xs) (those test xs)
+
 -- numbers from one on, as many as said
 unfoldable pub countUp : ℕ → ℕ → List ℕ
 countUp i zero = []

@@ -21,6 +21,9 @@ locationOf [] modes = 0
 locationOf (c ∷ components) [] = 0
 locationOf (c ∷ components) (mode ∷ modes) = mode * locationCount components + locationOf components modes
 
--- a component's mode by its number
+-- a component's mode by its number; what stands for a missing one has no rows
+abbrev pub noMode : Mode
+noMode = record { start = 0; initial = []; invariant = []; flow = [] }
+
 unfoldable pub modeOf : Component → ℕ → Mode
-modeOf c mode = getD (c .modes) mode (record { start = 0; initial = []; invariant = []; flow = [] })
+modeOf c mode = getD (c .modes) mode noMode

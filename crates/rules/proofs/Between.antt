@@ -2,23 +2,21 @@
 -- passes through an unsafe state in the middle of a flow either. Assumes nothing.
 use mathlib.Core.Path.{_≡_, refl, sym, ap, ap₂, _∙_, subst}
 use mathlib.Core.Bool.{Bool, true, false}
-use mathlib.Core.List.{List, [], _∷_, _++_, map, map-append}
+use mathlib.Core.List.{List, [], _∷_, _++_, map}
 use Prim.Native.Nat.{ℕ, zero, suc, _+_, _*_, _-_, _≤_}
 use native.Mathlib.Nat.{mul-le-mul-left}
 use native.Mathlib.Omega.{arith}
 use lib.Dec.{T, ltb, eqb}
 use borrow.Author.Tests.{eq-eqb, ne-eqb}
-use lib.IntN.{ℤ, pos, _+ℤ_, _-ℤ_, _*ℤ_, *ℤ-zero, *ℤ-comm}
-use lib.ListN.{length, length-map}
+use lib.IntN.{ℤ, pos, _+ℤ_, _*ℤ_, *ℤ-comm}
+use lib.ListN.{length}
 use lib.Signed.{_≤ℤ_}
 use mir.Facts.{and-yes, yes-and}
 use Rattle.farkas.specs.Lists.{every, All}
-use Rattle.farkas.specs.Rows.{Row, item, dot, rowHolds}
-use Rattle.farkas.specs.Farkas.{sameZ}
+use Rattle.farkas.specs.Rows.{Row, dot, rowHolds}
 use Rattle.farkas.proofs.All.{every-all, all-every}
 use Rattle.farkas.proofs.Comparing.{compared-+, compared-*, compared-times, compared-same, compared-plain, compared-weaker, counts-one}
 use Rattle.farkas.proofs.Integers.{split, by-parts}
-use Rattle.farkas.proofs.Promise.{same-means}
 use Rattle.formats.specs.Reading.{got}
 use Rattle.formats.specs.Rows.{Condition}
 use Rattle.formats.specs.Model.{Mode, Model}
@@ -28,42 +26,16 @@ use Rattle.formats.specs.declared.Limits.{Limits}
 use Rattle.formats.specs.ModelSheet.{readModel}
 use Rattle.formats.specs.RunSheet.{Step, flow, jump}
 use Rattle.formats.proofs.WellFormed.{Plain, GoodMode, WellFormed, well-formed}
-use Rattle.rules.specs.Runs.{State, conditionHolds, modesIn, admissible, startAllowed, difference, sameValues, ratesHold, stillAtZero, flowRule, movers, stayingVariables, stayingKept, jumpRows, jumpRule, after, ruleMet, stepAllowed, stepsAllowed, Run, endOf, isUnsafe}
+use Rattle.rules.specs.Runs.{State, conditionHolds, modesIn, admissible, startAllowed, difference, sameValues, ratesHold, stillAtZero, kept, stillVariables, blanksKept, flowRule, movers, stayingVariables, stayingKept, jumpRows, jumpRule, after, ruleMet, stepAllowed, stepsAllowed, Run, endOf, isUnsafe}
 use Rattle.rules.specs.Marking.{markCertificate}
 use Rattle.rules.specs.Between.{times, finerState, finerStep, mixed, partWay, partWayState, cutSteps}
 use Rattle.rules.proofs.Points.{holds-by, holds-so}
+use Rattle.rules.proofs.Blanks.{kept-means}
+use Rattle.rules.proofs.Mixing.{dot-times, dot-mixed, length-times, item-times, append-times, difference-times, same-times, mixed-difference, kept-mixed, same-lists, lists-same, mixed-none, still-mixed}
 use Rattle.rules.proofs.Hypotheses.{all-both, all-so, modes-good, rows-hold, hold-rows}
 use Rattle.rules.proofs.Safety.{state-sized, state-invariants}
 use Rattle.rules.proofs.RunExactly.{end-visited}
 use Rattle.rules.proofs.Demand.{safe}
-
--- products with values taken N times, and with values mixed
-dot-times : (N : ℕ) (xs ps : List ℤ) → dot xs (times N ps) ≡ pos N *ℤ dot xs ps
-unfolding dot times
-dot-times N [] ps = sym (*ℤ-zero (pos N))
-dot-times N (a ∷ xs) [] = sym (*ℤ-zero (pos N))
-dot-times N (a ∷ xs) (p ∷ ps) = ap (λ z. a *ℤ (pos N *ℤ p) +ℤ z) (dot-times N xs ps) ∙ law N a p (dot xs ps)
-  where
-    law : (N : ℕ) (a p d : ℤ) → a *ℤ (pos N *ℤ p) +ℤ pos N *ℤ d ≡ pos N *ℤ (a *ℤ p +ℤ d)
-    law N a p d = rw (split a, split p, split d) (simp by-parts (omega arith))
-
-dot-mixed : (u t : ℕ) (xs ps ns : List ℤ) → length ps ≡ length ns → dot xs (mixed u t ps ns) ≡ pos u *ℤ dot xs ps +ℤ pos t *ℤ dot xs ns
-unfolding dot mixed
-dot-mixed u t [] ps ns h = nothing u t
-  where
-    nothing : (u t : ℕ) → pos 0 ≡ pos u *ℤ pos 0 +ℤ pos t *ℤ pos 0
-    nothing u t = simp by-parts (omega arith)
-dot-mixed u t (a ∷ xs) [] [] h = nothing u t
-  where
-    nothing : (u t : ℕ) → pos 0 ≡ pos u *ℤ pos 0 +ℤ pos t *ℤ pos 0
-    nothing u t = simp by-parts (omega arith)
-dot-mixed u t (a ∷ xs) [] (n ∷ ns) h = absurd (omega arith)
-dot-mixed u t (a ∷ xs) (p ∷ ps) [] h = absurd (omega arith)
-dot-mixed u t (a ∷ xs) (p ∷ ps) (n ∷ ns) h =
-    ap (λ z. a *ℤ (pos u *ℤ p +ℤ pos t *ℤ n) +ℤ z) (dot-mixed u t xs ps ns (omega arith)) ∙ law u t a p n (dot xs ps) (dot xs ns)
-  where
-    law : (u t : ℕ) (a p n c d : ℤ) → a *ℤ (pos u *ℤ p +ℤ pos t *ℤ n) +ℤ (pos u *ℤ c +ℤ pos t *ℤ d) ≡ pos u *ℤ (a *ℤ p +ℤ c) +ℤ pos t *ℤ (a *ℤ n +ℤ d)
-    law u t a p n c d = rw (split a, split p, split n, split c, split d) (simp by-parts (omega arith))
 
 -- what two lists of tests have in common
 every-so : {A : Type 0} (f g : A → Bool) (xs : List A) → ((a : A) → T (f a) → T (g a)) → T (every f xs) → T (every g xs)
@@ -77,41 +49,6 @@ still-by : (s : State) (δ : ℕ) (next : List ℤ) → (δ ≡ 0 → T (sameVal
 unfolding stillAtZero
 still-by s zero next h = h refl
 still-by s (suc δ) next h = rw (ne-eqb (suc δ) 0 (λ e. absurd (omega arith))) tt
-
-module _ (N : ℕ) where
-  length-times : (p : List ℤ) → length (times N p) ≡ length p
-  unfolding times
-  length-times p = length-map p (λ x. pos N *ℤ x)
-
-  item-times : (p : List ℤ) (v : ℕ) → item (times N p) v ≡ pos N *ℤ item p v
-  unfolding times item
-  item-times [] v = sym (*ℤ-zero (pos N))
-  item-times (x ∷ p) zero = refl
-  item-times (x ∷ p) (suc v) = item-times p v
-
-  append-times : (p next : List ℤ) → times N (p ++ next) ≡ times N p ++ times N next
-  unfolding times
-  append-times p next = map-append (λ x. pos N *ℤ x) p next
-
-  difference-times : (next p : List ℤ) → difference (times N next) (times N p) ≡ times N (difference next p)
-  unfolding times difference
-  difference-times [] p = refl
-  difference-times (y ∷ next) [] = refl
-  difference-times (y ∷ next) (x ∷ p) = ap₂ (λ a l. a ∷ l) (law y x) (difference-times next p)
-    where
-      law : (y x : ℤ) → (pos N *ℤ y) -ℤ (pos N *ℤ x) ≡ pos N *ℤ (y -ℤ x)
-      law y x = rw (split y, split x) (simp by-parts (omega arith))
-
-  same-times : (xs ys : List ℤ) → T (sameValues xs ys) → T (sameValues (times N xs) (times N ys))
-  unfolding sameValues times
-  same-times [] [] t = tt
-  same-times [] (y ∷ ys) t = absurd t
-  same-times (x ∷ xs) [] t = absurd t
-  same-times (x ∷ xs) (y ∷ ys) t =
-      let h = and-yes (sameZ x y) (sameValues xs ys) t in
-      yes-and (sameZ (pos N *ℤ x) (pos N *ℤ y)) (sameValues (times N xs) (times N ys))
-      (same-means (pos N *ℤ x) (pos N *ℤ y) .1 (ap (λ z. pos N *ℤ z) (same-means x y .0 (h .0))))
-      (same-times xs ys (h .1))
 
 -- a row that holds of p over q holds of N·p over q·N, for N from 1
 module _ (N : ℕ) (positive : 1 ≤ N) where
@@ -169,13 +106,18 @@ module _ (N : ℕ) (positive : 1 ≤ N) where
         (every-so (λ w. conditionHolds q (s .values ++ next) (w .jump)) (λ w. conditionHolds (q * N) (times N (s .values ++ next)) (w .jump)) (movers (m .components) switches)
         (λ w v. condition-finer q (s .values ++ next) (w .jump) v) t)
 
-    kept-finer : (s : State) (switches : List ℕ) (next : List ℤ) → T (stayingKept m s switches next) → T (stayingKept m (finerState N s) switches (times N next))
+    kept-finer : (variables : List ℕ) (next p : List ℤ) → T (kept variables next p) → T (kept variables (times N next) (times N p))
+    kept-finer variables next p t =
+        kept-means variables (times N next) (times N p) .1
+        (all-so (λ v e. item-times N next v ∙ ap (λ z. pos N *ℤ z) e ∙ sym (item-times N p v)) (kept-means variables next p .0 t))
+
+    stays-finer : (s : State) (switches : List ℕ) (next : List ℤ) → T (stayingKept m s switches next) → T (stayingKept m (finerState N s) switches (times N next))
     unfolding stayingKept finerState
-    kept-finer s switches next t =
-        every-so (λ v. sameZ (item next v) (item (s .values) v)) (λ v. sameZ (item (times N next) v) (item (times N (s .values)) v)) (stayingVariables m switches)
-        (λ v w. same-means (item (times N next) v) (item (times N (s .values)) v) .1
-        (item-times N next v ∙ ap (λ z. pos N *ℤ z) (same-means (item next v) (item (s .values) v) .0 w) ∙ sym (item-times N (s .values) v)))
-        t
+    stays-finer s switches next t = kept-finer (stayingVariables m switches) next (s .values) t
+
+    blanks-finer : (s : State) (next : List ℤ) → T (blanksKept m s next) → T (blanksKept m (finerState N s) (times N next))
+    unfolding blanksKept finerState
+    blanks-finer s next t = kept-finer (stillVariables m (s .location)) next (s .values) t
 
     jump-finer : (s : State) (event : ℕ) (switches : List ℕ) (next : List ℤ) → T (jumpRule m q s event switches next) → T (jumpRule m (q * N) (finerState N s) event switches (times N next))
     unfolding jumpRule finerState
@@ -184,7 +126,7 @@ module _ (N : ℕ) (positive : 1 ≤ N) where
         let h = and-yes joint _ t in
         let k = and-yes (jumpRows m q s switches next) _ (h .1) in
         yes-and joint _ (h .0)
-        (yes-and (jumpRows m (q * N) (finerState N s) switches (times N next)) _ (rows-finer s switches next (k .0)) (kept-finer s switches next (k .1)))
+        (yes-and (jumpRows m (q * N) (finerState N s) switches (times N next)) _ (rows-finer s switches next (k .0)) (stays-finer s switches next (k .1)))
 
     after-finer : (s : State) (t : Step) → after m (finerState N s) (finerStep N t) ≡ finerState N (after m s t)
     unfolding after finerState finerStep
@@ -205,7 +147,9 @@ module _ (N : ℕ) (positive : 1 ≤ N) where
     unfolding flowRule
     flow-finer s δ next t =
         let h = and-yes (ratesHold m s δ next) _ t in
-        yes-and (ratesHold m (finerState N s) (δ * N) (times N next)) _ (rates-finer s δ next (h .0)) (still-finer s δ next (h .1))
+        let k = and-yes (blanksKept m s next) _ (h .1) in
+        yes-and (ratesHold m (finerState N s) (δ * N) (times N next)) _ (rates-finer s δ next (h .0))
+        (yes-and (blanksKept m (finerState N s) (times N next)) _ (blanks-finer s next (k .0)) (still-finer s δ next (k .1)))
 
     rule-finer : (s : State) (t : Step) → T (ruleMet m q s t) → T (ruleMet m (q * N) (finerState N s) (finerStep N t))
     unfolding ruleMet finerStep
@@ -272,57 +216,7 @@ length-mixed u t [] next h = refl
 length-mixed u t (x ∷ p) [] h = absurd (omega arith)
 length-mixed u t (x ∷ p) (y ∷ next) h = ap suc (length-mixed u t p next (omega arith))
 
--- on the way the rates are those of the whole flow: (u·p + t·p') − (u + t)·p is t·(p' − p)
-mixed-difference : (u t : ℕ) (p next : List ℤ) → difference (mixed u t p next) (times (u + t) p) ≡ times t (difference next p)
-unfolding mixed difference times
-mixed-difference u t [] [] = refl
-mixed-difference u t [] (y ∷ next) = refl
-mixed-difference u t (x ∷ p) [] = refl
-mixed-difference u t (x ∷ p) (y ∷ next) = ap₂ (λ a l. a ∷ l) (law u t x y) (mixed-difference u t p next)
-  where
-    law : (u t : ℕ) (x y : ℤ) → (pos u *ℤ x +ℤ pos t *ℤ y) -ℤ (pos (u + t) *ℤ x) ≡ pos t *ℤ (y -ℤ x)
-    law u t x y = rw (split x, split y) (simp by-parts (omega arith))
-
 -- a flow cut on its way is still at a time of 0
-same-lists : (xs ys : List ℤ) → T (sameValues xs ys) → xs ≡ ys
-unfolding sameValues
-same-lists [] [] t = refl
-same-lists [] (y ∷ ys) t = absurd t
-same-lists (x ∷ xs) [] t = absurd t
-same-lists (x ∷ xs) (y ∷ ys) t =
-    let h = and-yes (sameZ x y) (sameValues xs ys) t in
-    ap₂ (λ a l. a ∷ l) (same-means x y .0 (h .0)) (same-lists xs ys (h .1))
-
-same-self : (xs : List ℤ) → T (sameValues xs xs)
-unfolding sameValues
-same-self [] = tt
-same-self (x ∷ xs) = yes-and (sameZ x x) (sameValues xs xs) (same-means x x .1 refl) (same-self xs)
-
-lists-same : (xs ys : List ℤ) → xs ≡ ys → T (sameValues xs ys)
-lists-same xs ys e = subst (λ l. T (sameValues xs l)) e (same-self xs)
-
-mixed-same : (u t : ℕ) (p : List ℤ) → mixed u t p p ≡ times (u + t) p
-unfolding mixed times
-mixed-same u t [] = refl
-mixed-same u t (x ∷ p) = ap₂ (λ a l. a ∷ l) (law u t x) (mixed-same u t p)
-  where
-    law : (u t : ℕ) (x : ℤ) → pos u *ℤ x +ℤ pos t *ℤ x ≡ pos (u + t) *ℤ x
-    law u t x = rw (split x) (simp by-parts (omega arith))
-
-mixed-none : (u : ℕ) (p next : List ℤ) → length p ≡ length next → mixed u 0 p next ≡ times (u + 0) p
-unfolding mixed times
-mixed-none u [] next h = refl
-mixed-none u (x ∷ p) [] h = absurd (omega arith)
-mixed-none u (x ∷ p) (y ∷ next) h = ap₂ (λ a l. a ∷ l) (law u x y) (mixed-none u p next (omega arith))
-  where
-    law : (u : ℕ) (x y : ℤ) → pos u *ℤ x +ℤ pos 0 *ℤ y ≡ pos (u + 0) *ℤ x
-    law u x y = rw (split x, split y) (simp by-parts (omega arith))
-
-still-mixed : (u t δ : ℕ) (p next : List ℤ) → length p ≡ length next → (δ ≡ 0 → next ≡ p) → δ * t ≡ 0 → mixed u t p next ≡ times (u + t) p
-still-mixed u zero δ p next h still e = mixed-none u p next h
-still-mixed u (suc t) zero p next h still e = ap (mixed u (suc t) p) (still refl) ∙ mixed-same u (suc t) p
-still-mixed u (suc t) (suc δ) p next h still e = absurd (omega arith)
-
 still-so : (s : State) (δ : ℕ) (next : List ℤ) → T (stillAtZero s δ next) → δ ≡ 0 → next ≡ s .values
 unfolding stillAtZero
 still-so s zero next t e = same-lists next (s .values) t
@@ -347,6 +241,10 @@ module _ (m : Model) (q u t : ℕ) (whole : 1 ≤ u + t) (s : State) (next : Lis
       rw (mixed-difference u t (s .values) next)
       (rates-slower t δ (difference next (s .values)) (modesIn m (s .location)) (all-so (λ mode g. g .rates) good) h)
 
+  cut-blanks : T (blanksKept m s next) → T (blanksKept m (finerState (u + t) s) point)
+  unfolding blanksKept finerState
+  cut-blanks h = kept-mixed u t (stillVariables m (s .location)) (s .values) next alike h
+
   cut-still : (δ : ℕ) → T (stillAtZero s δ next) → T (stillAtZero (finerState (u + t) s) (δ * t) point)
   unfolding finerState
   cut-still δ h =
@@ -359,12 +257,15 @@ flow-cut m formed q u t whole s δ next a b =
     let target = after m s (flow δ next) in
     let h = and-yes (admissible m q target) _ b in
     let k = and-yes (ratesHold m s δ next) _ (h .1) in
+    let l = and-yes (blanksKept m s next) _ (k .1) in
     let alike : length (s .values) ≡ length next = state-sized m q s a ∙ sym (state-sized m q target (h .0)) in
     yes-and (admissible m (q * (u + t)) (after m (finerState (u + t) s) (flow (δ * t) (mixed u t (s .values) next)))) _
     (cut-admissible m q u t whole s next alike (state-sized m q s a) (state-invariants m q s a) (state-invariants m q target (h .0)))
     (yes-and (ratesHold m (finerState (u + t) s) (δ * t) (mixed u t (s .values) next)) _
     (cut-rates m q u t whole s next alike (modes-good m formed (s .location)) δ (k .0))
-    (cut-still m q u t whole s next alike δ (k .1)))
+    (yes-and (blanksKept m (finerState (u + t) s) (mixed u t (s .values) next)) _
+    (cut-blanks m q u t whole s next alike (l .0))
+    (cut-still m q u t whole s next alike δ (l .1))))
 
 -- the parts of a run
 steps-split : (m : Model) (q : ℕ) (s : State) (xs ys : List Step) → T (stepsAllowed m q s (xs ++ ys)) → T (stepsAllowed m q s xs) × T (stepsAllowed m q (endOf m s xs) ys)

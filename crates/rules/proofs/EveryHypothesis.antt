@@ -10,10 +10,10 @@ use Rattle.farkas.proofs.All.{all-append, all-map, all-at}
 use Rattle.formats.specs.Rows.{SheetRow, Condition}
 use Rattle.formats.specs.Model.{Mode, Component, Unsafe, Model}
 use Rattle.formats.specs.Locations.{modesAt, modeOf}
-use Rattle.formats.specs.Joint.{stays, switchOf, JointSwitch, joints}
+use Rattle.formats.specs.Joint.{stays, switchOf, JointSwitch, joints, joinAll}
 use Rattle.formats.proofs.EveryRow.{ModeRows, ComponentRows, ModelRows}
 use Rattle.formats.proofs.Members.{all-members}
-use Rattle.rules.specs.Runs.{present, modesIn, movers, stayingVariables, modesFit}
+use Rattle.rules.specs.Runs.{present, modesIn, stillVariables, movers, stayingVariables, modesFit}
 use Rattle.rules.specs.Obligations.{Hypothesis, nowhere, standing, onX, onNext, onRates, timeRow, stayingRows, modeRows, startHypotheses, flowHypotheses, unsafeHypotheses, jumpHypotheses, Kind, atStart, afterFlow, afterJump, Obligation, perRow, startObligations, flowObligations, unsafeObligations, locationObligations, jumpObligations, jumpsObligations, obligationsOver, regionOf, obligations}
 use Rattle.rules.proofs.Hypotheses.{all-so, join-all}
 
@@ -44,6 +44,10 @@ module _ {P Q : SheetRow → Type 0} {H : Hypothesis → Type 0} {G : Row → Ty
   put-modes : (of : Mode → Condition) (put : Row → Row) → ((r : SheetRow) → P r → H (standing 0 put r)) → {modes : List Mode} → All (λ mode. All P (of mode)) modes → All H (modeRows of put modes)
   unfolding modeRows
   put-modes of put f w = join-all _ (all-so (λ mode k. put-rows 0 put f k) w)
+
+  -- the rows of variables that keep their value
+  staying-held : (n : ℕ) (variables : List ℕ) → All H (map nowhere (joinAll (stayingRows n) variables))
+  staying-held n variables = all-map nowhere (join-all (stayingRows n) (all-members variables (λ v d. serves .staying n v)))
 
   -- the present modes, and the switches that move
   present-rows : {components : List Component} (modes : List ℕ) → All (ComponentRows P) components → All (ModeRows P) (present components modes)
@@ -97,7 +101,7 @@ module _ {P Q : SheetRow → Type 0} {H : Hypothesis → Type 0} {G : Row → Ty
         (all-append (regions-held location)
         (all-append (invariants-held onX (serves .before) location)
         (all-append (invariants-held (onNext n) (serves .after n) location)
-        (all-append (put-modes _ onRates (serves .rates) (all-so (λ mode w. w .flow) (modes-at location))) (more (serves .time n) none)))))
+        (all-append (put-modes _ onRates (serves .rates) (all-so (λ mode w. w .flow) (modes-at location))) (more (serves .time n) (staying-held n (stillVariables m location)))))))
 
     unsafe-served : (location line : ℕ) {conditions : List Unsafe} → All (λ u. All P (u .rows)) conditions → All (Served H G) (unsafeObligations m (regionOf regions) location line conditions)
     unfolding unsafeObligations unsafeHypotheses
@@ -122,7 +126,7 @@ module _ {P Q : SheetRow → Type 0} {H : Hypothesis → Type 0} {G : Row → Ty
         (all-append (invariants-held (onNext n) (serves .after n) (j .target))
         (all-append
         (join-all _ (all-so (λ w k. put-rows 0 onX (serves .before) k) (movers-rows (j .switches) (modelRows .components))))
-        (all-map nowhere (join-all (stayingRows n) (all-members (stayingVariables m (j .switches)) (λ v d. serves .staying n v))))))))
+        (staying-held n (stayingVariables m (j .switches)))))))
 
     jumps-served : (number : ℕ) (switches : List JointSwitch) → All (Served H G) (jumpsObligations m (regionOf regions) number switches)
     unfolding jumpsObligations

@@ -2,9 +2,10 @@
 use mathlib.Core.Path.{_≡_, sym, _∙_, subst}
 use mathlib.Core.List.{List, [], _∷_, _++_, map, append-nil}
 use Prim.Native.Nat.{ℕ, _<_}
+use native.Mathlib.Omega.{arith}
 use lib.Dec.{T}
 use lib.IntN.{ℤ, pos}
-use lib.ListN.{length}
+use lib.ListN.{length, List·getD-append}
 use Rattle.farkas.specs.Lists.{every, All, none, more}
 use Rattle.farkas.specs.Rows.{Row, item, rowHolds}
 use Rattle.farkas.proofs.All.{all-append, all-map, all-at, every-all, all-every}
@@ -108,10 +109,12 @@ jumps q p next moving t =
     join-all (λ w. map (standing 0 onX) (w .jump))
     (all-so (λ w v. standing-hold q (p ++ next) 0 onX (rows-hold q (p ++ next) (w .jump) v)) (every-all (λ w. conditionHolds q (p ++ next) (w .jump)) moving t))
 
-stayings : (q n : ℕ) (p next : List ℤ) (staying : List ℕ) → length p ≡ n → All (λ v. (v < n) × (item next v ≡ item p v)) staying → All (Holding q (p ++ next)) (map nowhere (joinAll (stayingRows n) staying))
-unfolding nowhere
-stayings q n p next staying h keep =
-    all-map nowhere (join-all (stayingRows n) (all-so (λ v w. staying-hold n q v p next h (w .0) (w .1)) keep))
+stayings : (q n : ℕ) (p next rest : List ℤ) (staying : List ℕ) → length p ≡ n → length next ≡ n → All (λ v. (v < n) × (item next v ≡ item p v)) staying → All (Holding q (p ++ (next ++ rest))) (map nowhere (joinAll (stayingRows n) staying))
+unfolding nowhere item
+stayings q n p next rest staying h k keep =
+    all-map nowhere
+    (join-all (stayingRows n)
+    (all-so (λ v w. staying-hold n q v p (next ++ rest) h (w .0) (List·getD-append next rest (pos 0) v (omega (arith, w .0, k)) ∙ w .1)) keep))
 
 -- the hypotheses of each kind
 module _ (n q : ℕ) (modes : List Mode) (good : All (GoodMode n) modes) (p : List ℤ) (sized : length p ≡ n) (invariants : T (every (λ mode. conditionHolds q p (mode .invariant)) modes)) where
@@ -129,13 +132,13 @@ module _ (n q : ℕ) (modes : List Mode) (good : All (GoodMode n) modes) (p : Li
         all-append (region-holds rest)
         (all-append (invariants-x n modes good q p rest sized invariants) (standing-hold q (p ++ rest) 0 onX (put-x q n p rest rows sized w t)))
 
-    pub flow-hypotheses : (δ : ℕ) (next : List ℤ) → length next ≡ n → T (every (λ mode. conditionHolds q next (mode .invariant)) modes) → T (every (λ mode. conditionHolds δ (difference next p) (mode .flow)) modes) → All (Holding q (p ++ (next ++ (pos δ ∷ [])))) (flowHypotheses n region modes)
+    pub flow-hypotheses : (δ : ℕ) (next : List ℤ) (still : List ℕ) → length next ≡ n → T (every (λ mode. conditionHolds q next (mode .invariant)) modes) → T (every (λ mode. conditionHolds δ (difference next p) (mode .flow)) modes) → All (λ v. (v < n) × (item next v ≡ item p v)) still → All (Holding q (p ++ (next ++ (pos δ ∷ [])))) (flowHypotheses n region modes still)
     unfolding flowHypotheses nowhere
-    flow-hypotheses δ next k i t =
+    flow-hypotheses δ next still k i t keep =
         all-append (region-holds (next ++ (pos δ ∷ [])))
         (all-append (invariants-x n modes good q p (next ++ (pos δ ∷ [])) sized invariants)
         (all-append (invariants-next n modes good q p next (pos δ ∷ []) sized k i)
-        (all-append (flows n modes good q δ p next sized k t) (more (time-holds n q δ p next sized k) none))))
+        (all-append (flows n modes good q δ p next sized k t) (more (time-holds n q δ p next sized k) (stayings q n p next (pos δ ∷ []) still sized k keep)))))
 
     pub jump-hypotheses : (next : List ℤ) (targets : List Mode) (moving : List Switch) (staying : List ℕ) → length next ≡ n → All (GoodMode n) targets → T (every (λ mode. conditionHolds q next (mode .invariant)) targets) → T (every (λ w. conditionHolds q (p ++ next) (w .jump)) moving) → All (λ v. (v < n) × (item next v ≡ item p v)) staying → All (Holding q (p ++ (next ++ []))) (jumpHypotheses n region modes targets moving staying)
     unfolding jumpHypotheses
@@ -143,7 +146,6 @@ module _ (n q : ℕ) (modes : List Mode) (good : All (GoodMode n) modes) (p : Li
         all-append (region-holds (next ++ []))
         (all-append (invariants-x n modes good q p (next ++ []) sized invariants)
         (all-append (invariants-next n targets goods q p next [] sized k i)
-        (subst
-        (λ y. All (Holding q (p ++ y)) (joinAll (λ w. map (standing 0 onX) (w .jump)) moving ++ map nowhere (joinAll (stayingRows n) staying)))
-        (sym (append-nil next))
-        (all-append (jumps q p next moving t) (stayings q n p next staying sized keep)))))
+        (all-append
+        (subst (λ y. All (Holding q (p ++ y)) (joinAll (λ w. map (standing 0 onX) (w .jump)) moving)) (sym (append-nil next)) (jumps q p next moving t))
+        (stayings q n p next [] staying sized k keep))))

@@ -9,7 +9,7 @@ use Prim.Native.Nat.{ℕ, _+_, _<_}
 use native.Mathlib.Omega.{arith}
 use lib.Dec.{T}
 use lib.IntN.{ℤ, pos, negsuc, negℤ, _+ℤ_, _-ℤ_, _*ℤ_}
-use lib.ListN.{length, replicate, length-append}
+use lib.ListN.{length, replicate, length-append, List·getD-append}
 use lib.Signed.{_≤ℤ_}
 use Rattle.farkas.specs.Lists.{every, All, none, more}
 use Rattle.farkas.specs.Rows.{Row, item, dot, rowHolds}
@@ -161,24 +161,26 @@ jumps-exactly q p next moving = (there, back)
         join-all (λ w. map (standing 0 onX) (w .jump))
         (all-so (λ w v. all-map (standing 0 onX) (rows-hold q (p ++ next) (w .jump) v)) (every-all (λ w. conditionHolds q (p ++ next) (w .jump)) moving t))
 
-stayings-exactly : (n q : ℕ) (p next : List ℤ) (staying : List ℕ) → length p ≡ n → All (λ v. v < n) staying → All (Holding q (p ++ next)) (map nowhere (joinAll (stayingRows n) staying)) ↔ All (λ v. item next v ≡ item p v) staying
-unfolding nowhere
-stayings-exactly n q p next staying h below = (there, back)
+stayings-exactly : (n q : ℕ) (p next rest : List ℤ) (staying : List ℕ) → length p ≡ n → length next ≡ n → All (λ v. v < n) staying → All (Holding q (p ++ (next ++ rest))) (map nowhere (joinAll (stayingRows n) staying)) ↔ All (λ v. item next v ≡ item p v) staying
+unfolding nowhere item
+stayings-exactly n q p next rest staying h k below = (there, back)
   where
-    there : All (Holding q (p ++ next)) (map nowhere (joinAll (stayingRows n) staying)) → All (λ v. item next v ≡ item p v) staying
+    here : (v : ℕ) → v < n → item (next ++ rest) v ≡ item next v
+    here v l = List·getD-append next rest (pos 0) v (omega (arith, k))
+
+    there : All (Holding q (p ++ (next ++ rest))) (map nowhere (joinAll (stayingRows n) staying)) → All (λ v. item next v ≡ item p v) staying
     there w =
-        all-so (λ v k. staying-exactly n q v p next h (k .0) .0 (k .1))
+        all-so (λ v l. sym (here v (l .0)) ∙ staying-exactly n q v p (next ++ rest) h (l .0) .0 (l .1))
         (all-both below (all-join (stayingRows n) staying (map-all nowhere (joinAll (stayingRows n) staying) w)))
 
-    back : All (λ v. item next v ≡ item p v) staying → All (Holding q (p ++ next)) (map nowhere (joinAll (stayingRows n) staying))
-    back w = all-map nowhere (join-all (stayingRows n) (all-so (λ v k. staying-exactly n q v p next h (k .0) .1 (k .1)) (all-both below w)))
+    back : All (λ v. item next v ≡ item p v) staying → All (Holding q (p ++ (next ++ rest))) (map nowhere (joinAll (stayingRows n) staying))
+    back w = all-map nowhere (join-all (stayingRows n) (all-so (λ v l. staying-exactly n q v p (next ++ rest) h (l .0) .1 (here v (l .0) ∙ l .1)) (all-both below w)))
 
-last-exactly : (n q : ℕ) (p next : List ℤ) (d : ℤ) → length p ≡ n → length next ≡ n → All (Holding q (p ++ (next ++ (d ∷ [])))) (nowhere (timeRow n) ∷ []) ↔ (pos 0 ≤ℤ d)
-unfolding nowhere
-last-exactly n q p next d h k = (there, λ w. more (time-exactly n q p next d h k .1 w) none)
+one-exactly : {A : Type 0} {P : A → Type 0} {C D : Type 0} (x : A) (xs : List A) → P x ↔ C → All P xs ↔ D → All P (x ∷ xs) ↔ (C × D)
+one-exactly {P = P} {C = C} {D = D} x xs f g = (there, λ w. more (f .1 (w .0)) (g .1 (w .1)))
   where
-    there : All (Holding q (p ++ (next ++ (d ∷ [])))) (nowhere (timeRow n) ∷ []) → pos 0 ≤ℤ d
-    there (more t none) = time-exactly n q p next d h k .0 t
+    there : All P (x ∷ xs) → C × D
+    there (more h k) = (f .0 h, g .0 k)
 
 -- all hypotheses of each kind, at values p over q of the right number
 module _ (n q : ℕ) (modes : List Mode) (good : All (GoodMode n) modes) (p : List ℤ) (sized : length p ≡ n) where
@@ -207,10 +209,11 @@ module _ (n q : ℕ) (modes : List Mode) (good : All (GoodMode n) modes) (p : Li
         joined (map (standing 1 onX) region) _ (region-x [])
         (joined (modeRows (λ mode. mode .invariant) onX modes) _ (invariants-x []) (rows-exactly (OfWidth n) q (p ++ []) onX q p (x-exactly []) 0 rows w))
 
-    -- flow: the region and the invariants at p, the invariants at p', the rates, and a time d that is not below 0
-    pub flow-exactly : (δ : ℕ) (next : List ℤ) → length next ≡ n → All (Holding q (p ++ (next ++ (pos δ ∷ [])))) (flowHypotheses n region modes) ↔ (T (conditionHolds q p region) × (T (every (λ mode. conditionHolds q p (mode .invariant)) modes) × (T (every (λ mode. conditionHolds q next (mode .invariant)) modes) × (T (every (λ mode. conditionHolds δ (difference next p) (mode .flow)) modes) × (pos 0 ≤ℤ pos δ)))))
-    unfolding flowHypotheses
-    flow-exactly δ next k =
+    -- flow: the region and the invariants at p, the invariants at p', the rates, a time d that is not below 0, and equal values of the still
+    -- variables
+    pub flow-exactly : (δ : ℕ) (next : List ℤ) (still : List ℕ) → length next ≡ n → All (λ v. v < n) still → All (Holding q (p ++ (next ++ (pos δ ∷ [])))) (flowHypotheses n region modes still) ↔ (T (conditionHolds q p region) × (T (every (λ mode. conditionHolds q p (mode .invariant)) modes) × (T (every (λ mode. conditionHolds q next (mode .invariant)) modes) × (T (every (λ mode. conditionHolds δ (difference next p) (mode .flow)) modes) × ((pos 0 ≤ℤ pos δ) × All (λ v. item next v ≡ item p v) still)))))
+    unfolding flowHypotheses nowhere
+    flow-exactly δ next still k below =
         let z = p ++ (next ++ (pos δ ∷ [])) in
         joined (map (standing 1 onX) region) _ (region-x (next ++ (pos δ ∷ [])))
         (joined (modeRows (λ mode. mode .invariant) onX modes) _ (invariants-x (next ++ (pos δ ∷ [])))
@@ -218,7 +221,7 @@ module _ (n q : ℕ) (modes : List Mode) (good : All (GoodMode n) modes) (p : Li
         (modes-exactly (OfWidth n) q z (onNext n) q next (λ r h. on-next-exactly n q p next (pos δ ∷ []) r sized (h ∙ sym k)) (λ mode. mode .invariant) modes (all-so (λ mode g. g .invariant) good))
         (joined (modeRows (λ mode. mode .flow) onRates modes) _
         (modes-exactly (OnRates n) q z onRates δ (difference next p) (λ r h. on-rates-exactly q δ p next r (h .1) (h .0 ∙ sym sized) (h .0 ∙ sym k)) (λ mode. mode .flow) modes (all-so (λ mode g. all-both (g .flow) (g .rates)) good))
-        (last-exactly n q p next (pos δ) sized k))))
+        (one-exactly (nowhere (timeRow n)) _ (time-exactly n q p next (pos δ) sized k) (stayings-exactly n q p next (pos δ ∷ []) still sized k below)))))
 
     -- jump: the region and the invariants at p, the target's invariants at p', the jump rows, and equal values of the staying variables
     pub jump-exactly : (next : List ℤ) (targets : List Mode) (moving : List Switch) (staying : List ℕ) → length next ≡ n → All (GoodMode n) targets → All (λ v. v < n) staying → All (Holding q (p ++ next)) (jumpHypotheses n region modes targets moving staying) ↔ (T (conditionHolds q p region) × (T (every (λ mode. conditionHolds q p (mode .invariant)) modes) × (T (every (λ mode. conditionHolds q next (mode .invariant)) targets) × (T (every (λ w. conditionHolds q (p ++ next) (w .jump)) moving) × All (λ v. item next v ≡ item p v) staying))))
@@ -228,8 +231,13 @@ module _ (n q : ℕ) (modes : List Mode) (good : All (GoodMode n) modes) (p : Li
         (joined (modeRows (λ mode. mode .invariant) onX modes) _ (invariants-x next)
         (joined (modeRows (λ mode. mode .invariant) (onNext n) targets) _
         (modes-exactly (OfWidth n) q (p ++ next) (onNext n) q next (next-exactly next k) (λ mode. mode .invariant) targets (all-so (λ mode g. g .invariant) goods))
-        (joined (joinAll (λ w. map (standing 0 onX) (w .jump)) moving) _ (jumps-exactly q p next moving) (stayings-exactly n q p next staying sized below))))
+        (joined (joinAll (λ w. map (standing 0 onX) (w .jump)) moving) _ (jumps-exactly q p next moving) (stay-exactly next k staying below))))
       where
+        stay-exactly : (next : List ℤ) → length next ≡ n → (staying : List ℕ) → All (λ v. v < n) staying → All (Holding q (p ++ next)) (map nowhere (joinAll (stayingRows n) staying)) ↔ All (λ v. item next v ≡ item p v) staying
+        stay-exactly next k staying below =
+            subst (λ y. All (Holding q (p ++ y)) (map nowhere (joinAll (stayingRows n) staying)) ↔ All (λ v. item next v ≡ item p v) staying) (append-nil next)
+            (stayings-exactly n q p next [] staying sized k below)
+
         next-exactly : (next : List ℤ) → length next ≡ n → (r : Row) → length (r .coefficients) ≡ n → T (rowHolds q (p ++ next) (onNext n r)) ↔ T (rowHolds q next r)
         next-exactly next k r h =
             subst (λ y. T (rowHolds q (p ++ y) (onNext n r)) ↔ T (rowHolds q next r)) (append-nil next) (on-next-exactly n q p next [] r sized (h ∙ sym k))

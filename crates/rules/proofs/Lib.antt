@@ -2,6 +2,7 @@ pub mod ListFacts
 pub mod Points
 pub mod Shown
 pub mod Hypotheses
+pub mod Blanks
 pub mod Safety
 pub mod ObligationTotal
 pub mod Opening
@@ -17,11 +18,16 @@ pub mod Ranges
 pub mod HypothesesExactly
 pub mod Demand
 pub mod Desks
+pub mod Mixing
 pub mod Between
 pub mod Rejected
+pub mod ReadAs
 pub mod AsWritten
 pub mod Movers
 pub mod Twelve
 pub mod PairPaper
+pub mod ManyBlanks
+pub mod BlankPaper
 pub mod NotConstant
 pub mod RoleLengths
+pub mod FewHypotheses

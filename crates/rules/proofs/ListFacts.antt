@@ -1,14 +1,15 @@
 -- What several parts of the marking say of any list and of any test: lists that are joined, numbers that are counted up, and tests of
 -- which one is settled. Assumes nothing.
 use mathlib.Core.Path.{_≡_, refl, sym, ap, ap₂, _∙_}
-use mathlib.Core.Bool.{Bool, true, false, not, _&&_}
+use mathlib.Core.Bool.{Bool, true, false, cond, not, _&&_, _||_}
 use mathlib.Core.List.{List, [], _∷_, _++_, map, append-assoc, map-append}
 use Prim.Native.Nat.{ℕ, zero, suc, _*_, _≤_, _<_}
 use native.Mathlib.Omega.{arith}
 use borrow.Author.Tests.{not-true, not-false}
 use lib.Dec.{T}
 use lib.ListN.{length, getD, length-append}
-use Rattle.formats.specs.Joint.{countUp, joinAll}
+use Rattle.farkas.specs.Lists.{every}
+use Rattle.formats.specs.Joint.{those, countUp, joinAll}
 
 -- lists that are joined
 pub joined-few : {A B : Type 0} (f : A → List B) (b : ℕ) → ((a : A) → length (f a) ≤ b) → (xs : List A) → length (joinAll f xs) ≤ b * length xs
@@ -35,6 +36,27 @@ pub joined-told : {A B C : Type 0} (g : B → C) (f : A → List B) (xs : List A
 unfolding joinAll
 joined-told g f [] = refl
 joined-told g f (x ∷ xs) = map-append g (f x) (joinAll f xs) ∙ ap (λ ys. map g (f x) ++ ys) (joined-told g f xs)
+
+-- the elements that pass a test, joined or tested: each element by itself
+one-joined : {A B : Type 0} (f : A → List B) (b : Bool) (x : A) (rest : List A) → joinAll f (cond b (x ∷ rest) rest) ≡ cond b (f x) [] ++ joinAll f rest
+unfolding joinAll
+one-joined f true x rest = refl
+one-joined f false x rest = refl
+
+pub joined-those : {A B : Type 0} (f : A → List B) (test : A → Bool) (xs : List A) → joinAll f (those test xs) ≡ joinAll (λ a. cond (test a) (f a) []) xs
+unfolding joinAll those
+joined-those f test [] = refl
+joined-those f test (x ∷ xs) = one-joined f (test x) x (those test xs) ∙ ap (λ zs. cond (test x) (f x) [] ++ zs) (joined-those f test xs)
+
+one-tested : {A : Type 0} (f : A → Bool) (b : Bool) (x : A) (rest : List A) → every f (cond b (x ∷ rest) rest) ≡ ((not b || f x) && every f rest)
+unfolding every
+one-tested f true x rest = refl
+one-tested f false x rest = refl
+
+pub every-those : {A : Type 0} (f test : A → Bool) (xs : List A) → every f (those test xs) ≡ every (λ a. not (test a) || f a) xs
+unfolding every those
+every-those f test [] = refl
+every-those f test (x ∷ xs) = one-tested f (test x) x (those test xs) ∙ ap (λ (b : Bool). (not (test x) || f x) && b) (every-those f test xs)
 
 -- numbers that are counted up
 pub count-length : (k n : ℕ) → length (countUp k n) ≡ n

@@ -26,7 +26,7 @@ use Rattle.formats.specs.ModelSheet.{readModel}
 use Rattle.formats.proofs.ModelSheet.{chain, in-a-chain, read-whole}
 use Rattle.formats.specs.Certificate.{readEntry, readEntries, readProof}
 use Rattle.formats.specs.RunSheet.{Step, flow, jump, Opening, readValues, readOpening, readFlow, readJump, readStepOf, readStep}
-use Rattle.formats.proofs.Versions.{only-one}
+use Rattle.formats.proofs.Versions.{version-range}
 use Rattle.formats.proofs.Gives.{Gives, gives-bind, gives-then, gives-give, gives-any, gives-must, gives-weaken, gives-within, gives-below, gives-many}
 use Rattle.formats.proofs.WellFormed.{condition-gives}
 use Rattle.rules.specs.Runs.{modesFit}
@@ -71,10 +71,11 @@ pub record UnsafeRanges (n : ℕ) (components : List Component) (u : Unsafe) : T
   pub modes : Both (λ c v. (v < length (c .modes)) ⊎ (v ≡ 255)) components (u .modes)
   pub rows : Rows 8 n (u .rows)
 
--- "u8 variables n, 1..8; u8 components c, 1..4; u8 unsafe conditions, 0..16. n bytes: each variable's owner, 0..c−1"; the limits of
--- locations and joint switches
+-- a version of 1 or 2; "u8 variables n, 1..8; u8 components c, 1..4; u8 unsafe conditions, 0..16. n bytes: each variable's owner, 0..c−1";
+-- the limits of locations and joint switches
 pub record ModelRanges (limits : Limits) (m : Model) : Type 0 where
-  pub version : m .version ≡ 1
+  pub oldest : 1 ≤ m .version
+  pub newest : m .version ≤ 2
   pub least : 1 ≤ m .variables
   pub most : m .variables ≤ 8
   pub owned : length (m .owners) ≡ m .variables
@@ -208,7 +209,7 @@ unsafe-ranges version n components =
     (λ modes u. gives-bind (rows-give 8 version n) (λ rows w. gives-give _ (record { modes = u; rows = w })))
 
 -- what the body gives; the version and the two limits are tested around it
-body-ranges : (version : ℕ) → Gives (λ m. (m .version ≡ version) × ((limits : Limits) → version ≡ 1 → locationCount (m .components) ≤ limits .locations → length (joints (m .components)) ≤ limits .joints → ModelRanges limits m)) (readModelBody version)
+body-ranges : (version : ℕ) → Gives (λ m. (m .version ≡ version) × ((limits : Limits) → (1 ≤ version) × (version ≤ 2) → locationCount (m .components) ≤ limits .locations → length (joints (m .components)) ≤ limits .joints → ModelRanges limits m)) (readModelBody version)
 unfolding readModelBody
 body-ranges version =
     gives-bind (gives-within 1 8 u8)
@@ -227,7 +228,8 @@ body-ranges version =
       refl,
       λ limits v l x.
           record {
-            version = v;
+            oldest = v .0;
+            newest = v .1;
             least = i .0;
             most = i .1;
             owned = o .0;
@@ -242,12 +244,12 @@ body-ranges version =
           },
     )))))))
 
-header-gives : (kind : ℕ) → Gives (λ version. version ≡ 1) (header kind)
+header-gives : (kind : ℕ) → Gives (λ version. (1 ≤ version) × (version ≤ 2)) (header kind)
 unfolding header
 header-gives kind =
     gives-then sized (gives-then u16
     (gives-bind (gives-must (versionFits kind) 2 (gives-any {r = u8}))
-    (λ version u. gives-then (must (kindFits kind) 3 u8) (gives-give version (only-one kind version (u .0))))))
+    (λ version u. gives-then (must (kindFits kind) 3 u8) (gives-give version (version-range kind version (u .0))))))
 
 -- a model that a sheet gives lies in all ranges
 pub model-ranges : (limits : Limits) (s : List ℕ) (m : Model) (next : ℕ) → readModel limits s ≡ got m next → ModelRanges limits m

@@ -1,52 +1,45 @@
 -- The five readings that 01 rejects ("Readings we reject"), each refused by a theorem about the definitions, for every model: a
--- zero-time flow does not drift (zero-time); a moving component's unmentioned variables are free (unmentioned-free), a staying one's
--- are not (stays-put); every member of a scope moves (members-move); k = 0 with sum 0 gets 11 (zero-sum-eleven); every unsafe
--- obligation has the invariants among its hypotheses (unsafe-with-invariants). Assumes nothing.
+-- zero-time flow does not drift (zero-time); a moving component's unmentioned variables are free in version 1 (unmentioned-free), and held
+-- from version 2 on (jump-keeps in Blanks, held-jumps), and a staying one's are held in every version (stays-put); every member of a scope
+-- moves (members-move); k = 0 with sum 0 gets 11 (zero-sum-eleven); every unsafe obligation has the invariants among its hypotheses
+-- (unsafe-with-invariants). Assumes nothing.
 use mathlib.Core.Path.{_≡_, refl, sym, ap, _∙_, subst}
-use mathlib.Core.Bool.{Bool, true, false, not, _&&_}
+use mathlib.Core.Bool.{Bool, true, false, not, _&&_, _||_}
 use mathlib.Core.List.{List, [], _∷_, _++_, map, List·Memᴰ, Memᴰ·append-left, Memᴰ·append-right}
-use Prim.Native.Nat.{ℕ, zero, suc, _+_, _-_, _<_}
+use Prim.Native.Nat.{ℕ, zero, suc, _+_, _<_}
 use native.Mathlib.Omega.{arith}
-use borrow.Author.Tests.{eq-eqb}
-use lib.Dec.{T, T-not, eqb, eqb→eq}
+use lib.Dec.{T, T-not, eqb}
 use lib.IntN.{ℤ, pos, _+ℤ_, _*ℤ_}
 use lib.ListN.{length, getD, set}
 use lib.Signed.{_<ℤ_, <ℤ-irrefl}
 use mir.Facts.{and-yes, yes-and}
 use Rattle.farkas.specs.Lists.{every, All, none, more}
 use Rattle.farkas.specs.Rows.{Row, item, dot, rowHolds, zeroRow, compared}
-use Rattle.farkas.specs.Farkas.{Proof, sumAt, boundSum, strictSum, Agree, SumsMeet, sameZ, farkasTest, sumsTest, summed, addEntries, coefficientsAgree, boundPasses}
+use Rattle.farkas.specs.Farkas.{Proof, sumAt, boundSum, strictSum, Agree, SumsMeet, farkasTest, sumsTest, summed, addEntries, coefficientsAgree, boundPasses}
 use Rattle.farkas.proofs.All.{all-append, every-all, all-every}
 use Rattle.farkas.proofs.Integers.{split, by-parts}
-use Rattle.farkas.proofs.Promise.{same-means, eleven-means}
+use Rattle.farkas.proofs.Promise.{eleven-means}
+use Rattle.formats.specs.Versions.{keepsBlanks}
 use Rattle.formats.specs.Rows.{SheetRow, Condition}
 use Rattle.formats.specs.Model.{Mode, Component, Unsafe, Model, hasEvent}
 use Rattle.formats.specs.Locations.{locationCount, modesAt}
-use Rattle.formats.specs.Joint.{JointSwitch, stays, switchOf, leaves, moves, allStay, oneMoves, isJoint, numbersFrom, countUp, joints}
+use Rattle.formats.specs.Joint.{JointSwitch, stays, switchOf, leaves, moves, allStay, oneMoves, isJoint, those, countUp, joints}
 use Rattle.formats.specs.RunSheet.{jump}
-use Rattle.formats.proofs.Gives.{and-left, and-right}
-use Rattle.formats.proofs.Members.{all-in, all-members, in-map, in-joined, numbers-in, in-numbers}
+use Rattle.formats.proofs.Gives.{and-right}
+use Rattle.formats.proofs.Members.{all-in, all-members, in-map, in-joined}
 use Rattle.formats.proofs.JointList.{EachMoves, none-moves, member-moves, other-stays, all-members-move}
-use Rattle.rules.specs.Runs.{State, conditionHolds, modesIn, admissible, sameValues, ratesHold, stillAtZero, flowRule, stayingVariables, movers, stayingKept, jumpRows, jumpRule, after, ruleMet, stepAllowed, modesFit}
+use Rattle.rules.specs.Runs.{State, conditionHolds, modesIn, admissible, ratesHold, stillAtZero, unmentioned, ownerOf, variablesThat, kept, stillVariables, blanksKept, flowRule, ownerStays, ownersJump, blankInJump, stayingVariables, movers, stayingKept, jumpRows, jumpRule, after, ruleMet, stepAllowed, modesFit}
 use Rattle.rules.specs.Obligations.{Hypothesis, Kind, atStart, afterFlow, clearOfUnsafe, afterJump, Obligation, standing, onX, onNext, modeRows, startHypotheses, flowHypotheses, unsafeHypotheses, jumpHypotheses, perRow, startObligations, flowObligations, unsafeObligations, locationObligations, jumpObligations, jumpsObligations, obligationsOver, regionOf, obligations}
 use Rattle.rules.proofs.Hypotheses.{all-both, all-so, join-all}
+use Rattle.rules.proofs.Mixing.{same-lists}
+use Rattle.rules.proofs.Blanks.{kept-means, variables-pass, in-variables, plain-staying, jump-keeps}
 
 -- "Letting a zero-time flow drift"
-same-values : (xs ys : List ℤ) → T (sameValues xs ys) → xs ≡ ys
-unfolding sameValues
-same-values [] [] t = refl
-same-values [] (y ∷ ys) t = absurd t
-same-values (x ∷ xs) [] t = absurd t
-same-values (x ∷ xs) (y ∷ ys) t =
-    let one : x ≡ y = same-means x y .0 (and-left (sameZ x y) (sameValues xs ys) t) in
-    let rest : xs ≡ ys = same-values xs ys (and-right (sameZ x y) (sameValues xs ys) t) in
-    cc
-
 pub zero-time : (m : Model) (s : State) (next : List ℤ) → T (flowRule m s 0 next) → next ≡ s .values
 unfolding flowRule stillAtZero
 zero-time m s next t =
-    same-values next (s .values)
-    (and-right (ratesHold m s 0 next) (stillAtZero s 0 next) t)
+    same-lists next (s .values)
+    (and-right (blanksKept m s next) (stillAtZero s 0 next) (and-right (ratesHold m s 0 next) (blanksKept m s next && stillAtZero s 0 next) t))
 
 -- "Holding a moving component's unmentioned variables": where a jump is allowed, it is allowed too with any other new value of a variable
 -- whose owner moves and whose coefficient after the jump is 0 in every row of the switches that move
@@ -78,66 +71,58 @@ item-set (n ∷ ns) zero (suc u) y h = refl
 item-set (n ∷ ns) (suc v) zero y h = refl
 item-set (n ∷ ns) (suc v) (suc u) y h = item-set ns v u y (λ e. h (ap suc e))
 
-module _ (m : Model) (switches : List ℕ) (v : ℕ) where
-  -- the switch byte of the variable's owner
-  abbrev pub ownersByte : ℕ
-  ownersByte = getD switches (getD (m .owners) v 0) stays
-
+module _ (m : Model) (free : keepsBlanks (m .version) ≡ false) (switches : List ℕ) (v : ℕ) where
   -- no row of a switch that moves has a coefficient other than 0 at the variable's new value
   abbrev pub Unmentioned : Type 0
   Unmentioned = All (λ w. All (λ r. item (r .row .coefficients) (m .variables + v) ≡ pos 0) (w .jump)) (movers (m .components) switches)
 
   row-free : (q : ℕ) (s : State) (next : List ℤ) (y : ℤ) (r : Row) → length (s .values) ≡ m .variables → item (r .coefficients) (m .variables + v) ≡ pos 0 → T (rowHolds q (s .values ++ next) r) → T (rowHolds q (s .values ++ set next v y) r)
   unfolding rowHolds
-  row-free q s next y r sized free t =
-      rw (dot-after (r .coefficients) (s .values) next v (m .variables + v) y (ap (λ (n : ℕ). n + v) (sym sized)) free) t
+  row-free q s next y r sized blank t =
+      rw (dot-after (r .coefficients) (s .values) next v (m .variables + v) y (ap (λ (n : ℕ). n + v) (sym sized)) blank) t
 
   rows-free : (q : ℕ) (s : State) (next : List ℤ) (y : ℤ) → length (s .values) ≡ m .variables → Unmentioned → T (jumpRows m q s switches next) → T (jumpRows m q s switches (set next v y))
   unfolding jumpRows conditionHolds
-  rows-free q s next y sized free t =
+  rows-free q s next y sized blank t =
       all-every (λ w. conditionHolds q (s .values ++ set next v y) (w .jump))
       (all-so
       (λ w k. all-every (λ r. rowHolds q (s .values ++ set next v y) (r .row))
       (all-so
       (λ r j. row-free q s next y (r .row) sized (j .0) (j .1))
       (all-both (k .0) (every-all (λ r. rowHolds q (s .values ++ next) (r .row)) (w .jump) (k .1)))))
-      (all-both free (every-all (λ w. conditionHolds q (s .values ++ next) (w .jump)) (movers (m .components) switches) t)))
+      (all-both blank (every-all (λ w. conditionHolds q (s .values ++ next) (w .jump)) (movers (m .components) switches) t)))
 
-  kept-free : (s : State) (next : List ℤ) (y : ℤ) → (ownersByte ≡ stays → ⊥) → T (stayingKept m s switches next) → T (stayingKept m s switches (set next v y))
-  unfolding stayingKept stayingVariables
-  kept-free s next y moves t =
-      all-every (λ u. sameZ (item (set next v y) u) (item (s .values) u))
+  kept-free : (s : State) (next : List ℤ) (y : ℤ) → (T (ownerStays m switches v) → ⊥) → T (stayingKept m s switches next) → T (stayingKept m s switches (set next v y))
+  unfolding stayingKept
+  kept-free s next y moves =
+      rw (plain-staying m free switches)
+      (λ t.
+      kept-means (variablesThat m (ownerStays m switches)) (set next v y) (s .values) .1
       (all-so
-      (λ u k. rw (item-set next v u y (λ e. moves (subst (λ (n : ℕ). getD switches (getD (m .owners) n 0) stays ≡ stays) e (k .0)))) (k .1))
-      (all-both
-      (all-members (stayingVariables m switches)
-      (λ u d. eqb→eq (getD switches (getD (m .owners) u 0) stays) stays
-      (subst (λ (n : ℕ). T (eqb (getD switches (getD (m .owners) n 0) stays) stays)) (none u) (numbers-in 0 (λ owner. eqb (getD switches owner stays) stays) (m .owners) 0 u d .passes))))
-      (every-all (λ u. sameZ (item next u) (item (s .values) u)) (stayingVariables m switches) t)))
-    where
-      none : (u : ℕ) → u - 0 ≡ u
-      none u = omega arith
+      (λ u k. item-set next v u y (λ e. moves (subst (λ (n : ℕ). T (ownerStays m switches n)) e (k .0))) ∙ k .1)
+      (all-both (variables-pass m (ownerStays m switches)) (kept-means (variablesThat m (ownerStays m switches)) next (s .values) .0 t))))
 
-  pub unmentioned-free : (q : ℕ) (s : State) (event : ℕ) (next : List ℤ) (y : ℤ) → length (s .values) ≡ m .variables → (ownersByte ≡ stays → ⊥) → Unmentioned → T (jumpRule m q s event switches next) → T (jumpRule m q s event switches (set next v y))
+  pub unmentioned-free : (q : ℕ) (s : State) (event : ℕ) (next : List ℤ) (y : ℤ) → length (s .values) ≡ m .variables → (T (ownerStays m switches v) → ⊥) → Unmentioned → T (jumpRule m q s event switches next) → T (jumpRule m q s event switches (set next v y))
   unfolding jumpRule
-  unmentioned-free q s event next y sized moves free t =
+  unmentioned-free q s event next y sized moves blank t =
       let joint = isJoint (m .components) (modesAt (m .components) (s .location)) event switches in
       let h = and-yes joint _ t in
       let k = and-yes (jumpRows m q s switches next) _ (h .1) in
-      yes-and joint _ (h .0) (yes-and (jumpRows m q s switches (set next v y)) _ (rows-free q s next y sized free (k .0)) (kept-free s next y moves (k .1)))
+      yes-and joint _ (h .0) (yes-and (jumpRows m q s switches (set next v y)) _ (rows-free q s next y sized blank (k .0)) (kept-free s next y moves (k .1)))
 
   -- and so the whole step is allowed, if the state with that value is admissible
-  pub unmentioned-step : (q : ℕ) (s : State) (event : ℕ) (next : List ℤ) (y : ℤ) → length (s .values) ≡ m .variables → (ownersByte ≡ stays → ⊥) → Unmentioned → T (stepAllowed m q s (jump event switches next)) → T (admissible m q (after m s (jump event switches (set next v y)))) → T (stepAllowed m q s (jump event switches (set next v y)))
+  pub unmentioned-step : (q : ℕ) (s : State) (event : ℕ) (next : List ℤ) (y : ℤ) → length (s .values) ≡ m .variables → (T (ownerStays m switches v) → ⊥) → Unmentioned → T (stepAllowed m q s (jump event switches next)) → T (admissible m q (after m s (jump event switches (set next v y)))) → T (stepAllowed m q s (jump event switches (set next v y)))
   unfolding stepAllowed ruleMet
-  unmentioned-step q s event next y sized moves free t a =
+  unmentioned-step q s event next y sized moves blank t a =
       yes-and (admissible m q (after m s (jump event switches (set next v y)))) _ a
-      (unmentioned-free q s event next y sized moves free (and-yes (admissible m q (after m s (jump event switches next))) _ t .1))
+      (unmentioned-free q s event next y sized moves blank (and-yes (admissible m q (after m s (jump event switches next))) _ t .1))
 
--- and there is such a jump: a model with one switch and no rows, whose jump may lead from any value to any value
-unfoldable pub free : Model
-free =
+-- and there is such a jump: a model with one switch and no rows, whose jump may lead from any value to any value in version 1, and in
+-- version 2 to none but the same ("reads a blank as "does not change"", 02, order 6)
+unfoldable pub rowless : ℕ → Model
+rowless version =
     record {
-      version = 1;
+      version = version;
       variables = 1;
       owners = 0 ∷ [];
       components =
@@ -150,34 +135,25 @@ free =
       unsafe = [];
     }
 
-pub free-jumps : (q : ℕ) (x y : ℤ) → T (jumpRule free q (record { location = 0; values = x ∷ [] }) 0 (0 ∷ []) (y ∷ []))
-unfolding jumpRule jumpRows stayingKept free isJoint oneMoves allStay moves leaves switchOf stays modesAt locationCount every movers stayingVariables numbersFrom conditionHolds
+pub free-jumps : (q : ℕ) (x y : ℤ) → T (jumpRule (rowless 1) q (record { location = 0; values = x ∷ [] }) 0 (0 ∷ []) (y ∷ []))
+unfolding jumpRule jumpRows stayingKept rowless isJoint oneMoves allStay moves leaves switchOf stays modesAt locationCount every movers keepsBlanks unmentioned ownerOf variablesThat kept ownerStays ownersJump blankInJump stayingVariables those countUp conditionHolds
 free-jumps q x y = tt
 
--- a staying component's variables, though, keep their values
-pub staying-kept : (m : Model) (q : ℕ) (s : State) (event : ℕ) (switches : List ℕ) (next : List ℤ) (v : ℕ) → T (jumpRule m q s event switches next) → List·Memᴰ v (stayingVariables m switches) → item next v ≡ item (s .values) v
-unfolding jumpRule stayingKept
-staying-kept m q s event switches next v t d =
-    let joint = isJoint (m .components) (modesAt (m .components) (s .location)) event switches in
-    let rows = jumpRows m q s switches next in
-    let kept = stayingKept m s switches next in
-    same-means (item next v) (item (s .values) v) .0
-    (all-in (every-all (λ v. sameZ (item next v) (item (s .values) v)) (stayingVariables m switches) (and-right rows kept (and-right joint (rows && kept) t))) d)
+pub held-jumps : (q : ℕ) (x y : ℤ) → T (jumpRule (rowless 2) q (record { location = 0; values = x ∷ [] }) 0 (0 ∷ []) (y ∷ [])) → y ≡ x
+unfolding rowless keepsBlanks unmentioned ownersJump ownerOf switchOf every item
+held-jumps q x y t = jump-keeps (rowless 2) refl 0 (omega arith) q (record { location = 0; values = x ∷ [] }) 0 (0 ∷ []) (y ∷ []) tt t
 
--- the same, by the switch byte of the variable's owner
-pub stays-put : (m : Model) (q : ℕ) (s : State) (event : ℕ) (switches : List ℕ) (next : List ℤ) (v : ℕ) → v < length (m .owners) → getD switches (getD (m .owners) v 0) stays ≡ stays → T (jumpRule m q s event switches next) → item next v ≡ item (s .values) v
-unfolding stayingVariables
+-- a staying component's variables keep their values in every version
+pub stays-put : (m : Model) (q : ℕ) (s : State) (event : ℕ) (switches : List ℕ) (next : List ℤ) (v : ℕ) → v < m .variables → T (ownerStays m switches v) → T (jumpRule m q s event switches next) → item next v ≡ item (s .values) v
+unfolding jumpRule stayingKept stayingVariables
 stays-put m q s event switches next v h e t =
-    staying-kept m q s event switches next v t
-    (in-numbers 0 (λ owner. eqb (getD switches owner stays) stays) (m .owners) 0 v
-    (record {
-      from = omega arith;
-      until = omega arith;
-      passes = subst (λ (n : ℕ). T (eqb (getD switches (getD (m .owners) n 0) stays) stays)) (sym (none v)) (subst T (sym (eq-eqb (getD switches (getD (m .owners) v 0) stays) stays e)) tt);
-    }))
+    let k = and-yes (isJoint (m .components) (modesAt (m .components) (s .location)) event switches) _ t .1 in
+    all-in (kept-means (stayingVariables m switches) next (s .values) .0 (and-yes (jumpRows m q s switches next) (stayingKept m s switches next) k .1))
+    (in-variables m (λ v. ownerStays m switches v || blankInJump m switches v) v h (either (ownerStays m switches v) (blankInJump m switches v) e))
   where
-    none : (u : ℕ) → u - 0 ≡ u
-    none u = omega arith
+    either : (a b : Bool) → T a → T (a || b)
+    either true b t = tt
+    either false b t = absurd t
 
 -- "Letting one member of a scope move": at an event from 1 each component whose alphabet has the event moves, by a switch of its own with
 -- that label from its present mode; any other stays
@@ -257,7 +233,7 @@ module _ (m : Model) (regionAt : ℕ → Condition) where
 
   flow-kind : (location : ℕ) → All (WithInvariants m) (flowObligations m regionAt location)
   unfolding flowObligations
-  flow-kind location = other-kind afterFlow flow-not location (flowHypotheses (m .variables) (regionAt location) (modesIn m location)) (onNext (m .variables)) 0 (regionAt location)
+  flow-kind location = other-kind afterFlow flow-not location (flowHypotheses (m .variables) (regionAt location) (modesIn m location) (stillVariables m location)) (onNext (m .variables)) 0 (regionAt location)
 
   unsafe-kind : (location line : ℕ) (conditions : List Unsafe) → All (WithInvariants m) (unsafeObligations m regionAt location line conditions)
   unfolding unsafeObligations

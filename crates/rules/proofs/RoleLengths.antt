@@ -20,8 +20,8 @@ use Rattle.rules.specs.Opening.{ModelOpened, opens, shut, openModel, ope
 use Rattle.formats.specs.Certificate.{readRegions}
 use Rattle.formats.specs.Reading.{Got, got, refused, _>>_}
 use Rattle.formats.proofs.Members.{all-members}
-use Rattle.rules.specs.Runs.{modesIn, movers, stayingVariables, modesFit}
-use Rattle.rules.specs.Obligations.{Hypothesis, nowhere, standing, onX, onNext, onRates, stayingRows, modeRows, startHypotheses, flowHypotheses, unsafeHypotheses, jumpHypotheses, Kind, atStart, afterFlow, clearOfUnsafe, afterJump, Obligation, perRow, startObligations, flowObligations, unsafeObligations, locationObligations, jumpObligations, jumpsObligations, obligationsOver, obligations, regionOf}
+use Rattle.rules.specs.Runs.{modesIn, stillVariables, movers, stayingVariables, modesFit}
+use Rattle.rules.specs.Obligations.{Hypothesis, nowhere, standing, onX, onNext, onRates, timeRow, stayingRows, modeRows, startHypotheses, flowHypotheses, unsafeHypotheses, jumpHypotheses, Kind, atStart, afterFlow, clearOfUnsafe, afterJump, Obligation, perRow, startObligations, flowObligations, unsafeObligations, locationObligations, jumpObligations, jumpsObligations, obligationsOver, obligations, regionOf}
 use Rattle.rules.specs.Beside.{Found, found, unfound, noObligation, findIn, findAfter, findHypothesis, sheetOf, partOf, showPart}
 use Rattle.rules.specs.Roles.{Role, owned, noRole, rowRoles, modeRoles, moverRoles, stayingRole, startRoles, flowRoles, unsafeRoles, jumpRoles, noUnsafe, noJoint, jointRoles, kindRoles, rolesOf, roleIn, roleAfter, hypothesisRole, foundSize, hypothesisSize}
 use Rattle.rules.proofs.Hypotheses.{join-all}
@@ -68,13 +68,16 @@ start-long : (modes : List Mode) → AsMany (startRoles modes) (startHypotheses 
 unfolding startRoles startHypotheses
 start-long modes = both (modes-long 0 (λ mode. mode .initial) onX 0 modes) (modes-long 2 (λ mode. mode .invariant) onX 0 modes)
 
-flow-long : (n : ℕ) (region : Condition) (modes : List Mode) → AsMany (flowRoles region modes) (flowHypotheses n region modes)
+timed-long : (n : ℕ) (still : List ℕ) → AsMany (owned 6 0 ∷ joinAll stayingRole still) (nowhere (timeRow n) ∷ map nowhere (joinAll (stayingRows n) still))
+timed-long n still = record { same = ap suc (staying-long n still .same) }
+
+flow-long : (n : ℕ) (region : Condition) (modes : List Mode) (still : List ℕ) → AsMany (flowRoles region modes still) (flowHypotheses n region modes still)
 unfolding flowRoles flowHypotheses
-flow-long n region modes =
+flow-long n region modes still =
     both (rows-long 1 0 1 onX region)
     (both (modes-long 2 (λ mode. mode .invariant) onX 0 modes)
     (both (modes-long 4 (λ mode. mode .invariant) (onNext n) 0 modes)
-    (both (modes-long 5 (λ mode. mode .flow) onRates 0 modes) (record { same = refl }))))
+    (both (modes-long 5 (λ mode. mode .flow) onRates 0 modes) (timed-long n still))))
 
 unsafe-long : (region : Condition) (modes : List Mode) (rows : Condition) → AsMany (unsafeRoles region modes rows) (unsafeHypotheses region modes rows)
 unfolding unsafeRoles unsafeHypotheses
@@ -122,8 +125,8 @@ module _ (m : Model) (regionAt : ℕ → Condition) where
   flow-as-long : (location : ℕ) → All AsLong (flowObligations m regionAt location)
   unfolding flowObligations kindRoles
   flow-as-long location =
-      per-row-long afterFlow location (flowHypotheses (m .variables) (regionAt location) (modesIn m location)) (onNext (m .variables)) 0 (regionAt location)
-      (λ line. flow-long (m .variables) (regionAt location) (modesIn m location))
+      per-row-long afterFlow location (flowHypotheses (m .variables) (regionAt location) (modesIn m location) (stillVariables m location)) (onNext (m .variables)) 0 (regionAt location)
+      (λ line. flow-long (m .variables) (regionAt location) (modesIn m location) (stillVariables m location))
 
   -- the unsafe conditions that are left, after those before
   abbrev one : ℕ → ℕ → Unsafe → Obligation

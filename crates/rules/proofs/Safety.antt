@@ -7,26 +7,24 @@ use Prim.Native.Nat.{ℕ, _≤_, _<_}
 use native.Mathlib.Omega.{arith}
 use lib.Dec.{T, ltb, eqb, ltb→lt, eqb→eq}
 use lib.IntN.{ℤ, pos}
-use lib.ListN.{length, getD}
+use lib.ListN.{length}
 use Rattle.farkas.specs.Lists.{every, some, All, none, more}
 use Rattle.farkas.specs.Rows.{item, rowHolds}
-use Rattle.farkas.specs.Farkas.{sameZ}
-use Rattle.farkas.proofs.All.{all-at, every-all}
-use Rattle.farkas.proofs.Promise.{same-means}
+use Rattle.farkas.proofs.All.{all-at}
 use Rattle.formats.specs.Rows.{Condition}
 use Rattle.formats.specs.Model.{Model}
 use Rattle.formats.specs.Locations.{locationCount, modesAt}
-use Rattle.formats.specs.Joint.{stays, isJoint, jointFrom}
+use Rattle.formats.specs.Joint.{isJoint, jointFrom}
 use Rattle.formats.specs.RunSheet.{Step, flow, jump}
 use Rattle.formats.proofs.Gives.{and-left, and-right}
-use Rattle.formats.proofs.Members.{all-members, numbers-in}
 use Rattle.formats.proofs.WellFormed.{Wide, WellFormed}
 use Rattle.formats.proofs.Locations.{HaveModes, modes-at, location-of}
 use Rattle.formats.proofs.Joint.{joint-listed, joint-known, modes-after}
-use Rattle.rules.specs.Runs.{State, conditionHolds, modesIn, admissible, startAllowed, ratesHold, stillAtZero, flowRule, movers, stayingVariables, stayingKept, jumpRows, jumpRule, after, ruleMet, stepAllowed, stepsAllowed, visited, modesFit, isUnsafe}
+use Rattle.rules.specs.Runs.{State, conditionHolds, modesIn, admissible, startAllowed, ratesHold, stillAtZero, variablesThat, kept, blankInFlow, stillVariables, blanksKept, flowRule, movers, ownerStays, blankInJump, stayingVariables, stayingKept, jumpRows, jumpRule, after, ruleMet, stepAllowed, stepsAllowed, visited, modesFit, isUnsafe}
 use Rattle.rules.specs.Obligations.{onX, zeroOnly, regionOf, obligations}
 use Rattle.rules.proofs.Points.{from-next}
 use Rattle.rules.proofs.Shown.{Shown, shown-goal, shown-clear, at-start, at-flow, at-unsafe, at-jump}
+use Rattle.rules.proofs.Blanks.{kept-means, variables-below}
 use Rattle.rules.proofs.Hypotheses.{all-both, all-so, modes-good, hold-rows, start-hypotheses, unsafe-hypotheses, flow-hypotheses, jump-hypotheses}
 
 -- regions with rows as wide as there are variables
@@ -86,16 +84,23 @@ module _ (m : Model) (good : WellFormed m) (regions : List Condition) (wide : Re
             (at-start m regions shown (s .location) located starts));
       }
 
+  -- variables that keep their value
+  keep : (test : ℕ → Bool) (next p : List ℤ) → T (kept (variablesThat m test) next p) → All (λ v. (v < m .variables) × (item next v ≡ item p v)) (variablesThat m test)
+  keep test next p t = all-both (variables-below m test) (kept-means (variablesThat m test) next p .0 t)
+
   -- a flow
   pub flow-inside : (s : State) (δ : ℕ) (next : List ℤ) → Inside m regions q s → T (admissible m q (after m s (flow δ next))) → T (flowRule m s δ next) → Inside m regions q (after m s (flow δ next))
-  unfolding after flowRule ratesHold
+  unfolding after flowRule ratesHold blanksKept stillVariables
   flow-inside s δ next inside admitted rule =
       let n = m .variables in
       let modes = modesIn m (s .location) in
-      let rates = and-left (ratesHold m s δ next) (stillAtZero s δ next) rule in
+      let blanks = blanksKept m s next in
+      let zero = stillAtZero s δ next in
+      let rates = and-left (ratesHold m s δ next) (blanks && zero) rule in
+      let still = keep (blankInFlow m (s .location)) next (s .values) (and-left blanks zero (and-right (ratesHold m s δ next) (blanks && zero) rule)) in
       let sized = state-sized m q s (inside .admitted) in
       let next-sized = state-sized m q (after m s (flow δ next)) admitted in
-      let hold = flow-hypotheses n q modes (modes-good m good (s .location)) (s .values) sized (state-invariants m q s (inside .admitted)) (regionOf regions (s .location)) (wide-at (s .location)) (inside .region) δ next next-sized (state-invariants m q (after m s (flow δ next)) admitted) rates in
+      let hold = flow-hypotheses n q modes (modes-good m good (s .location)) (s .values) sized (state-invariants m q s (inside .admitted)) (regionOf regions (s .location)) (wide-at (s .location)) (inside .region) δ next (stillVariables m (s .location)) next-sized (state-invariants m q (after m s (flow δ next)) admitted) rates still in
       record {
         located = inside .located;
         admitted = admitted;
@@ -116,25 +121,18 @@ module _ (m : Model) (good : WellFormed m) (regions : List Condition) (wide : Re
       location-of
       (modes-after (m .variables) (good .components) (modes-at have-modes (s .location) l) (joint-known (m .components) (modesAt (m .components) (s .location)) event switches t))
 
-  keep : (s : State) (switches : List ℕ) (next : List ℤ) → T (stayingKept m s switches next) → All (λ v. (v < m .variables) × (item next v ≡ item (s .values) v)) (stayingVariables m switches)
-  unfolding stayingKept stayingVariables
-  keep s switches next t =
-      all-both
-      (all-members (stayingVariables m switches) (λ v d. omega (arith, good .owned, numbers-in 0 (λ owner. eqb (getD switches owner stays) stays) (m .owners) 0 v d .until)))
-      (all-so (λ v w. same-means (item next v) (item (s .values) v) .0 w) (every-all (λ v. sameZ (item next v) (item (s .values) v)) (stayingVariables m switches) t))
-
   pub jump-inside : (s : State) (event : ℕ) (switches : List ℕ) (next : List ℤ) → Inside m regions q s → T (admissible m q (after m s (jump event switches next))) → T (jumpRule m q s event switches next) → Inside m regions q (after m s (jump event switches next))
-  unfolding after jumpRule jumpRows jointFrom
+  unfolding after jumpRule jumpRows jointFrom stayingKept stayingVariables
   jump-inside s event switches next inside admitted rule =
       let n = m .variables in
       let modes = modesIn m (s .location) in
       let target = after m s (jump event switches next) .location in
       let joint = isJoint (m .components) (modesAt (m .components) (s .location)) event switches in
       let rows = jumpRows m q s switches next in
-      let kept = stayingKept m s switches next in
-      let is-joint = and-left joint (rows && kept) rule in
-      let jumps = and-left rows kept (and-right joint (rows && kept) rule) in
-      let stay = keep s switches next (and-right rows kept (and-right joint (rows && kept) rule)) in
+      let stays = stayingKept m s switches next in
+      let is-joint = and-left joint (rows && stays) rule in
+      let jumps = and-left rows stays (and-right joint (rows && stays) rule) in
+      let stay = keep (λ v. ownerStays m switches v || blankInJump m switches v) next (s .values) (and-right rows stays (and-right joint (rows && stays) rule)) in
       let sized = state-sized m q s (inside .admitted) in
       let next-sized = state-sized m q (after m s (jump event switches next)) admitted in
       let hold = jump-hypotheses n q modes (modes-good m good (s .location)) (s .values) sized (state-invariants m q s (inside .admitted)) (regionOf regions (s .location)) (wide-at (s .location)) (inside .region) next (modesIn m target) (movers (m .components) switches) (stayingVariables m switches) next-sized (modes-good m good target) (state-invariants m q (after m s (jump event switches next)) admitted) jumps stay in

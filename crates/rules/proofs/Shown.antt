@@ -18,7 +18,7 @@ use Rattle.formats.specs.Model.{Unsafe, Model}
 use Rattle.formats.specs.Locations.{locationCount, modesAt}
 use Rattle.formats.specs.Joint.{JointSwitch, joints, countUp, joinAll}
 use Rattle.formats.proofs.Members.{all-in, all-left, all-right, in-count}
-use Rattle.rules.specs.Runs.{modesIn, modesFit, movers, stayingVariables}
+use Rattle.rules.specs.Runs.{modesIn, modesFit, stillVariables, movers, stayingVariables}
 use Rattle.rules.specs.Obligations.{Hypothesis, Kind, atStart, afterFlow, clearOfUnsafe, afterJump, Obligation, zeroOnly, perRow, onX, onNext, startHypotheses, flowHypotheses, unsafeHypotheses, jumpHypotheses, startObligations, flowObligations, unsafeObligations, locationObligations, jumpObligations, jumpsObligations, obligationsOver, regionOf, obligations}
 
 -- some proof meets Farkas' condition for a goal from hypotheses
@@ -102,10 +102,10 @@ module _ (m : Model) (regions : List Condition) (shown : All Shown (obligations 
       (parts location h .0)
 
   -- after a flow
-  pub at-flow : (location : ℕ) → location < locationCount (m .components) → All (λ r. ShownBy afterFlow (flowHypotheses (m .variables) (regionOf regions location) (modesIn m location)) (onNext (m .variables) (r .row))) (regionOf regions location)
+  pub at-flow : (location : ℕ) → location < locationCount (m .components) → All (λ r. ShownBy afterFlow (flowHypotheses (m .variables) (regionOf regions location) (modesIn m location) (stillVariables m location)) (onNext (m .variables) (r .row))) (regionOf regions location)
   unfolding flowObligations
   at-flow location h =
-      per-row afterFlow location (flowHypotheses (m .variables) (regionOf regions location) (modesIn m location)) (onNext (m .variables)) 0 (regionOf regions location)
+      per-row afterFlow location (flowHypotheses (m .variables) (regionOf regions location) (modesIn m location) (stillVariables m location)) (onNext (m .variables)) 0 (regionOf regions location)
       (parts location h .1)
 
   -- an unsafe condition whose modes fit

@@ -9,5 +9,7 @@ pub mod Outcomes
 pub mod Beside
 pub mod Roles
 pub mod Program
+pub mod ReadAs
 pub mod Papers
 pub mod PairPaper
+pub mod BlankPaper

@@ -1,4 +1,5 @@
--- The obligations of a certificate (01, Certificate), in order, each with its hypotheses in order and its goal. Assumes nothing.
+-- The obligations of a certificate (01, Certificate; rows of blanks, 02, order 6), in order, each with its hypotheses in order and its
+-- goal. Assumes nothing.
 use mathlib.Core.Bool.{Bool, true, false}
 use mathlib.Core.List.{List, [], _∷_, _++_, map}
 use Prim.Native.Nat.{ℕ, suc, _+_}
@@ -11,7 +12,7 @@ use Rattle.formats.specs.Rows.{SheetRow, Condition}
 use Rattle.formats.specs.Model.{Mode, Switch, Unsafe, Model}
 use Rattle.formats.specs.Locations.{locationCount, modesAt}
 use Rattle.formats.specs.Joint.{JointSwitch, joints, countUp, joinAll}
-use Rattle.rules.specs.Runs.{modesIn, movers, stayingVariables, modesFit}
+use Rattle.rules.specs.Runs.{modesIn, stillVariables, movers, stayingVariables, modesFit}
 
 -- a hypothesis: its row over the obligation's unknowns, and where its bytes stand: sheet 0 is the model, 1 the certificate, and
 -- 2 no sheet, then with place 0 and size 0
@@ -69,14 +70,15 @@ modeRows of put modes = joinAll (λ mode. map (standing 0 put) (of mode)) modes
 unfoldable pub startHypotheses : List Mode → List Hypothesis
 startHypotheses modes = modeRows (λ mode. mode .initial) onX modes ++ modeRows (λ mode. mode .invariant) onX modes
 
--- "flow, unknowns x, x', d: region and invariants on x; invariants on x'; each flow row ..; −d ≤ 0"
-unfoldable pub flowHypotheses : ℕ → Condition → List Mode → List Hypothesis
-flowHypotheses n region modes =
+-- "flow, unknowns x, x', d: region and invariants on x; invariants on x'; each flow row ..; −d ≤ 0"; "Flow obligations gain the two staying
+-- rows per such variable, ascending, after −d ≤ 0" (02, order 6), with 0 on d
+unfoldable pub flowHypotheses : ℕ → Condition → List Mode → List ℕ → List Hypothesis
+flowHypotheses n region modes still =
     map (standing 1 onX) region
     ++ (modeRows (λ mode. mode .invariant) onX modes
     ++ (modeRows (λ mode. mode .invariant) (onNext n) modes
     ++ (modeRows (λ mode. mode .flow) onRates modes
-    ++ (nowhere (timeRow n) ∷ []))))
+    ++ (nowhere (timeRow n) ∷ map nowhere (joinAll (stayingRows n) still)))))
 
 -- "unsafe: region, invariants, unsafe rows"
 unfoldable pub unsafeHypotheses : Condition → List Mode → Condition → List Hypothesis
@@ -133,7 +135,7 @@ startObligations m regionAt location =
 unfoldable pub flowObligations : Model → (ℕ → Condition) → ℕ → List Obligation
 flowObligations m regionAt location =
     perRow afterFlow location
-    (flowHypotheses (m .variables) (regionAt location) (modesIn m location))
+    (flowHypotheses (m .variables) (regionAt location) (modesIn m location) (stillVariables m location))
     (onNext (m .variables))
     0
     (regionAt location)

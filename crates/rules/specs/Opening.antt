@@ -26,7 +26,7 @@ unfoldable pub openModel : Limits → List ℕ → ModelOpened
 openModel limits s = openAs (limitsFit limits) (readModel limits s)
 
 -- how the second sheet of a paper opens, once its model is read: its header, and the version is handed on. What a second sheet has to share
--- with its model is tested here too: nothing in version 1
+-- with its model is tested here too: nothing in versions 1 and 2
 unfoldable pub openSecond : ℕ → Model → Reader ℕ
 openSecond kind m = header kind
 

@@ -1,5 +1,5 @@
--- The role of every hypothesis (01, Certificate), and the component or variable that it belongs to: lists beside those of the hypotheses,
--- in the same order and from the same model. Assumes nothing.
+-- The role of every hypothesis (01, Certificate; rows of blanks, 02, order 6), and the component or variable that it belongs to: lists
+-- beside those of the hypotheses, in the same order and from the same model. Assumes nothing.
 use mathlib.Core.Bool.{true, false, _&&_}
 use mathlib.Core.List.{List, [], _∷_, _++_, map}
 use Prim.Native.Nat.{ℕ, suc}
@@ -12,12 +12,12 @@ use Rattle.formats.specs.Joint.{stays, switchOf, JointSwitch, joints, joinAll}
 use Rattle.formats.specs.declared.Limits.{Limits}
 use Rattle.rules.specs.Opening.{opens, shut, openModel, openSecond}
 use Rattle.formats.specs.Certificate.{readRegions}
-use Rattle.rules.specs.Runs.{modesIn, stayingVariables}
+use Rattle.rules.specs.Runs.{modesIn, stillVariables, stayingVariables}
 use Rattle.rules.specs.Obligations.{Kind, atStart, afterFlow, clearOfUnsafe, afterJump, Obligation, obligations, regionOf}
 use Rattle.rules.specs.Beside.{Found, found, unfound, noObligation, findHypothesis}
 
 -- The roles: 0, an initial row; 1, a region row; 2, an invariant on x; 3, an unsafe row; 4, an invariant on x'; 5, a flow row; 6, −d ≤ 0;
--- 7, a jump row; 8, a row of a staying variable. The owner is the component for 0, 2, 4, 5 and 7, the variable for 8, and else 0
+-- 7, a jump row; 8, a row of a variable that keeps its value. The owner is the component for 0, 2, 4, 5 and 7, the variable for 8, and else 0
 pub record Role : Type 0 where
   pub role : ℕ
   pub owner : ℕ
@@ -55,14 +55,15 @@ stayingRole v = owned 8 v ∷ owned 8 v ∷ []
 unfoldable pub startRoles : List Mode → List Role
 startRoles modes = modeRoles 0 (λ mode. mode .initial) 0 modes ++ modeRoles 2 (λ mode. mode .invariant) 0 modes
 
--- "flow, unknowns x, x', d: region and invariants on x; invariants on x'; each flow row ..; −d ≤ 0"
-unfoldable pub flowRoles : Condition → List Mode → List Role
-flowRoles region modes =
+-- "flow, unknowns x, x', d: region and invariants on x; invariants on x'; each flow row ..; −d ≤ 0", and "the two staying rows per such
+-- variable" (02, order 6)
+unfoldable pub flowRoles : Condition → List Mode → List ℕ → List Role
+flowRoles region modes still =
     rowRoles 1 0 region
     ++ (modeRoles 2 (λ mode. mode .invariant) 0 modes
     ++ (modeRoles 4 (λ mode. mode .invariant) 0 modes
     ++ (modeRoles 5 (λ mode. mode .flow) 0 modes
-    ++ (owned 6 0 ∷ []))))
+    ++ (owned 6 0 ∷ joinAll stayingRole still))))
 
 -- "unsafe: region, invariants, unsafe rows"
 unfoldable pub unsafeRoles : Condition → List Mode → Condition → List Role
@@ -101,7 +102,7 @@ jointRoles m regionAt j =
 
 unfoldable pub kindRoles : Model → (ℕ → Condition) → Kind → ℕ → ℕ → List Role
 kindRoles m regionAt atStart subject line = startRoles (modesIn m subject)
-kindRoles m regionAt afterFlow subject line = flowRoles (regionAt subject) (modesIn m subject)
+kindRoles m regionAt afterFlow subject line = flowRoles (regionAt subject) (modesIn m subject) (stillVariables m subject)
 kindRoles m regionAt clearOfUnsafe subject line = unsafeRoles (regionAt subject) (modesIn m subject) (getD (m .unsafe) line noUnsafe .rows)
 kindRoles m regionAt afterJump subject line = jointRoles m regionAt (getD (joints (m .components)) subject noJoint)
 

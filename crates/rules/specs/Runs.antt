@@ -1,18 +1,19 @@
--- Runs of a model (01, Runs): states, steps, the runs that a model allows, the states that a run visits, and unsafe states.
--- Each rule is a test that computes; a run's rules are the tests passed. Assumes nothing.
+-- Runs of a model (01, Runs; blanks, 02, order 6): states, steps, the runs that a model allows, the states that a run visits, and unsafe
+-- states. Each rule is a test that computes; a run's rules are the tests passed. Assumes nothing.
 use mathlib.Core.Bool.{Bool, true, false, not, _&&_, _||_}
 use mathlib.Core.List.{List, [], _∷_, _++_}
-use Prim.Native.Nat.{ℕ, _≤_}
+use Prim.Native.Nat.{ℕ, _+_, _≤_}
 use lib.Dec.{T, ltb, eqb}
-use lib.IntN.{ℤ, _-ℤ_}
+use lib.IntN.{ℤ, pos, _-ℤ_}
 use lib.ListN.{length, getD}
 use Rattle.farkas.specs.Lists.{every, some}
 use Rattle.farkas.specs.Rows.{item, rowHolds}
 use Rattle.farkas.specs.Farkas.{sameZ}
+use Rattle.formats.specs.Versions.{keepsBlanks}
 use Rattle.formats.specs.Rows.{Condition}
 use Rattle.formats.specs.Model.{Mode, Switch, Component, Model}
-use Rattle.formats.specs.Locations.{locationCount, modesAt, locationOf, modeOf}
-use Rattle.formats.specs.Joint.{stays, switchOf, isJoint, modesAfter, numbersFrom}
+use Rattle.formats.specs.Locations.{locationCount, modesAt, locationOf, noMode, modeOf}
+use Rattle.formats.specs.Joint.{stays, switchOf, isJoint, modesAfter, those, countUp}
 use Rattle.formats.specs.RunSheet.{Step, flow, jump}
 
 -- "a state is whole numbers p over a whole q of at least 1, and one q serves a run"; a state stands in a location
@@ -68,8 +69,38 @@ ratesHold m s δ next =
 unfoldable pub stillAtZero : State → ℕ → List ℤ → Bool
 stillAtZero s δ next = not (eqb δ 0) || sameValues next (s .values)
 
+-- Blanks (02, order 6). No row of a condition has a coefficient other than 0 at this unknown
+unfoldable pub unmentioned : ℕ → Condition → Bool
+unmentioned i rows = every (λ r. sameZ (item (r .row .coefficients) i) (pos 0)) rows
+
+-- "each variable's owner"
+unfoldable pub ownerOf : Model → ℕ → ℕ
+ownerOf m v = getD (m .owners) v 0
+
+-- the variables that pass a test, ascending
+unfoldable pub variablesThat : Model → (ℕ → Bool) → List ℕ
+variablesThat m test = those test (countUp 0 (m .variables))
+
+-- these variables keep their value
+unfoldable pub kept : List ℕ → List ℤ → List ℤ → Bool
+kept variables next p = every (λ v. sameZ (item next v) (item p v)) variables
+
+-- "a variable with zero coefficients in all flow rows of its owner's present mode keeps its value in a flow": these rows, whether the variable
+-- is a blank, all blanks, and that they keep their value
+abbrev pub ownersFlow : Model → ℕ → ℕ → Condition
+ownersFlow m location v = getD (modesIn m location) (ownerOf m v) noMode .flow
+
+unfoldable pub blankInFlow : Model → ℕ → ℕ → Bool
+blankInFlow m location v = keepsBlanks (m .version) && unmentioned v (ownersFlow m location v)
+
+unfoldable pub stillVariables : Model → ℕ → List ℕ
+stillVariables m location = variablesThat m (blankInFlow m location)
+
+unfoldable pub blanksKept : Model → State → List ℤ → Bool
+blanksKept m s next = kept (stillVariables m (s .location)) next (s .values)
+
 unfoldable pub flowRule : Model → State → ℕ → List ℤ → Bool
-flowRule m s δ next = ratesHold m s δ next && stillAtZero s δ next
+flowRule m s δ next = ratesHold m s δ next && (blanksKept m s next && stillAtZero s δ next)
 
 -- the switches by which the moving components move
 unfoldable pub movers : List Component → List ℕ → List Switch
@@ -78,13 +109,29 @@ movers (c ∷ components) [] = []
 movers (c ∷ components) (i ∷ switches) =
     elim (eqb i stays) [ true ↦ movers components switches | false ↦ switchOf c i ∷ movers components switches ]
 
--- "Variables owned by staying components", by number, ascending
-unfoldable pub stayingVariables : Model → List ℕ → List ℕ
-stayingVariables m switches = numbersFrom 0 (λ owner. eqb (getD switches owner stays) stays) (m .owners)
+-- "Variables owned by staying components"
+unfoldable pub ownerStays : Model → List ℕ → ℕ → Bool
+ownerStays m switches v = eqb (getD switches (ownerOf m v) stays) stays
 
--- "Variables owned by staying components keep their value; an unmentioned variable of a moving one is free"
+-- "One with zero after-coefficients in all rows of its moving owner's switch keeps it in a jump" (02, order 6): these rows, of which an owner
+-- that stays has none in a model that reads well, and whether the variable is a blank
+abbrev pub noComponent : Component
+noComponent = record { alphabet = 0; modes = []; switches = [] }
+
+unfoldable pub ownersJump : Model → List ℕ → ℕ → Condition
+ownersJump m switches v = switchOf (getD (m .components) (ownerOf m v) noComponent) (getD switches (ownerOf m v) stays) .jump
+
+unfoldable pub blankInJump : Model → List ℕ → ℕ → Bool
+blankInJump m switches v = keepsBlanks (m .version) && unmentioned (m .variables + v) (ownersJump m switches v)
+
+-- "these variables join the staying ones in ascending order"
+unfoldable pub stayingVariables : Model → List ℕ → List ℕ
+stayingVariables m switches = variablesThat m (λ v. ownerStays m switches v || blankInJump m switches v)
+
+-- "Variables owned by staying components keep their value; an unmentioned variable of a moving one is free": so in version 1;
+-- from version 2 on a blank keeps its value too
 unfoldable pub stayingKept : Model → State → List ℕ → List ℤ → Bool
-stayingKept m s switches next = every (λ v. sameZ (item next v) (item (s .values) v)) (stayingVariables m switches)
+stayingKept m s switches next = kept (stayingVariables m switches) next (s .values)
 
 -- "Jump: a joint switch whose rows hold as a·(p, p') ≤ b·q"; "a jump's joint switch has the present location as its source"
 unfoldable pub jumpRows : Model → ℕ → State → List ℕ → List ℤ → Bool

@@ -19,7 +19,7 @@ pub record Fits (z : ℤ) : Type 0 where
   pub small : twos z < 2 ^ 32
   pub back : signed (twos z) ≡ z
 
--- a mark that the version has: version 1 has no strict rows
+-- a mark that the version has: no version has strict rows
 abbrev pub MarkFits : ℕ → Bool → Type 0
 MarkFits version strict = strict ≡ false
 

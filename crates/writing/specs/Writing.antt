@@ -19,7 +19,7 @@ twos (negsuc n) = 2 ^ 32 - suc n
 unfoldable pub writeNumber : ℤ → List ℕ
 writeNumber z = word (twos z)
 
--- what a row's mark takes: nothing in version 1, which has no strict rows
+-- what a row's mark takes: nothing, as no version has strict rows
 unfoldable pub writeMark : ℕ → Bool → List ℕ
 writeMark version strict = []
 
