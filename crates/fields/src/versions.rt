@@ -1,17 +1,29 @@
-// What a sheet's version decides: which versions and kinds its header may have, where its body begins, how many bytes a row has, and whether
-// a row is strict.
+// What a sheet's version decides: which versions and kinds its header may have, where its body begins, how many bytes a row has, whether a
+// row is strict, and whether a variable that no row mentions keeps its value.
 ghost use mathlib.Core.Path.{_≡_};
 ghost use Prim.Native.Nat.{_*_, _≤_, _<_};
-ghost use Rattle.formats.specs.Versions.{versionFits, kindFits, rowBytes, strictAt};
+ghost use Rattle.formats.specs.Versions.{versionFits, kindFits, rowBytes, strictAt, keepsBlanks};
 
 // So many bytes stand before a sheet's body: two of its length, one of its version, one of its kind.
 pub const HEADER_LENGTH: usize = 4;
 
-// Whether a sheet of this kind may have this version.
+// The newest version.
+const NEWEST: u32 = 2;
+
+// Whether a sheet of this kind may have this version: a model any, another sheet any but 2.
 pub fn version_fits(kind: u32, version: u32) -> bool
     ensures { λ r. ⌜ r ≡ versionFits kind version ⌝ }
 {
-    version == 1
+    if version < 1 {
+        return false;
+    }
+    if NEWEST < version {
+        return false;
+    }
+    if kind == 1 {
+        return true;
+    }
+    version != 2
 }
 
 // Whether a sheet may have this kind where one of the first kind is wanted.
@@ -42,4 +54,11 @@ pub fn is_strict(version: u32, s: &[u8], at: usize) -> bool
     ensures { λ r. ⌜ r ≡ strictAt version (now (s .entry)) at ⌝ }
 {
     false
+}
+
+// Whether a variable that no row mentions keeps its value.
+pub fn keeps_blanks(version: u32) -> bool
+    ensures { λ r. ⌜ r ≡ keepsBlanks version ⌝ }
+{
+    2 <= version
 }

@@ -11,14 +11,15 @@ use Rattle.farkas.specs.Lists.{All, none, more}
 use Rattle.farkas.proofs.All.{all-append}
 use Rattle.formats.specs.Locations.{locationCount}
 use Rattle.formats.specs.Joint.{stays, countUp, joinAll}
-use Rattle.models.specs.Index.{entry, ownerPlace, componentPlace, modePlace, switchPlace, unsafePlace, componentsFrom, GoodSpan, GoodIndex}
+use Rattle.models.specs.Index.{entry, componentPlace, modePlace, switchPlace, unsafePlace, componentsFrom, GoodSpan, GoodIndex}
 use Rattle.models.specs.Counts.{perComponent, KnownSwitches}
 use Rattle.second_sheets.specs.CertificateAnswers.{GoodRegions}
 use Rattle.hypotheses.specs.Tables.{TableLine, line, segment, rowPlace, GoodLine}
-use Rattle.hypotheses.specs.Listing.{keptLines, modeLines, switchLine, stayingLine, stayingLines, hereLines, startLines, flowLines, unsafeLines, landingLines, jumpLines}
+use Rattle.hypotheses.specs.Listing.{keptLines, modeLines, switchLine, variableLine, variableAt, variableLines, hereLines, startLines, flowLines, unsafeLines, landingLines, jumpLines}
 use Rattle.papers.specs.Standing.{GoodModes, KnownModes}
 use Rattle.papers.specs.Paper.{GoodPaper}
-use Rattle.hypotheses.proofs.ModeLines.{modesOn, modes-next, modes-end, switchesOn, switches-next, switches-end, switch-stays, switch-moves, variable-stays, variable-moves}
+use Rattle.papers.specs.Blanks.{stillAt, restsAt}
+use Rattle.hypotheses.proofs.ModeLines.{modesOn, modes-next, modes-end, switchesOn, switches-next, switches-end, switch-stays, switch-moves}
 use Rattle.papers.proofs.StandingLaws.{initial-good, invariant-good, flow-good}
 use Rattle.formats.specs.Versions.{rowBytes}
 
@@ -154,25 +155,21 @@ module _ (model second index switches : List ℕ) (width : ℕ) (w : Fits (entry
   pub switches-good : All (GoodLine model second (entry index 11) (entry index 0) width) (switchesOn index switches 0)
   switches-good = switches-good-from (entry index 1) 0 (zero-add (entry index 1))
 
--- lines of staying variables
-module _ (model second index switches : List ℕ) (width : ℕ) (w : Fits (entry index 0) width 8) where
-  variable-good : (v : ℕ) → v < entry index 0 → All (GoodLine model second (entry index 11) (entry index 0) width) (stayingLine index switches v)
-  variable-good v h = go (eqb (getD switches (entry index (ownerPlace v)) stays) stays) refl
-    where
-      go : (b : Bool) → eqb (getD switches (entry index (ownerPlace v)) stays) stays ≡ b → All (GoodLine model second (entry index 11) (entry index 0) width) (stayingLine index switches v)
-      go true e =
-          subst (All (GoodLine model second (entry index 11) (entry index 0) width)) (sym (variable-stays index switches v e))
-          (segment-all (GoodLine model second (entry index 11) (entry index 0) width) 8 v v 2 (λ j l. staying-line model second (entry index 11) (entry index 0) width v j w h))
-      go false e = subst (All (GoodLine model second (entry index 11) (entry index 0) width)) (sym (variable-moves index switches v e)) none
+-- lines of variables that keep their value
+module _ (model second : List ℕ) (version n width : ℕ) (w : Fits n width 8) (test : ℕ → Bool) where
+  variable-good : (v : ℕ) → v < n → (b : Bool) → All (GoodLine model second version n width) (variableLine b v)
+  unfolding variableLine
+  variable-good v h true = segment-all (GoodLine model second version n width) 8 v v 2 (λ j l. staying-line model second version n width v j w h)
+  variable-good v h false = none
 
-  staying-good-from : (v d : ℕ) → v + d ≤ entry index 0 → All (GoodLine model second (entry index 11) (entry index 0) width) (joinAll (stayingLine index switches) (countUp v d))
+  variables-good-from : (v d : ℕ) → v + d ≤ n → All (GoodLine model second version n width) (joinAll (variableAt test) (countUp v d))
   unfolding joinAll countUp
-  staying-good-from v zero h = none
-  staying-good-from v (suc d) h = all-append (variable-good v (omega arith)) (staying-good-from (suc v) d (omega arith))
+  variables-good-from v zero h = none
+  variables-good-from v (suc d) h = all-append (variable-good v (omega arith) (test v)) (variables-good-from (suc v) d (omega arith))
 
-  pub staying-good : All (GoodLine model second (entry index 11) (entry index 0) width) (stayingLines index switches)
-  unfolding stayingLines
-  staying-good = staying-good-from 0 (entry index 0) (omega (arith, zero-add (entry index 0)))
+  pub variables-good : All (GoodLine model second version n width) (variableLines test n)
+  unfolding variableLines
+  variables-good = variables-good-from 0 n (omega (arith, zero-add n))
 
 -- The tables: on x, on x and x', and on x, x' and d
 on-x : (n width form : ℕ) → n ≤ width → form < 4 → Fits n width form
@@ -206,7 +203,7 @@ module _ (model index second regions modes : List ℕ) (location : ℕ) (long : 
         (region-span model second (entry index 11) (entry index 0) width regions (locationCount (componentsFrom model index)) location (on-x (entry index 0) width 1 l (omega arith)) h (paper .placed))
         (invariants width 2 (on-x (entry index 0) width 2 l (omega arith)) (omega arith) (λ e. omega (arith, e)))
 
-    pub flow-fine : Table (entry index 0 + entry index 0 + 1) (flowLines index regions location (perComponent index modes))
+    pub flow-fine : Table (entry index 0 + entry index 0 + 1) (flowLines model index regions location modes)
     unfolding flowLines
     flow-fine =
         let n = entry index 0 in let version = entry index 11 in
@@ -214,7 +211,8 @@ module _ (model index second regions modes : List ℕ) (location : ℕ) (long : 
         all-append (here-fine width (omega arith))
         (all-append (invariants width 4 (on-all n width 4 (omega arith)) (omega arith) (λ e. omega (arith, e)))
         (all-append (modes-good model second index modes width long 5 5 (on-all n width 5 (omega arith)) (omega arith) (λ e. omega (arith, e)) (flow-good model index modes (paper .good) known))
-        (segment-all (GoodLine model second version n width) 6 0 0 1 (λ j l. time-line model second version n width j (on-all n width 6 (omega arith))))))
+        (all-append (segment-all (GoodLine model second version n width) 6 0 0 1 (λ j l. time-line model second version n width j (on-all n width 6 (omega arith))))
+        (variables-good model second version n width (on-all n width 8 (omega arith)) (stillAt model index modes)))))
 
     pub unsafe-fine : (u : ℕ) → u < entry index 2 → Table (entry index 0) (unsafeLines index regions location (perComponent index modes) u)
     unfolding unsafeLines
@@ -222,7 +220,7 @@ module _ (model index second regions modes : List ℕ) (location : ℕ) (long : 
         all-append (here-fine (entry index 0) (omega arith))
         (model-span model second (entry index 11) (entry index 0) (entry index 0) 3 0 index (unsafePlace u + 4) (on-x (entry index 0) (entry index 0) 3 (omega arith) (omega arith)) (omega arith) (λ e. omega (arith, e)) (paper .good .unsafe u l))
 
-    pub jump-fine : (targets switches : List ℕ) → entry index 1 ≤ length targets → KnownModes index targets → entry index 1 ≤ length switches → KnownSwitches index switches → Table (entry index 0 + entry index 0) (jumpLines index regions location (perComponent index modes) (perComponent index targets) switches)
+    pub jump-fine : (targets switches : List ℕ) → entry index 1 ≤ length targets → KnownModes index targets → entry index 1 ≤ length switches → KnownSwitches index switches → Table (entry index 0 + entry index 0) (jumpLines model index regions location (perComponent index modes) (perComponent index targets) switches)
     unfolding jumpLines landingLines perComponent
     jump-fine targets switches l k w s =
         let n = entry index 0 in
@@ -230,4 +228,4 @@ module _ (model index second regions modes : List ℕ) (location : ℕ) (long : 
         all-append (here-fine width (omega arith))
         (all-append (modes-good model second index targets width l 4 3 (on-both n width 4 (omega arith) (λ a b. omega arith)) (omega arith) (λ e. omega (arith, e)) (invariant-good model index targets (paper .good) k))
         (all-append (switches-good model second index switches width (on-both n width 7 (omega arith) (λ a b. omega arith)) w (paper .good) s)
-        (staying-good model second index switches width (on-both n width 8 (omega arith) (λ a b. omega arith)))))
+        (variables-good model second (entry index 11) n width (on-both n width 8 (omega arith) (λ a b. omega arith)) (restsAt model index switches))))

@@ -16,7 +16,7 @@ use Rattle.models.specs.Index.{entry, spanRows, unsafePlace, unsafeFrom, compon
 use Rattle.models.specs.Counts.{perComponent, KnownSwitches}
 use Rattle.models.proofs.GoodIndexLaws.{counted-at}
 use Rattle.hypotheses.specs.declared.Group.{Group}
-use Rattle.rules.specs.Runs.{present, modesIn, modesFit, movers, stayingVariables}
+use Rattle.rules.specs.Runs.{present, modesIn, modesFit, movers, stillVariables, stayingVariables}
 use Rattle.rules.specs.Obligations.{Hypothesis, Kind, atStart, afterFlow, clearOfUnsafe, afterJump, zeroOnly, onX, onNext, perRow, startHypotheses, flowHypotheses, unsafeHypotheses, jumpHypotheses, startObligations, flowObligations, unsafeObligations, jumpObligations}
 use Rattle.hypotheses.specs.Tables.{TableLine, linesIn, Stacked, hypothesesFrom, hypothesisRows, GoodLine}
 use Rattle.hypotheses.specs.Listing.{Task, taskOf, tasks, tasksFrom, tasksOf, goalsOf, groupTasks, jumpTasks, noUnsafe, emptyGroup, regionGroup, unsafeGroup, GoodGroup, startLines, flowLines, unsafeLines, jumpLines}
@@ -99,11 +99,11 @@ module _ (model index second regions : List ℕ) where
         (λ (b : Bool). tasks (elim b [ true ↦ perRow atStart location (startHypotheses (modesIn m location)) onX 0 (regionAt location) | false ↦ [] ]))
         (ap (every (λ mode. eqb (mode .start) 1)) (sym present-here) ∙ not-all))
 
-    pub flow-tasks : (table : List ℕ) (segments width : ℕ) → linesIn table segments ≡ flowLines index regions location (perComponent index modes) → tasksOf model second (entry index 0) table (regionGroup (entry index 11) regions location table segments (entry index 0) width) ≡ groupTasks m regionAt location 1
+    pub flow-tasks : (table : List ℕ) (segments width : ℕ) → GoodIndex model index → linesIn table segments ≡ flowLines model index regions location modes → tasksOf model second (entry index 0) table (regionGroup (entry index 11) regions location table segments (entry index 0) width) ≡ groupTasks m regionAt location 1
     unfolding groupTasks flowObligations zeroOnly modelFrom
-    flow-tasks table segments width e =
-        region-tasks table location segments (entry index 0) width _ (flowHypotheses (entry index 0) (regionAt location) (modesIn m location)) afterFlow location (stands .below) refl e
-        (flow-told model second index regions modes location long (stands .known) ∙ ap₂ (flowHypotheses (entry index 0)) (sym (region-at model index second regions location (stands .below))) present-here)
+    flow-tasks table segments width g e =
+        region-tasks table location segments (entry index 0) width _ (flowHypotheses (entry index 0) (regionAt location) (modesIn m location) (stillVariables m location)) afterFlow location (stands .below) refl e
+        (flow-told model second index regions modes location long (stands .known) g stands ∙ ap₂ (λ (r : Condition) (ms : List Mode). flowHypotheses (entry index 0) r ms (stillVariables m location)) (sym (region-at model index second regions location (stands .below))) present-here)
 
     -- unsafe conditions
     condition-at : (u : ℕ) → u < entry index 2 → groupTasks m regionAt location (2 + u) ≡ tasks (unsafeObligations m regionAt location 0 (unsafeFrom model (entry index 11) (entry index 0) (entry index 1) index (unsafePlace u) ∷ []))
@@ -142,7 +142,7 @@ module _ (model index second regions : List ℕ) where
     -- joint switches
     pub jump-tasks :
         (table : List ℕ) (segments width target : ℕ) (targets switches : List ℕ) → entry index 1 ≤ length targets → Stands model index target targets → entry index 1 ≤ length switches → KnownSwitches index switches → GoodIndex model index
-        → linesIn table segments ≡ jumpLines index regions location (perComponent index modes) (perComponent index targets) switches
+        → linesIn table segments ≡ jumpLines model index regions location (perComponent index modes) (perComponent index targets) switches
         → tasksOf model second (entry index 0) table (regionGroup (entry index 11) regions target table segments (entry index 0) width) ≡ jumpTasks m regionAt location (perComponent index switches) target
     unfolding jumpTasks jumpObligations zeroOnly modelFrom
     jump-tasks table segments width target targets switches l there w known g e =
@@ -220,7 +220,7 @@ no-rows-start model index second regions table location h e =
 pub no-rows-flow : (model index second regions table : List ℕ) (location : ℕ) → location < locationCount (componentsFrom model index) → entry regions (2 * location + 1) ≡ 0 → tasksOf model second (entry index 0) table emptyGroup ≡ groupTasks (modelFrom model index) (regionsOf model index second regions) location 1
 unfolding groupTasks flowObligations emptyGroup tasksOf goalsOf tasksFrom tasks rowsFrom perRow
 no-rows-flow model index second regions table location h e =
-    sym (ap (λ (r : Condition). tasks (perRow afterFlow location (flowHypotheses (modelFrom model index .variables) (regionsOf model index second regions location) (modesIn (modelFrom model index) location)) (onNext (modelFrom model index .variables)) 0 r)) (no-region model index second regions location h e))
+    sym (ap (λ (r : Condition). tasks (perRow afterFlow location (flowHypotheses (modelFrom model index .variables) (regionsOf model index second regions location) (modesIn (modelFrom model index) location) (stillVariables (modelFrom model index) location)) (onNext (modelFrom model index .variables)) 0 r)) (no-region model index second regions location h e))
 
 -- nor where the target's region has none
 pub no-rows-jump : (model index second regions : List ℕ) (location target : ℕ) (switches : List ℕ) → target < locationCount (componentsFrom model index) → entry regions (2 * target + 1) ≡ 0 → jumpTasks (modelFrom model index) (regionsOf model index second regions) location switches target ≡ []

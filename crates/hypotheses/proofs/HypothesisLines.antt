@@ -1,30 +1,31 @@
 -- What the lines of a table stand for: the hypotheses of the definitions, group by group. Assumes nothing.
 use mathlib.Core.Path.{_≡_, refl, sym, ap, ap₂, _∙_}
-use mathlib.Core.Bool.{Bool, true, false, cond}
+use mathlib.Core.Bool.{Bool, true, false, cond, _||_}
 use mathlib.Core.List.{List, [], _∷_, _++_, map, append-assoc, map-append}
 use Prim.Native.Nat.{ℕ, zero, suc, _+_, _*_, _≤_, _<_}
 use native.Mathlib.Nat.{zero-add}
 use native.Mathlib.Omega.{arith}
 use lib.Dec.{eqb}
 use lib.ListN.{length, getD, drop}
-use lib.Seq.{getD-take}
 use Rattle.farkas.specs.Rows.{Row}
 use Rattle.formats.specs.Versions.{rowBytes}
 use Rattle.formats.specs.Rows.{SheetRow, Condition}
 use Rattle.fields.specs.Places.{rowAt, rowsFrom}
 use Rattle.formats.specs.Model.{Mode, Switch, Component}
-use Rattle.formats.specs.Joint.{stays, switchOf, countUp, joinAll, numbersFrom}
-use Rattle.models.specs.Index.{entry, ownerPlace, componentPlace, modePlace, switchPlace, unsafePlace, spanRows, modeFrom, switchFrom, componentsFrom, modelFrom, GoodIndex}
+use Rattle.formats.specs.Joint.{stays, switchOf, those, countUp, joinAll}
+use Rattle.models.specs.Index.{entry, componentPlace, modePlace, switchPlace, unsafePlace, spanRows, modeFrom, switchFrom, componentsFrom, modelFrom, GoodIndex}
 use Rattle.models.specs.Counts.{componentAt, perComponent, KnownSwitches}
 use Rattle.models.proofs.GoodIndexLaws.{components-drop, components-end, switch-at}
 use Rattle.joint_switches.proofs.JointLoops.{componentsOn, numbersOn, per-component-drop}
-use Rattle.rules.specs.Runs.{present, movers, stayingVariables}
+use Rattle.rules.specs.Runs.{present, movers, variablesThat, blankInFlow, stillVariables, ownerStays, blankInJump, stayingVariables}
 use Rattle.rules.specs.Obligations.{Hypothesis, nowhere, standing, onX, onNext, onRates, timeRow, stayingRows, modeRows, startHypotheses, flowHypotheses, unsafeHypotheses, jumpHypotheses}
 use Rattle.hypotheses.specs.Tables.{TableLine, line, segment, rowPlace, hypothesisIn, hypothesisOf, keeps, keepsUp, keepsDown}
-use Rattle.hypotheses.specs.Listing.{keptLines, modeLines, switchLine, switchLines, stayingLine, stayingLines, hereLines, startLines, flowLines, unsafeLines, landingLines, jumpLines}
-use Rattle.papers.specs.Standing.{KnownModes}
-use Rattle.rules.proofs.ListFacts.{joined-told}
-use Rattle.hypotheses.proofs.ModeLines.{modesOn, modes-next, modes-end, switchesOn, switches-next, switches-end, switch-stays, switch-moves, variable-stays, variable-moves}
+use Rattle.hypotheses.specs.Listing.{keptLines, modeLines, switchLine, switchLines, variableLine, variableAt, variableLines, stayingLines, stillLines, hereLines, startLines, flowLines, unsafeLines, landingLines, jumpLines}
+use Rattle.papers.specs.Standing.{KnownModes, Stands}
+use Rattle.papers.specs.Blanks.{stillAt, restsAt}
+use Rattle.papers.proofs.BlankLaws.{still-told, rests-told}
+use Rattle.rules.proofs.ListFacts.{joined-told, joined-those}
+use Rattle.hypotheses.proofs.ModeLines.{modesOn, modes-next, modes-end, switchesOn, switches-next, switches-end, switch-stays, switch-moves}
 use Rattle.papers.proofs.StandingLaws.{presentOn, present-end, present-next}
 
 module _ (model second : List ℕ) (version n : ℕ) where
@@ -130,59 +131,51 @@ module _ (model second index switches : List ℕ) (long : entry index 1 ≤ leng
   pub told-switches : told model second (entry index 11) (entry index 0) (switchesOn index switches 0) ≡ joinAll (λ w. map (standing 0 onX) (w .jump)) (movers (componentsFrom model index) (perComponent index switches))
   told-switches = from-switch (entry index 1) 0 (zero-add (entry index 1))
 
--- rows of staying variables
-chosen : {B : Type 0} (g : ℕ → List B) (b : Bool) (v : ℕ) (rest : List ℕ) → joinAll g (cond b (v ∷ rest) rest) ≡ cond b (g v) [] ++ joinAll g rest
-unfolding joinAll
-chosen g true v rest = refl
-chosen g false v rest = refl
+-- rows of variables that keep their value: what is told of each, and nothing of the others
+joined-below : {B : Type 0} (f g : ℕ → List B) (k n : ℕ) → ((v : ℕ) → v < k + n → f v ≡ g v) → joinAll f (countUp k n) ≡ joinAll g (countUp k n)
+unfolding joinAll countUp
+joined-below f g k zero h = refl
+joined-below f g k (suc n) h = ap₂ (λ us vs. us ++ vs) (h k (omega arith)) (joined-below f g (suc k) n (λ v l. h v (omega arith)))
 
-module _ (model index switches : List ℕ) (good : GoodIndex model index) where
-  abbrev ownerStays : ℕ → Bool
-  ownerStays owner = eqb (getD (perComponent index switches) owner stays) stays
+module _ {B : Type 0} (g : TableLine → B) (f : ℕ → List B) (two : (v : ℕ) → map g (segment 8 v v 2) ≡ f v) where
+  one-told : (b : Bool) (v : ℕ) → map g (variableLine b v) ≡ cond b (f v) []
+  unfolding variableLine
+  one-told true v = two v
+  one-told false v = refl
 
-  abbrev itsStays : ℕ → Bool
-  itsStays v = eqb (getD switches (entry index (ownerPlace v)) stays) stays
+  -- by another test that says the same of each
+  variables-told : (n : ℕ) (test found : ℕ → Bool) → ((v : ℕ) → v < n → test v ≡ found v) → map g (variableLines found n) ≡ joinAll f (those test (countUp 0 n))
+  unfolding variableLines
+  variables-told n test found e =
+      joined-told g (variableAt found) (countUp 0 n)
+      ∙ joined-below (λ v. map g (variableAt found v)) (λ v. cond (test v) (f v) []) 0 n (λ v h. one-told (found v) v ∙ ap (λ (b : Bool). cond b (f v) []) (sym (e v (omega arith))))
+      ∙ sym (joined-those f test (countUp 0 n))
 
-  owner-same : (v : ℕ) → v < entry index 0 → ownerStays (entry index (ownerPlace v)) ≡ itsStays v
-  unfolding perComponent
-  owner-same v h = ap (λ (i : ℕ). eqb i stays) (getD-take (entry index 1) switches (entry index (ownerPlace v)) stays (good .owners v h))
+  module _ {model index : List ℕ} (good : GoodIndex model index) where
+    pub still-each : (location : ℕ) (modes : List ℕ) → Stands model index location modes → entry index 1 ≤ length modes → map g (stillLines model index modes) ≡ joinAll f (stillVariables (modelFrom model index) location)
+    unfolding stillVariables variablesThat modelFrom
+    still-each location modes stands long =
+        variables-told (entry index 0) (blankInFlow (modelFrom model index) location) (stillAt model index modes) (λ v h. still-told good v h location modes stands long)
 
-  -- what is told of each variable whose owner stays, and nothing of the others
-  module _ {B : Type 0} (each f : ℕ → List B) (kept : (v : ℕ) → itsStays v ≡ true → each v ≡ f v) (free : (v : ℕ) → itsStays v ≡ false → each v ≡ []) where
-    line-told : (v : ℕ) → v < entry index 0 → each v ≡ cond (ownerStays (entry index (ownerPlace v))) (f v) []
-    line-told v h = go (itsStays v) refl
-      where
-        go : (b : Bool) → itsStays v ≡ b → each v ≡ cond (ownerStays (entry index (ownerPlace v))) (f v) []
-        go true e = kept v e ∙ sym (ap (λ (b : Bool). cond b (f v) []) (owner-same v h ∙ e))
-        go false e = free v e ∙ sym (ap (λ (b : Bool). cond b (f v) []) (owner-same v h ∙ e))
+    pub staying-each : (switches : List ℕ) → KnownSwitches index switches → entry index 1 ≤ length switches → map g (stayingLines model index switches) ≡ joinAll f (stayingVariables (modelFrom model index) (perComponent index switches))
+    unfolding stayingVariables variablesThat modelFrom
+    staying-each switches known long =
+        variables-told (entry index 0) (λ v. ownerStays (modelFrom model index) (perComponent index switches) v || blankInJump (modelFrom model index) (perComponent index switches) v) (restsAt model index switches)
+        (λ v h. rests-told good v h switches known long)
 
-    -- the variables from v on
-    staying-from : (v d : ℕ) → v + d ≤ entry index 0 → joinAll each (countUp v d) ≡ joinAll f (numbersFrom v ownerStays (map (λ v. entry index (ownerPlace v)) (countUp v d)))
-    unfolding joinAll countUp numbersFrom
-    staying-from v zero h = refl
-    staying-from v (suc d) h =
-        let rest = numbersFrom (suc v) ownerStays (map (λ v. entry index (ownerPlace v)) (countUp (suc v) d)) in
-        ap₂ (λ (xs ys : List B). xs ++ ys) (line-told v (omega arith)) (staying-from (suc v) d (omega arith))
-        ∙ sym (chosen f (ownerStays (entry index (ownerPlace v))) v rest)
-
-    pub staying-each : joinAll each (countUp 0 (entry index 0)) ≡ joinAll f (stayingVariables (modelFrom model index) (perComponent index switches))
-    unfolding stayingVariables modelFrom
-    staying-each = staying-from 0 (entry index 0) (none (entry index 0))
-      where
-        none : (n : ℕ) → 0 + n ≤ n
-        none n = omega arith
-
-module _ (model second index switches : List ℕ) (good : GoodIndex model index) where
-  stays-told : (v : ℕ) → eqb (getD switches (entry index (ownerPlace v)) stays) stays ≡ true → told model second (entry index 11) (entry index 0) (stayingLine index switches v) ≡ map nowhere (stayingRows (entry index 0) v)
+module _ (model second index : List ℕ) (good : GoodIndex model index) where
+  two-told : (v : ℕ) → told model second (entry index 11) (entry index 0) (segment 8 v v 2) ≡ map nowhere (stayingRows (entry index 0) v)
   unfolding hypothesisOf hypothesisIn line segment countUp stayingRows keeps keepsUp keepsDown
-  stays-told v e = ap (told model second (entry index 11) (entry index 0)) (variable-stays index switches v e)
+  two-told v = refl
 
-  pub told-staying : told model second (entry index 11) (entry index 0) (stayingLines index switches) ≡ map nowhere (joinAll (stayingRows (entry index 0)) (stayingVariables (modelFrom model index) (perComponent index switches)))
-  unfolding stayingLines
-  told-staying =
-      joined-told (hypothesisOf model second (entry index 11) (entry index 0)) (stayingLine index switches) (countUp 0 (entry index 0))
-      ∙ staying-each model index switches good (λ v. told model second (entry index 11) (entry index 0) (stayingLine index switches v)) (λ v. map nowhere (stayingRows (entry index 0) v))
-      stays-told (λ v e. ap (told model second (entry index 11) (entry index 0)) (variable-moves index switches v e))
+  pub told-still : (location : ℕ) (modes : List ℕ) → Stands model index location modes → entry index 1 ≤ length modes → told model second (entry index 11) (entry index 0) (stillLines model index modes) ≡ map nowhere (joinAll (stayingRows (entry index 0)) (stillVariables (modelFrom model index) location))
+  told-still location modes stands long =
+      still-each (hypothesisOf model second (entry index 11) (entry index 0)) (λ v. map nowhere (stayingRows (entry index 0) v)) two-told good location modes stands long
+      ∙ sym (joined-told nowhere (stayingRows (entry index 0)) (stillVariables (modelFrom model index) location))
+
+  pub told-staying : (switches : List ℕ) → KnownSwitches index switches → entry index 1 ≤ length switches → told model second (entry index 11) (entry index 0) (stayingLines model index switches) ≡ map nowhere (joinAll (stayingRows (entry index 0)) (stayingVariables (modelFrom model index) (perComponent index switches)))
+  told-staying switches known long =
+      staying-each (hypothesisOf model second (entry index 11) (entry index 0)) (λ v. map nowhere (stayingRows (entry index 0) v)) two-told good switches known long
       ∙ sym (joined-told nowhere (stayingRows (entry index 0)) (stayingVariables (modelFrom model index) (perComponent index switches)))
 
 -- The four tables. A location's modes, one per component, are those of the array
@@ -231,11 +224,13 @@ module _ (model second index regions modes : List ℕ) (location : ℕ) (long : 
   unfolding hypothesisOf hypothesisIn line segment countUp
   time-told = refl
 
-  pub flow-told : told model second (entry index 11) (entry index 0) (flowLines index regions location (perComponent index modes)) ≡ flowHypotheses (entry index 0) region here
+  pub flow-told : GoodIndex model index → Stands model index location modes → told model second (entry index 11) (entry index 0) (flowLines model index regions location modes) ≡ flowHypotheses (entry index 0) region here (stillVariables (modelFrom model index) location)
   unfolding flowLines flowHypotheses
-  flow-told =
-      here-told (modeLines 4 3 index 0 (perComponent index modes) ++ (modeLines 5 5 index 0 (perComponent index modes) ++ segment 6 0 0 1)) _
-      (both (modeLines 4 3 index 0 (perComponent index modes)) _ next-told (both (modeLines 5 5 index 0 (perComponent index modes)) (segment 6 0 0 1) rates-told time-told))
+  flow-told good stands =
+      here-told (modeLines 4 3 index 0 (perComponent index modes) ++ (modeLines 5 5 index 0 (perComponent index modes) ++ (segment 6 0 0 1 ++ stillLines model index modes))) _
+      (both (modeLines 4 3 index 0 (perComponent index modes)) _ next-told
+      (both (modeLines 5 5 index 0 (perComponent index modes)) _ rates-told
+      (both (segment 6 0 0 1) (stillLines model index modes) time-told (told-still model second index good location modes stands long))))
 
   pub unsafe-told : (u : ℕ) → told model second (entry index 11) (entry index 0) (unsafeLines index regions location (perComponent index modes) u) ≡ unsafeHypotheses region here (spanRows model (entry index 11) (entry index 0) index (unsafePlace u + 4))
   unfolding unsafeLines unsafeHypotheses hypothesisIn
@@ -243,11 +238,11 @@ module _ (model second index regions modes : List ℕ) (location : ℕ) (long : 
 
   pub jump-lines-told :
       (targets switches : List ℕ) → entry index 1 ≤ length targets → KnownModes index targets → entry index 1 ≤ length switches → KnownSwitches index switches → GoodIndex model index
-      → told model second (entry index 11) (entry index 0) (jumpLines index regions location (perComponent index modes) (perComponent index targets) switches) ≡ jumpHypotheses (entry index 0) region here (present (componentsFrom model index) (perComponent index targets)) (movers (componentsFrom model index) (perComponent index switches)) (stayingVariables (modelFrom model index) (perComponent index switches))
+      → told model second (entry index 11) (entry index 0) (jumpLines model index regions location (perComponent index modes) (perComponent index targets) switches) ≡ jumpHypotheses (entry index 0) region here (present (componentsFrom model index) (perComponent index targets)) (movers (componentsFrom model index) (perComponent index switches)) (stayingVariables (modelFrom model index) (perComponent index switches))
   unfolding jumpLines landingLines jumpHypotheses hypothesisIn modeFrom perComponent
   jump-lines-told targets switches l k w s g =
       let after = modeLines 4 3 index 0 (perComponent index targets) in
       let moving = switchLines index 0 (perComponent index switches) in
-      here-told (after ++ (moving ++ stayingLines index switches)) _
-      (both after (moving ++ stayingLines index switches) (told-modes model second index targets l k 4 3 (λ mode. mode .invariant) (onNext (entry index 0)) (λ p r. refl) (λ i. refl))
-      (both moving (stayingLines index switches) (told-switches model second index switches w s) (told-staying model second index switches g)))
+      here-told (after ++ (moving ++ stayingLines model index switches)) _
+      (both after (moving ++ stayingLines model index switches) (told-modes model second index targets l k 4 3 (λ mode. mode .invariant) (onNext (entry index 0)) (λ p r. refl) (λ i. refl))
+      (both moving (stayingLines model index switches) (told-switches model second index switches w s) (told-staying model second index g switches s w)))

@@ -1,31 +1,28 @@
 -- Lines of modes and of switches, component by component: a turn of the loop that pushes them, and its end. Assumes nothing.
 use mathlib.Core.Path.{_≡_, refl, sym, ap, _∙_}
-use mathlib.Core.Bool.{true, false}
-use mathlib.Core.List.{List, [], _++_}
+use mathlib.Core.Bool.{Bool, true, false, _&&_}
+use mathlib.Core.List.{List, [], _∷_, _++_}
 use Prim.Native.Nat.{ℕ, _+_, _≤_, _<_}
 use native.Mathlib.Numerals.{add-one}
 use native.Mathlib.Omega.{arith}
 use lib.Dec.{eqb}
 use lib.ListN.{length, getD, drop-of-length-le}
-use Rattle.formats.specs.Joint.{stays}
-use Rattle.models.specs.Index.{entry, ownerPlace, componentPlace, modePlace, switchPlace, GoodIndex}
+use Rattle.formats.specs.Joint.{stays, countUp, joinAll}
+use Rattle.formats.specs.Versions.{keepsBlanks}
+use Rattle.models.specs.Index.{entry, componentPlace, modePlace, switchPlace, spanRows, GoodIndex}
 use Rattle.models.specs.Counts.{perComponent, KnownSwitches}
 use Rattle.papers.specs.Standing.{GoodModes}
+use Rattle.papers.specs.Blanks.{ownerIn, stillAt, staysAt, restsAt}
+use Rattle.papers.proofs.BlankLaws.{plain-rests}
+use Rattle.rules.proofs.ListFacts.{joined-alike}
+pub use Rattle.papers.proofs.StandingLaws.{mode-within, switch-within}
+use Rattle.rules.specs.Runs.{unmentioned}
 use Rattle.joint_switches.proofs.JointLoops.{numbersOn, per-component-length, per-component-drop}
 use Rattle.hypotheses.specs.Tables.{TableLine, segment}
-use Rattle.hypotheses.specs.Listing.{keptLines, modeLines, switchLine, switchLines, stayingLine, FewRows, FewJumps}
+use Rattle.hypotheses.specs.Listing.{keptLines, modeLines, switchLine, switchLines, variableLine, variableAt, variableLines, stayingLines, stillLines, FewRows, FewJumps}
 
 numbers-end : (index numbers : List ℕ) (long : entry index 1 ≤ length numbers) (k : ℕ) → entry index 1 ≤ k → numbersOn index numbers k ≡ []
 numbers-end index numbers long k h = drop-of-length-le (perComponent index numbers) {i = k} (omega (arith, per-component-length index numbers long))
-
--- the numbers of a mode and of a switch are among those of an index
-pub mode-within : (k mode offset : ℕ) → k < 4 → mode < 8 → offset ≤ 5 → modePlace (componentPlace k) mode + offset + 1 < 1004
-unfolding modePlace componentPlace
-mode-within k mode offset h l o = omega arith
-
-pub switch-within : (k i : ℕ) → k < 4 → i < 32 → switchPlace (componentPlace k) i + 3 + 1 < 1004
-unfolding switchPlace componentPlace
-switch-within k i h l = omega arith
 
 -- the lines of the modes from component k on
 abbrev pub modesOn : ℕ → ℕ → List ℕ → List ℕ → ℕ → List TableLine
@@ -66,14 +63,34 @@ pub switch-moves : (index : List ℕ) (k i : ℕ) → eqb i stays ≡ false → 
 unfolding switchLine
 switch-moves index k i e = rw (switchLine, e) refl
 
--- of staying variables
-pub variable-stays : (index switches : List ℕ) (v : ℕ) → eqb (getD switches (entry index (ownerPlace v)) stays) stays ≡ true → stayingLine index switches v ≡ segment 8 v v 2
-unfolding stayingLine
-variable-stays index switches v e = rw (stayingLine, e) refl
+-- of variables that keep their value
+pub variable-free : (kept : Bool) (v : ℕ) → kept ≡ false → variableLine kept v ≡ []
+unfolding variableLine
+variable-free kept v e = ap (λ (b : Bool). variableLine b v) e
 
-pub variable-moves : (index switches : List ℕ) (v : ℕ) → eqb (getD switches (entry index (ownerPlace v)) stays) stays ≡ false → stayingLine index switches v ≡ []
-unfolding stayingLine
-variable-moves index switches v e = rw (stayingLine, e) refl
+pub variable-kept : (kept : Bool) (v : ℕ) → kept ≡ true → variableLine kept v ≡ segment 8 v v 2
+unfolding variableLine
+variable-kept kept v e = ap (λ (b : Bool). variableLine b v) e
+
+none-joined : {B : Type 0} (f : ℕ → List B) (xs : List ℕ) → ((v : ℕ) → f v ≡ []) → joinAll f xs ≡ []
+unfolding joinAll
+none-joined f [] h = refl
+none-joined f (x ∷ xs) h = ap (λ zs. zs ++ joinAll f xs) (h x) ∙ none-joined f xs h
+
+-- where no blank is kept, a flow keeps none
+pub nothing-still : (model index modes : List ℕ) → keepsBlanks (entry index 11) ≡ false → stillLines model index modes ≡ []
+unfolding variableLines stillAt
+nothing-still model index modes e =
+    none-joined (variableAt (stillAt model index modes)) (countUp 0 (entry index 0))
+    (λ v. variable-free (stillAt model index modes v) v
+    (ap (λ (b : Bool). b && unmentioned v (spanRows model (entry index 11) (entry index 0) index (modePlace (componentPlace (ownerIn index v)) (getD modes (ownerIn index v) 0) + 5))) e))
+
+-- and a jump only those whose owners stay
+pub plain-staying : (model index switches : List ℕ) → keepsBlanks (entry index 11) ≡ false → variableLines (staysAt index switches) (entry index 0) ≡ stayingLines model index switches
+unfolding variableLines
+plain-staying model index switches e =
+    joined-alike (variableAt (staysAt index switches)) (variableAt (restsAt model index switches)) (countUp 0 (entry index 0))
+    (λ v. ap (λ (b : Bool). variableLine b v) (plain-rests model index switches v e))
 
 -- in a good index, conditions have few rows
 pub few-rows : (s index modes : List ℕ) (offset : ℕ) → GoodIndex s index → offset ≤ 5 → GoodModes s index modes offset → FewRows index modes offset
@@ -88,6 +105,3 @@ few-jumps s index switches g known =
             few = λ e. g .blocks k h .switches (getD switches k 0) (known .known k h e) .jump .few;
           };
     }
-
-pub few-owners : (s index : List ℕ) → GoodIndex s index → (v : ℕ) → v < entry index 0 → entry index (ownerPlace v) < 4
-few-owners s index g v h = omega (arith, g .owners v h, g .few)

@@ -12,20 +12,19 @@ use Rattle.formats.specs.Versions.{rowBytes}
 use Rattle.formats.specs.Rows.{Condition}
 use Rattle.fields.specs.Places.{rowsFrom}
 use Rattle.formats.specs.Model.{Mode, Component, Switch}
-use Rattle.formats.specs.Joint.{stays, switchOf, countUp, joinAll}
-use Rattle.models.specs.Index.{entry, ownerPlace, componentPlace, modePlace, switchPlace, unsafePlace, spanRows, modeFrom, switchFrom, componentsFrom, modelFrom, GoodIndex}
+use Rattle.formats.specs.Joint.{stays, switchOf, countUp}
+use Rattle.models.specs.Index.{entry, componentPlace, modePlace, switchPlace, unsafePlace, spanRows, modeFrom, switchFrom, componentsFrom, modelFrom, GoodIndex}
 use Rattle.models.specs.Counts.{componentAt, perComponent, KnownSwitches}
 use Rattle.models.proofs.GoodIndexLaws.{components-drop, components-end, switch-at}
 use Rattle.joint_switches.proofs.JointLoops.{componentsOn, numbersOn, per-component-drop}
-use Rattle.rules.specs.Runs.{present, stayingVariables}
+use Rattle.rules.specs.Runs.{present, stillVariables, stayingVariables}
 use Rattle.rules.specs.Roles.{Role, owned, rowRoles, modeRoles, moverRoles, stayingRole, startRoles, flowRoles, unsafeRoles, jumpRoles}
-use Rattle.rules.proofs.ListFacts.{joined-told}
 use Rattle.hypotheses.specs.Tables.{TableLine, line, segment, roleOf}
-use Rattle.hypotheses.specs.Listing.{keptLines, modeLines, switchLine, switchLines, stayingLine, stayingLines, hereLines, startLines, flowLines, unsafeLines, landingLines, jumpLines}
-use Rattle.papers.specs.Standing.{KnownModes}
+use Rattle.hypotheses.specs.Listing.{keptLines, modeLines, switchLine, switchLines, stayingLines, stillLines, hereLines, startLines, flowLines, unsafeLines, landingLines, jumpLines}
+use Rattle.papers.specs.Standing.{KnownModes, Stands}
 use Rattle.papers.proofs.StandingLaws.{presentOn, present-end, present-next}
-use Rattle.hypotheses.proofs.ModeLines.{modesOn, modes-next, modes-end, switchesOn, switches-next, switches-end, switch-stays, switch-moves, variable-stays, variable-moves}
-use Rattle.hypotheses.proofs.HypothesisLines.{staying-each}
+use Rattle.hypotheses.proofs.ModeLines.{modesOn, modes-next, modes-end, switchesOn, switches-next, switches-end, switch-stays, switch-moves}
+use Rattle.hypotheses.proofs.HypothesisLines.{still-each, staying-each}
 
 abbrev pub roles : List TableLine → List Role
 roles lines = map roleOf lines
@@ -108,18 +107,10 @@ module _ (model index switches : List ℕ) (long : entry index 1 ≤ length swit
   pub switches-roles : roles (switchesOn index switches 0) ≡ moverRoles 0 (componentsFrom model index) (perComponent index switches)
   switches-roles = from-switch (entry index 1) 0 (zero-add (entry index 1))
 
--- rows of staying variables
-module _ (model index switches : List ℕ) (good : GoodIndex model index) where
-  stays-roles : (v : ℕ) → eqb (getD switches (entry index (ownerPlace v)) stays) stays ≡ true → roles (stayingLine index switches v) ≡ stayingRole v
-  unfolding roleOf line segment countUp stayingRole
-  stays-roles v e = ap roles (variable-stays index switches v e)
-
-  pub staying-roles : roles (stayingLines index switches) ≡ joinAll stayingRole (stayingVariables (modelFrom model index) (perComponent index switches))
-  unfolding stayingLines
-  staying-roles =
-      joined-told roleOf (stayingLine index switches) (countUp 0 (entry index 0))
-      ∙ staying-each model index switches good (λ v. roles (stayingLine index switches v)) stayingRole
-      stays-roles (λ v e. ap roles (variable-moves index switches v e))
+-- rows of variables that keep their value
+two-roles : (v : ℕ) → roles (segment 8 v v 2) ≡ stayingRole v
+unfolding roleOf line segment countUp stayingRole
+two-roles v = refl
 
 -- The four tables. A location's modes, one per component, are those of the array
 module _ (model second index regions modes : List ℕ) (location : ℕ) (long : entry index 1 ≤ length modes) (known : KnownModes index modes) where
@@ -151,12 +142,13 @@ module _ (model second index regions modes : List ℕ) (location : ℕ) (long : 
   unfolding roleOf line segment countUp
   time-role = refl
 
-  pub flow-roles : roles (flowLines index regions location (perComponent index modes)) ≡ flowRoles region here
+  pub flow-roles : GoodIndex model index → Stands model index location modes → roles (flowLines model index regions location modes) ≡ flowRoles region here (stillVariables (modelFrom model index) location)
   unfolding flowLines flowRoles modeFrom
-  flow-roles =
-      here-roles (modeLines 4 3 index 0 (perComponent index modes) ++ (modeLines 5 5 index 0 (perComponent index modes) ++ segment 6 0 0 1))
+  flow-roles good stands =
+      here-roles (modeLines 4 3 index 0 (perComponent index modes) ++ (modeLines 5 5 index 0 (perComponent index modes) ++ (segment 6 0 0 1 ++ stillLines model index modes)))
       (both (modeLines 4 3 index 0 (perComponent index modes)) _ (invariant-roles 4)
-      (both (modeLines 5 5 index 0 (perComponent index modes)) (segment 6 0 0 1) (modes-roles model index modes long known 5 5 (λ mode. mode .flow) (λ i. refl)) time-role))
+      (both (modeLines 5 5 index 0 (perComponent index modes)) _ (modes-roles model index modes long known 5 5 (λ mode. mode .flow) (λ i. refl))
+      (both (segment 6 0 0 1) (stillLines model index modes) time-role (still-each roleOf stayingRole two-roles good location modes stands long))))
 
   pub unsafe-roles : (u : ℕ) → roles (unsafeLines index regions location (perComponent index modes) u) ≡ unsafeRoles region here (spanRows model (entry index 11) (entry index 0) index (unsafePlace u + 4))
   unfolding unsafeLines unsafeRoles
@@ -164,11 +156,11 @@ module _ (model second index regions modes : List ℕ) (location : ℕ) (long : 
 
   pub jump-lines-roles :
       (targets switches : List ℕ) → entry index 1 ≤ length targets → KnownModes index targets → entry index 1 ≤ length switches → KnownSwitches index switches → GoodIndex model index
-      → roles (jumpLines index regions location (perComponent index modes) (perComponent index targets) switches) ≡ jumpRoles region here (present (componentsFrom model index) (perComponent index targets)) (componentsFrom model index) (perComponent index switches) (stayingVariables (modelFrom model index) (perComponent index switches))
+      → roles (jumpLines model index regions location (perComponent index modes) (perComponent index targets) switches) ≡ jumpRoles region here (present (componentsFrom model index) (perComponent index targets)) (componentsFrom model index) (perComponent index switches) (stayingVariables (modelFrom model index) (perComponent index switches))
   unfolding jumpLines landingLines jumpRoles modeFrom perComponent
   jump-lines-roles targets switches l k w s g =
       let after = modeLines 4 3 index 0 (perComponent index targets) in
       let moving = switchLines index 0 (perComponent index switches) in
-      here-roles (after ++ (moving ++ stayingLines index switches))
-      (both after (moving ++ stayingLines index switches) (modes-roles model index targets l k 4 3 (λ mode. mode .invariant) (λ i. refl))
-      (both moving (stayingLines index switches) (switches-roles model index switches w s) (staying-roles model index switches g)))
+      here-roles (after ++ (moving ++ stayingLines model index switches))
+      (both after (moving ++ stayingLines model index switches) (modes-roles model index targets l k 4 3 (λ mode. mode .invariant) (λ i. refl))
+      (both moving (stayingLines model index switches) (switches-roles model index switches w s) (staying-each roleOf stayingRole two-roles g switches s w)))

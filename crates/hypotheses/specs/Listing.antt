@@ -1,7 +1,7 @@
 -- The lines of a table of hypotheses, group by group, from the numbers that an index keeps; what is to be proved from them, goal by
 -- goal; and where marking stands. Assumes nothing.
 use mathlib.Core.Path.{_≡_}
-use mathlib.Core.Bool.{Bool, true, false}
+use mathlib.Core.Bool.{Bool, true, false, cond}
 use mathlib.Core.List.{List, [], _∷_, _++_, map}
 use Prim.Native.Nat.{ℕ, zero, suc, _+_, _*_, _≤_, _<_}
 use lib.Dec.{eqb}
@@ -15,13 +15,15 @@ use Rattle.formats.specs.Rows.{Condition}
 use Rattle.formats.specs.Model.{Model}
 use Rattle.formats.specs.Locations.{locationCount, modesAt}
 use Rattle.formats.specs.Joint.{stays, countUp, joinAll, JointSwitch}
-use Rattle.models.specs.Index.{entry, ownerPlace, componentPlace, modePlace, switchPlace, unsafePlace, componentsFrom, modelFrom}
+use Rattle.models.specs.Index.{entry, componentPlace, modePlace, switchPlace, unsafePlace, componentsFrom, modelFrom}
 use Rattle.hypotheses.specs.declared.Group.{Group}
 use Rattle.rules.specs.Obligations.{Obligation, zeroOnly, onNext, startObligations, flowObligations, unsafeObligations, locationObligations, jumpObligations, jumpsObligations}
 unfoldable pub use Rattle.rules.specs.Roles.{noUnsafe}
 use Rattle.rules.specs.Marking.{Marked, passed, stopped}
 use Rattle.hypotheses.specs.Tables.{TableLine, segment, endOf, linesIn, Stacked, hypothesesFrom, hypothesisRows, GoodLine, markWith}
 use Rattle.papers.specs.Paper.{regionsOf}
+use Rattle.papers.specs.Blanks.{stillAt, restsAt}
+use Rattle.models.specs.Counts.{perComponent}
 use Rattle.formats.specs.Versions.{rowBytes}
 
 -- the rows that two numbers of an index tell, of one owner: the place of the first, and how many
@@ -42,13 +44,23 @@ unfoldable pub switchLines : List ℕ → ℕ → List ℕ → List TableLine
 switchLines index k [] = []
 switchLines index k (i ∷ switches) = switchLine index k i ++ switchLines index (suc k) switches
 
--- of each variable whose owner stays, its two rows
-unfoldable pub stayingLine : List ℕ → List ℕ → ℕ → List TableLine
-stayingLine index switches v =
-    elim (eqb (getD switches (entry index (ownerPlace v)) stays) stays) [ true ↦ segment 8 v v 2 | false ↦ [] ]
+-- the two rows of a variable that keeps its value
+unfoldable pub variableLine : Bool → ℕ → List TableLine
+variableLine kept v = cond kept (segment 8 v v 2) []
 
-unfoldable pub stayingLines : List ℕ → List ℕ → List TableLine
-stayingLines index switches = joinAll (stayingLine index switches) (countUp 0 (entry index 0))
+-- of each variable that passes a test
+abbrev pub variableAt : (ℕ → Bool) → ℕ → List TableLine
+variableAt test v = variableLine (test v) v
+
+unfoldable pub variableLines : (ℕ → Bool) → ℕ → List TableLine
+variableLines test n = joinAll (variableAt test) (countUp 0 n)
+
+-- of those that keep their value in a jump by these switches, and in a flow in these modes
+abbrev pub stayingLines : List ℕ → List ℕ → List ℕ → List TableLine
+stayingLines model index switches = variableLines (restsAt model index switches) (entry index 0)
+
+abbrev pub stillLines : List ℕ → List ℕ → List ℕ → List TableLine
+stillLines model index modes = variableLines (stillAt model index modes) (entry index 0)
 
 -- the conditions of modes, at an offset, and of switches have few rows
 pub record FewRows (index modes : List ℕ) (offset : ℕ) : Type 0 where
@@ -79,23 +91,27 @@ pub record HereIn (model index regions : List ℕ) (location here : ℕ) (table 
 unfoldable pub startLines : List ℕ → List ℕ → List TableLine
 startLines index modes = modeLines 0 1 index 0 modes ++ modeLines 2 3 index 0 modes
 
--- "flow .. region and invariants on x; invariants on x'; each flow row ..; −d ≤ 0"
-unfoldable pub flowLines : List ℕ → List ℕ → ℕ → List ℕ → List TableLine
-flowLines index regions location modes =
-    hereLines index regions location modes ++ (modeLines 4 3 index 0 modes ++ (modeLines 5 5 index 0 modes ++ segment 6 0 0 1))
+-- "flow .. region and invariants on x; invariants on x'; each flow row ..; −d ≤ 0"; then "the two staying rows per such variable" (02,
+-- order 6)
+unfoldable pub flowLines : List ℕ → List ℕ → List ℕ → ℕ → List ℕ → List TableLine
+flowLines model index regions location modes =
+    hereLines index regions location (perComponent index modes)
+    ++ (modeLines 4 3 index 0 (perComponent index modes)
+    ++ (modeLines 5 5 index 0 (perComponent index modes)
+    ++ (segment 6 0 0 1 ++ stillLines model index modes)))
 
 -- "unsafe: region, invariants, unsafe rows"
 unfoldable pub unsafeLines : List ℕ → List ℕ → ℕ → List ℕ → ℕ → List TableLine
 unsafeLines index regions location modes u = hereLines index regions location modes ++ keptLines 3 0 index (unsafePlace u + 4)
 
 -- "target invariants on x'; jump rows; for each staying variable .."
-unfoldable pub landingLines : List ℕ → List ℕ → List ℕ → List TableLine
-landingLines index targets switches =
-    modeLines 4 3 index 0 targets ++ (switchLines index 0 (take (entry index 1) switches) ++ stayingLines index switches)
+unfoldable pub landingLines : List ℕ → List ℕ → List ℕ → List ℕ → List TableLine
+landingLines model index targets switches =
+    modeLines 4 3 index 0 targets ++ (switchLines index 0 (take (entry index 1) switches) ++ stayingLines model index switches)
 
 -- "jump: source region and invariants on x", then those
-unfoldable pub jumpLines : List ℕ → List ℕ → ℕ → List ℕ → List ℕ → List ℕ → List TableLine
-jumpLines index regions location modes targets switches = hereLines index regions location modes ++ landingLines index targets switches
+unfoldable pub jumpLines : List ℕ → List ℕ → List ℕ → ℕ → List ℕ → List ℕ → List ℕ → List TableLine
+jumpLines model index regions location modes targets switches = hereLines index regions location modes ++ landingLines model index targets switches
 
 -- What has to be proved: a goal, from these rows
 pub record Task : Type 0 where

@@ -5,6 +5,7 @@ use crate::tables::push;
 use crate::tables::push_kept;
 use crate::tables::push_modes;
 use crate::tables::push_staying;
+use crate::tables::push_still;
 use crate::tables::push_switches;
 use joint_switches::Landing;
 use joint_switches::joints::modes_at;
@@ -28,8 +29,8 @@ ghost use lib.ListN.{length};
 ghost use Rattle.formats.specs.Locations.{locationCount};
 ghost use Rattle.models.specs.Index.{entry, componentsFrom, conditionsIn, variablesIn, versionIn, GoodIndex, Kept};
 ghost use Rattle.models.specs.Counts.{perComponent, KnownSwitches};
-ghost use Rattle.hypotheses.specs.Tables.{Stacked, linesIn, Onto};
-ghost use Rattle.hypotheses.specs.Listing.{hereLines, startLines, flowLines, unsafeLines, landingLines, tasksOf, GoodGroup, emptyGroup, regionGroup, groupTasksFor, jumpTasksFor, HereIn};
+ghost use Rattle.hypotheses.specs.Tables.{segment, Stacked, linesIn, Onto};
+ghost use Rattle.hypotheses.specs.Listing.{hereLines, startLines, stillLines, flowLines, unsafeLines, landingLines, tasksOf, GoodGroup, emptyGroup, regionGroup, groupTasksFor, jumpTasksFor, HereIn};
 ghost use Rattle.papers.specs.Standing.{KnownModes, Stands};
 ghost use Rattle.papers.specs.Paper.{GoodPaper};
 
@@ -89,7 +90,18 @@ pub fn start_table(model: &[u8], index: &Index, modes: [u8; 4], table: &mut [u16
     push_modes(index, modes, INVARIANT_AT, INVARIANT_FORM, table, at)
 }
 
-// The table of a flow: region and invariants on x, invariants on x', flow rows, and the time.
+// The time of a flow in these modes, and the rows of variables that keep their value in it.
+fn push_time(model: &[u8], index: &Index, modes: [u8; 4], table: &mut [u16], at: usize) -> usize
+    requires { ⌜ GoodIndex (now model) (now index) × ((length (now model) ≤ 32768) × KnownModes (now index) modes) ⌝ }
+    requires { ⌜ (96 ≤ length (now table)) × ((at ≤ 14) × Stacked (now table) at) ⌝ }
+    ensures { λ r. ⌜ linesIn (now (table .exit)) r ≡ linesIn (now (table .entry)) at ++ (segment 6 0 0 1 ++ stillLines (now (model .entry)) (now (index .entry)) modes) ⌝ }
+    ensures { λ r. ⌜ Onto (now (table .entry)) at 9 (now (table .exit)) r ⌝ }
+{
+    let time = push(table, at, TIME_FORM, 0, NO_OWNER, 1);
+    push_still(model, index, modes, table, time)
+}
+
+// The table of a flow: region and invariants on x, invariants on x', flow rows, the time, and the rows of variables that keep their value.
 pub fn flow_table(
     model: &[u8],
     index: &Index,
@@ -102,13 +114,13 @@ pub fn flow_table(
     requires { ⌜ GoodPaper (now model) (now index) (now second) (now regions) ⌝ }
     requires { ⌜ (location < locationCount (componentsFrom (now model) (now index))) × KnownModes (now index) modes ⌝ }
     requires { ⌜ (96 ≤ length (now table)) × Stacked (now table) 0 ⌝ }
-    ensures { λ r. ⌜ linesIn (now (table .exit)) r ≡ linesIn (now (table .entry)) 0 ++ (flowLines (now (index .entry)) (now (regions .entry)) location (perComponent (now (index .entry)) modes)) ⌝ }
-    ensures { λ r. ⌜ Onto (now (table .entry)) 0 14 (now (table .exit)) r ⌝ }
+    ensures { λ r. ⌜ linesIn (now (table .exit)) r ≡ linesIn (now (table .entry)) 0 ++ (flowLines (now (model .entry)) (now (index .entry)) (now (regions .entry)) location modes) ⌝ }
+    ensures { λ r. ⌜ Onto (now (table .entry)) 0 22 (now (table .exit)) r ⌝ }
 {
     let here = push_here(model, index, second, regions, location, modes, table);
     let after = push_modes(index, modes, INVARIANT_AT, NEXT_FORM, table, here);
     let rates = push_modes(index, modes, FLOW_AT, RATE_FORM, table, after);
-    push(table, rates, TIME_FORM, 0, NO_OWNER, 1)
+    push_time(model, index, modes, table, rates)
 }
 
 // The table of an unsafe condition: region, invariants, unsafe rows.
@@ -139,7 +151,8 @@ pub fn unsafe_table(
     )
 }
 
-// The table of a joint switch, on the segments of its source: target invariants on x', jump rows, the rows of staying variables.
+// The table of a joint switch, on the segments of its source: target invariants on x', jump rows, the rows of variables that keep their
+// value.
 pub fn jump_table(
     model: &[u8],
     index: &Index,
@@ -148,14 +161,14 @@ pub fn jump_table(
     here: usize,
     table: &mut [u16],
 ) -> usize
-    requires { ⌜ GoodIndex (now model) (now index) × (KnownModes (now index) targets × KnownSwitches (now index) switches) ⌝ }
+    requires { ⌜ GoodIndex (now model) (now index) × ((length (now model) ≤ 32768) × (KnownModes (now index) targets × KnownSwitches (now index) switches)) ⌝ }
     requires { ⌜ (96 ≤ length (now table)) × ((here ≤ 5) × Stacked (now table) here) ⌝ }
-    ensures { λ r. ⌜ linesIn (now (table .exit)) r ≡ linesIn (now (table .entry)) here ++ (landingLines (now (index .entry)) (perComponent (now (index .entry)) targets) switches) ⌝ }
+    ensures { λ r. ⌜ linesIn (now (table .exit)) r ≡ linesIn (now (table .entry)) here ++ (landingLines (now (model .entry)) (now (index .entry)) (perComponent (now (index .entry)) targets) switches) ⌝ }
     ensures { λ r. ⌜ Onto (now (table .entry)) here 16 (now (table .exit)) r ⌝ }
 {
     let after = push_modes(index, targets, INVARIANT_AT, NEXT_FORM, table, here);
     let moved = push_switches(index, switches, table, after);
-    push_staying(index, switches, table, moved)
+    push_staying(model, index, switches, table, moved)
 }
 
 // Nothing to prove.

@@ -1,27 +1,32 @@
 // Tables of hypotheses, by pushes in the listed order. Hypotheses that stand one after the other are one segment of four numbers: how many
 // hypotheses there are up to its end, its form, its place, and its owner. Forms are those of specs/Tables.antt.
+use fields::versions::keeps_blanks;
 use models::layout::COMPONENTS_AT;
 use models::layout::COUNT_AT;
-use models::layout::FIRST_OWNER;
 use models::layout::Index;
 use models::layout::VARIABLES_AT;
+use papers::blanks::kept_in_flow;
+use papers::blanks::kept_in_jump;
+use papers::blanks::owner_stays;
+use papers::opening::version_of;
 use papers::standing::mode_place;
 use papers::standing::switch_place;
 ghost use mathlib.Core.Path.{_≡_};
 ghost use mathlib.Core.List.{_++_};
-ghost use Prim.Native.Nat.{ℕ, _+_, _*_, _≤_, _<_};
+ghost use Prim.Native.Nat.{_+_, _*_, _≤_, _<_};
 ghost use lib.ListN.{length};
-ghost use Rattle.models.specs.Index.{entry, componentsIn, variablesIn, ownerPlace};
-ghost use Rattle.models.specs.Counts.{perComponent};
+ghost use Rattle.models.specs.Index.{entry, componentsIn, variablesIn, GoodIndex};
+ghost use Rattle.models.specs.Counts.{perComponent, KnownModes, KnownSwitches};
+ghost use Rattle.papers.specs.Blanks.{Owned, staysAt};
 ghost use Rattle.hypotheses.specs.Tables.{segment, endOf, Stacked, linesIn, Onto};
-ghost use Rattle.hypotheses.specs.Listing.{keptLines, modeLines, switchLine, switchLines, stayingLine, stayingLines, FewRows, FewJumps, FewJump};
+ghost use Rattle.hypotheses.specs.Listing.{keptLines, modeLines, switchLine, switchLines, variableLine, variableLines, stayingLines, stillLines, FewRows, FewJumps, FewJump};
 
-// A table has room for 23 segments, after one that is empty. The most that a list has is 21, that of a jump: a region, four invariants on x
-// and four on x', four switches, eight staying variables. A flow has 14, and with eight staying variables it would have 22, of 129
-// hypotheses.
+// A table has room for 23 segments, after one that is empty. The most that a list has is 22, that of a flow: a region, four invariants on x
+// and four on x', four flow conditions, the time, eight variables that keep their value. They have at most 129 hypotheses. A jump has at most 21
+// segments.
 pub const TABLE_LENGTH: usize = 96;
 
-// The form of the rows of a jump, and of the rows of a staying variable.
+// The form of the rows of a jump, and of the rows of a variable that keeps its value.
 const JUMP_FORM: u16 = 7;
 
 const STAYING_FORM: u16 = 8;
@@ -128,15 +133,14 @@ pub fn push_switches(index: &Index, switches: [u8; 4], table: &mut [u16], at: us
     to
 }
 
-// The two rows of a variable, where its owner stays.
-fn push_variable(index: &Index, switches: [u8; 4], v: usize, table: &mut [u16], at: usize) -> usize
-    requires { ⌜ (v < 8) × (entry (now index) (ownerPlace v) < 4) ⌝ }
+// The two rows of a variable, where it keeps its value.
+fn push_variable(kept: bool, v: usize, table: &mut [u16], at: usize) -> usize
+    requires { ⌜ v < 8 ⌝ }
     requires { ⌜ (96 ≤ length (now table)) × ((at ≤ 22) × Stacked (now table) at) ⌝ }
-    ensures { λ r. ⌜ linesIn (now (table .exit)) r ≡ linesIn (now (table .entry)) at ++ (stayingLine (now (index .entry)) switches v) ⌝ }
+    ensures { λ r. ⌜ linesIn (now (table .exit)) r ≡ linesIn (now (table .entry)) at ++ (variableLine kept v) ⌝ }
     ensures { λ r. ⌜ Onto (now (table .entry)) at 1 (now (table .exit)) r ⌝ }
 {
-    let owner = index[FIRST_OWNER + v] as usize;
-    if switches[owner] != 255 {
+    if !kept {
         return at;
     }
     let variable = v as u16;
@@ -144,17 +148,69 @@ fn push_variable(index: &Index, switches: [u8; 4], v: usize, table: &mut [u16], 
 }
 
 // The two rows of every variable whose owner stays.
-pub fn push_staying(index: &Index, switches: [u8; 4], table: &mut [u16], at: usize) -> usize
-    requires { ⌜ (variablesIn (now index) ≤ 8) × ((v : ℕ) → v < variablesIn (now index) → entry (now index) (ownerPlace v) < 4) ⌝ }
+fn push_owned(index: &Index, switches: [u8; 4], table: &mut [u16], at: usize) -> usize
+    requires { ⌜ Owned (now index) ⌝ }
     requires { ⌜ (96 ≤ length (now table)) × ((at ≤ 15) × Stacked (now table) at) ⌝ }
-    ensures { λ r. ⌜ linesIn (now (table .exit)) r ≡ linesIn (now (table .entry)) at ++ (stayingLines (now (index .entry)) switches) ⌝ }
+    ensures { λ r. ⌜ linesIn (now (table .exit)) r ≡ linesIn (now (table .entry)) at ++ (variableLines (staysAt (now (index .entry)) switches) (variablesIn (now (index .entry)))) ⌝ }
     ensures { λ r. ⌜ Onto (now (table .entry)) at 8 (now (table .exit)) r ⌝ }
 {
     let n = index[VARIABLES_AT] as usize;
     let mut to = at;
     let mut v: usize = 0;
     while v < n {
-        to = push_variable(index, switches, v, table, to);
+        to = push_variable(owner_stays(index, switches, v), v, table, to);
+        v += 1;
+    }
+    to
+}
+
+// The two rows of every variable that keeps its value in a jump by these switches. Where no blank is kept, only owners are looked at.
+pub fn push_staying(
+    model: &[u8],
+    index: &Index,
+    switches: [u8; 4],
+    table: &mut [u16],
+    at: usize,
+) -> usize
+    requires { ⌜ GoodIndex (now model) (now index) × ((length (now model) ≤ 32768) × KnownSwitches (now index) switches) ⌝ }
+    requires { ⌜ (96 ≤ length (now table)) × ((at ≤ 15) × Stacked (now table) at) ⌝ }
+    ensures { λ r. ⌜ linesIn (now (table .exit)) r ≡ linesIn (now (table .entry)) at ++ (stayingLines (now (model .entry)) (now (index .entry)) switches) ⌝ }
+    ensures { λ r. ⌜ Onto (now (table .entry)) at 8 (now (table .exit)) r ⌝ }
+{
+    if !keeps_blanks(version_of(index)) {
+        return push_owned(index, switches, table, at);
+    }
+    let n = index[VARIABLES_AT] as usize;
+    let mut to = at;
+    let mut v: usize = 0;
+    while v < n {
+        to = push_variable(kept_in_jump(model, index, switches, v), v, table, to);
+        v += 1;
+    }
+    to
+}
+
+// The two rows of every variable that keeps its value in a flow in these modes.
+pub fn push_still(
+    model: &[u8],
+    index: &Index,
+    modes: [u8; 4],
+    table: &mut [u16],
+    at: usize,
+) -> usize
+    requires { ⌜ GoodIndex (now model) (now index) × ((length (now model) ≤ 32768) × KnownModes (now index) modes) ⌝ }
+    requires { ⌜ (96 ≤ length (now table)) × ((at ≤ 15) × Stacked (now table) at) ⌝ }
+    ensures { λ r. ⌜ linesIn (now (table .exit)) r ≡ linesIn (now (table .entry)) at ++ (stillLines (now (model .entry)) (now (index .entry)) modes) ⌝ }
+    ensures { λ r. ⌜ Onto (now (table .entry)) at 8 (now (table .exit)) r ⌝ }
+{
+    if !keeps_blanks(version_of(index)) {
+        return at;
+    }
+    let n = index[VARIABLES_AT] as usize;
+    let mut to = at;
+    let mut v: usize = 0;
+    while v < n {
+        to = push_variable(kept_in_flow(model, index, modes, v), v, table, to);
         v += 1;
     }
     to

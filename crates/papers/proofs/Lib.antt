@@ -1,4 +1,6 @@
+pub mod RowLoops
 pub mod StandingLaws
+pub mod BlankLaws
 pub mod PaperLaws
 pub mod SecondLaws
 pub mod OpenLaws

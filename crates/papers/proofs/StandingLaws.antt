@@ -10,7 +10,7 @@ use lib.ListN.{length, getD, drop, drop-of-length-le}
 use Rattle.formats.specs.Model.{Mode, Component}
 use Rattle.formats.specs.Locations.{modeOf, locationCount, modesAt}
 use Rattle.formats.specs.Joint.{countUp}
-use Rattle.models.specs.Index.{entry, componentPlace, modePlace, unsafePlace, modeFrom, componentFrom, componentsFrom, GoodIndex, unsafeFrom}
+use Rattle.models.specs.Index.{entry, componentPlace, modePlace, switchPlace, unsafePlace, modeFrom, componentFrom, componentsFrom, GoodIndex, unsafeFrom}
 use Rattle.models.specs.Counts.{componentAt, perComponent}
 use Rattle.models.proofs.GoodIndexLaws.{counted-at, components-drop, components-end, counted-length, counted-drop}
 use Rattle.joint_switches.proofs.JointLoops.{componentsOn, numbersOn, per-component-drop, per-component-length, per-component-modes}
@@ -111,3 +111,12 @@ module _ (model index modes : List ℕ) (g : GoodIndex model index) (known : Kno
 pub stands-at : (model index : List ℕ) (location : ℕ) (modes rest : List ℕ) → GoodIndex model index → location < locationCount (componentsFrom model index) → modes ≡ modesAt (componentsFrom model index) location ++ rest → Stands model index location modes
 stands-at model index location modes rest g h e =
     record { below = h; known = known-modes location modes rest g h e; here = per-component-modes model index location modes rest e }
+
+-- the numbers of a mode and of a switch are among those of an index
+pub mode-within : (k mode offset : ℕ) → k < 4 → mode < 8 → offset ≤ 5 → modePlace (componentPlace k) mode + offset + 1 < 1004
+unfolding modePlace componentPlace
+mode-within k mode offset h l o = omega arith
+
+pub switch-within : (k i : ℕ) → k < 4 → i < 32 → switchPlace (componentPlace k) i + 3 + 1 < 1004
+unfolding switchPlace componentPlace
+switch-within k i h l = omega arith

@@ -1,3 +1,4 @@
 pub mod Standing
 pub mod Paper
 pub mod Opening
+pub mod Blanks

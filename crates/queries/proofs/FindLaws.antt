@@ -18,7 +18,7 @@ use Rattle.models.specs.Counts.{perComponent}
 use Rattle.models.proofs.GoodIndexLaws.{counted-at}
 use Rattle.formats.proofs.JointCounts.{event-length}
 use Rattle.joint_switches.proofs.JointLoops.{record-at}
-use Rattle.rules.specs.Runs.{present, modesIn, modesFit}
+use Rattle.rules.specs.Runs.{present, modesIn, modesFit, stillVariables}
 use Rattle.rules.specs.Obligations.{Hypothesis, Kind, atStart, afterFlow, clearOfUnsafe, afterJump, Obligation, onX, onNext, perRow, startHypotheses, flowHypotheses, unsafeHypotheses, startObligations, flowObligations, unsafeObligations, locationObligations, jumpObligations, jumpsObligations, obligationsOver}
 use Rattle.hypotheses.specs.Listing.{noUnsafe}
 use Rattle.papers.specs.Standing.{Stands}
@@ -257,7 +257,7 @@ module _ (m : Model) (regionAt : ℕ → Condition) (location : ℕ) where
   flow-one : (line : ℕ) → line < length (flowObligations m regionAt location) → oneAt (flowObligations m regionAt location) line ≡ groupOne m regionAt location 1 line ∷ []
   unfolding flowObligations groupOne groupObligations groupKind groupLine groupHypotheses
   flow-one line h =
-      let hypotheses = flowHypotheses (m .variables) (regionAt location) (modesIn m location) in
+      let hypotheses = flowHypotheses (m .variables) (regionAt location) (modesIn m location) (stillVariables m location) in
       row-one afterFlow location hypotheses (onNext (m .variables)) 0 (regionAt location) line (omega (arith, h, rows-each afterFlow location hypotheses (onNext (m .variables)) 0 (regionAt location)))
       ∙ ap (λ (k : ℕ). record { kind = afterFlow; subject = location; line = k; hypotheses = hypotheses; goal = getD (perRow afterFlow location hypotheses (onNext (m .variables)) 0 (regionAt location)) line noObligation .goal } ∷ []) (from-first line)
 
@@ -290,7 +290,7 @@ module _ (m : Model) (regionAt : ℕ → Condition) (location : ℕ) where
 
   pub flow-goals : (rows : ℕ) → rows ≡ length (regionAt location) → rows ≡ length (groupObligations m regionAt location 1)
   unfolding groupObligations flowObligations
-  flow-goals rows r = r ∙ sym (rows-each afterFlow location (flowHypotheses (m .variables) (regionAt location) (modesIn m location)) (onNext (m .variables)) 0 (regionAt location))
+  flow-goals rows r = r ∙ sym (rows-each afterFlow location (flowHypotheses (m .variables) (regionAt location) (modesIn m location) (stillVariables m location)) (onNext (m .variables)) 0 (regionAt location))
 
   pub unsafe-goals : (u n : ℕ) {b : Bool} → b ≡ modesFit (getD (m .unsafe) u noUnsafe .modes) (modesAt (m .components) location) → n ≡ bit b → n ≡ length (groupObligations m regionAt location (suc (suc u)))
   unfolding groupObligations unsafeObligations bit

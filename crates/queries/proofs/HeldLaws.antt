@@ -17,7 +17,7 @@ use Rattle.models.specs.Index.{entry, spanRows, unsafePlace, unsafeFrom, compon
 use Rattle.models.specs.Counts.{perComponent, KnownSwitches}
 use Rattle.queries.specs.declared.RowFound.{RowFound}
 use Rattle.queries.specs.declared.RowFound.the-variants as row
-use Rattle.rules.specs.Runs.{present, modesIn, movers, stayingVariables}
+use Rattle.rules.specs.Runs.{present, modesIn, movers, stayingVariables, stillVariables}
 use Rattle.rules.specs.Obligations.{Hypothesis, nowhere, standing, startHypotheses, flowHypotheses, unsafeHypotheses, jumpHypotheses}
 use Rattle.rules.specs.Roles.{Role, owned, noRole, startRoles, flowRoles, unsafeRoles, jumpRoles, jointRoles, kindRoles}
 use Rattle.formats.proofs.JointCounts.{mapped-at}
@@ -160,12 +160,13 @@ module _ (model index second regions : List ℕ) where
         (start-told model second index regions modes location long (stands .known) ∙ ap startHypotheses (present-there location modes stands))
         (start-roles model second index regions modes location long (stands .known) ∙ ap startRoles (present-there location modes stands))
 
-    pub flow-held : (table : List ℕ) (count : ℕ) → linesIn table count ≡ flowLines index regions location (perComponent index modes) → Held model second (entry index 11) (entry index 0) table count (groupHypotheses m regionAt location 1) (groupRoles m regionAt location 1)
+    pub flow-held : (table : List ℕ) (count : ℕ) → GoodIndex model index → linesIn table count ≡ flowLines model index regions location modes → Held model second (entry index 11) (entry index 0) table count (groupHypotheses m regionAt location 1) (groupRoles m regionAt location 1)
     unfolding groupHypotheses groupRoles groupKind groupLine kindRoles modelFrom
-    flow-held table count e =
+    flow-held table count g e =
+        let still = stillVariables m location in
         from-lines table count _ e
-        (flow-told model second index regions modes location long (stands .known) ∙ there-told (flowHypotheses (entry index 0)) location modes stands)
-        (flow-roles model second index regions modes location long (stands .known) ∙ there-told flowRoles location modes stands)
+        (flow-told model second index regions modes location long (stands .known) g stands ∙ there-told (λ (r : Condition) (ms : List Mode). flowHypotheses (entry index 0) r ms still) location modes stands)
+        (flow-roles model second index regions modes location long (stands .known) g stands ∙ there-told (λ (r : Condition) (ms : List Mode). flowRoles r ms still) location modes stands)
 
     pub unsafe-held : (table : List ℕ) (count u : ℕ) → u < entry index 2 → linesIn table count ≡ unsafeLines index regions location (perComponent index modes) u → Held model second (entry index 11) (entry index 0) table count (groupHypotheses m regionAt location (suc (suc u))) (groupRoles m regionAt location (suc (suc u)))
     unfolding groupHypotheses groupRoles groupKind groupLine kindRoles unsafeFrom
@@ -182,7 +183,7 @@ module _ (model index second regions : List ℕ) where
 
     pub jump-held :
         (table : List ℕ) (count target event : ℕ) (targets switches : List ℕ) → entry index 1 ≤ length targets → Stands model index target targets → entry index 1 ≤ length switches → KnownSwitches index switches → GoodIndex model index
-        → linesIn table count ≡ jumpLines index regions location (perComponent index modes) (perComponent index targets) switches
+        → linesIn table count ≡ jumpLines model index regions location (perComponent index modes) (perComponent index targets) switches
         → (j : JointSwitch) → record { source = location; event = event; switches = perComponent index switches; target = target } ≡ j
         → Held model second (entry index 11) (entry index 0) table count (jointHypotheses m regionAt j) (jointRoles m regionAt j)
     unfolding modelFrom jointHypotheses jointRoles

@@ -26,7 +26,7 @@ use Rattle.queries.specs.declared.Sought.{Sought}
 use Rattle.queries.specs.declared.Sought.the-variants as sought
 use Rattle.queries.specs.declared.RowFound.{RowFound}
 use Rattle.queries.specs.declared.RowFound.the-variants as row
-use Rattle.rules.specs.Runs.{modesIn, movers, stayingVariables}
+use Rattle.rules.specs.Runs.{modesIn, movers, stayingVariables, stillVariables}
 use Rattle.rules.specs.Obligations.{Hypothesis, nowhere, Kind, atStart, afterFlow, clearOfUnsafe, afterJump, Obligation, startHypotheses, flowHypotheses, unsafeHypotheses, jumpHypotheses, startObligations, flowObligations, unsafeObligations, jumpObligations, jumpsObligations, obligationsOver, obligations}
 use Rattle.hypotheses.specs.Tables.{hypothesesFrom, rolesFrom}
 use Rattle.hypotheses.specs.Listing.{noUnsafe}
@@ -200,7 +200,7 @@ groupLine (suc (suc u)) line = u
 
 unfoldable pub groupHypotheses : Model → (ℕ → Condition) → ℕ → ℕ → List Hypothesis
 groupHypotheses m regionAt location zero = startHypotheses (modesIn m location)
-groupHypotheses m regionAt location (suc zero) = flowHypotheses (m .variables) (regionAt location) (modesIn m location)
+groupHypotheses m regionAt location (suc zero) = flowHypotheses (m .variables) (regionAt location) (modesIn m location) (stillVariables m location)
 groupHypotheses m regionAt location (suc (suc u)) =
     unsafeHypotheses (regionAt location) (modesIn m location) (getD (m .unsafe) u noUnsafe .rows)
 

@@ -1,10 +1,10 @@
 -- Rows at a point, as the code meets them: the sum so far and its size, the rows that are left, the places where an index keeps rows,
 -- and tests of which the first is settled. Assumes nothing.
 use mathlib.Core.Path.{_≡_, refl, sym, ap, _∙_, subst}
-use mathlib.Core.Bool.{Bool, true, false, not, _&&_, _||_}
+use mathlib.Core.Bool.{Bool, true, false, not, _&&_, _||_, or-true, or-false}
 use mathlib.Core.List.{List, [], _∷_}
 use Prim.Native.Nat.{ℕ, zero, suc, _+_, _*_, _-_, _^_, _≤_, _<_}
-use native.Mathlib.Nat.{mul-add, mul-one, mul-le-mul, le-of-mul-le-mul-right, sub-zero}
+use native.Mathlib.Nat.{mul-le-mul, le-of-mul-le-mul-right}
 use native.Mathlib.Decide.{ℕ-discrete}
 use native.Mathlib.Numerals.{add-one}
 use native.Mathlib.Omega.{arith}
@@ -14,20 +14,21 @@ use lib.IntN.{ℤ, pos, natAbs, _+ℤ_, _*ℤ_, +ℤ-assoc, +ℤ-comm, *ℤ-zero
 use lib.ListN.{getD, take}
 use mir.Syntax.{w64}
 use mir.Val.{SFits, ofZ}
-use Rattle.farkas.specs.Lists.{every}
 use Rattle.farkas.specs.Rows.{item, dot, compared, rowHolds}
 use Rattle.farkas.specs.Farkas.{sameZ}
 use Rattle.farkas.proofs.Bits.{size-+*, same-bits}
 use Rattle.farkas.proofs.Promise.{same-means}
 use Rattle.fields.specs.Places.{signedAt, numbersAt, rowAt, rowsFrom}
 use Rattle.formats.specs.Joint.{stays}
+use Rattle.formats.specs.Rows.{SheetRow}
 use Rattle.models.specs.Index.{entry, componentPlace, modePlace, switchPlace, unsafePlace, spanRows, GoodSpan, GoodIndex}
 use Rattle.rules.specs.Runs.{conditionHolds}
 use Rattle.papers.specs.Standing.{GoodModes}
-use Rattle.steps.specs.Held.{SmallPoint, modeHolds, moveHolds}
+use Rattle.steps.specs.Held.{SmallPoint, modeHolds, moveHolds, sameAt, keptAt}
 use Rattle.rules.proofs.ListFacts.{is-true}
 use Rattle.rules.proofs.Points.{dot-nothing}
-use Rattle.steps.proofs.ValueLoops.{left-less, left-none, one-less}
+use Rattle.papers.proofs.RowLoops as loops
+pub use Rattle.papers.proofs.RowLoops.{row-room, row-next}
 use Rattle.formats.specs.Versions.{rowBytes, strictAt}
 
 -- the sum with one more coefficient
@@ -89,39 +90,27 @@ pub row-compared : (s : List ℕ) (at version n q : ℕ) (ps : List ℤ) (sum b 
 unfolding rowHolds rowAt
 row-compared s at version n q ps sum b p r = rw (p, r, dot-take s at n ps) refl
 
--- the rows that are left, and where they stand
-module _ (from version n at j : ℕ) (here : at ≡ from + rowBytes version n * j) where
-  pub row-room : (size : ℕ) → from + rowBytes version n * (j + 1) ≤ size → at + rowBytes version n ≤ size
-  row-room size h = omega (arith, mul-add (rowBytes version n) j 1, mul-one (rowBytes version n))
+-- the rows that are left hold exactly when all do: a row that holds is passed, one that fails decides, and after the last all hold
+module _ (s : List ℕ) (version n q : ℕ) (ps : List ℤ) where
+  holds : SheetRow → Bool
+  holds r = rowHolds q ps (r .row)
 
-  pub row-next : at + rowBytes version n ≡ from + rowBytes version n * (j + 1)
-  row-next = omega (arith, mul-add (rowBytes version n) j 1, mul-one (rowBytes version n))
+  module _ (whole : Bool) where
+    pub rows-pass : (at rows j : ℕ) (r : Bool) → j < rows → r ≡ rowHolds q ps (rowAt s version n at .row) → r ≡ true → conditionHolds q ps (rowsFrom s version n at (rows - j)) ≡ whole → conditionHolds q ps (rowsFrom s version n (at + rowBytes version n) (rows - (j + 1))) ≡ whole
+    unfolding conditionHolds holds
+    rows-pass = loops.rows-pass holds s version n whole
 
--- they hold exactly when all do: a row that holds is passed, one that fails decides, and after the last all hold
-module _ (s : List ℕ) (version n q : ℕ) (ps : List ℤ) (whole : Bool) where
-  rows-first : (at left : ℕ) → 0 < left → conditionHolds q ps (rowsFrom s version n at left) ≡ (rowHolds q ps (rowAt s version n at .row) && conditionHolds q ps (rowsFrom s version n (at + rowBytes version n) (left - 1)))
-  unfolding conditionHolds rowsFrom every
-  rows-first at zero h = absurd (omega arith)
-  rows-first at (suc left) h = ap (λ (k : ℕ). rowHolds q ps (rowAt s version n at .row) && conditionHolds q ps (rowsFrom s version n (at + rowBytes version n) k)) (one-less left)
+    pub rows-fail : (at rows j : ℕ) (r : Bool) → j < rows → r ≡ rowHolds q ps (rowAt s version n at .row) → r ≡ false → conditionHolds q ps (rowsFrom s version n at (rows - j)) ≡ whole → false ≡ whole
+    unfolding conditionHolds holds
+    rows-fail = loops.rows-fail holds s version n whole
 
-  pub rows-pass : (at rows j : ℕ) (r : Bool) → j < rows → r ≡ rowHolds q ps (rowAt s version n at .row) → r ≡ true → conditionHolds q ps (rowsFrom s version n at (rows - j)) ≡ whole → conditionHolds q ps (rowsFrom s version n (at + rowBytes version n) (rows - (j + 1))) ≡ whole
-  rows-pass at rows j r h p t e =
-      ap (λ (k : ℕ). conditionHolds q ps (rowsFrom s version n (at + rowBytes version n) k)) (left-less rows j h)
-      ∙ ap (λ b. b && conditionHolds q ps (rowsFrom s version n (at + rowBytes version n) (rows - j - 1))) (sym t ∙ p)
-      ∙ sym (rows-first at (rows - j) (omega arith)) ∙ e
+    pub rows-none : (at rows j : ℕ) → rows ≤ j → conditionHolds q ps (rowsFrom s version n at (rows - j)) ≡ whole → true ≡ whole
+    unfolding conditionHolds holds
+    rows-none = loops.rows-none holds s version n whole
 
-  pub rows-fail : (at rows j : ℕ) (r : Bool) → j < rows → r ≡ rowHolds q ps (rowAt s version n at .row) → r ≡ false → conditionHolds q ps (rowsFrom s version n at (rows - j)) ≡ whole → false ≡ whole
-  rows-fail at rows j r h p t e =
-      ap (λ b. b && conditionHolds q ps (rowsFrom s version n (at + rowBytes version n) (rows - j - 1))) (sym t ∙ p)
-      ∙ sym (rows-first at (rows - j) (omega arith)) ∙ e
-
-  pub rows-none : (at rows j : ℕ) → rows ≤ j → conditionHolds q ps (rowsFrom s version n at (rows - j)) ≡ whole → true ≡ whole
-  unfolding conditionHolds rowsFrom every
-  rows-none at rows j h e = ap (λ (k : ℕ). conditionHolds q ps (rowsFrom s version n at k)) (left-none rows j h) ∙ e
-
-pub rows-start : (s : List ℕ) (version n q : ℕ) (ps : List ℤ) (index : List ℕ) (place at rows : ℕ) → at ≡ entry index place → rows ≡ entry index (place + 1) → conditionHolds q ps (rowsFrom s version n at (rows - 0)) ≡ conditionHolds q ps (spanRows s version n index place)
-unfolding spanRows
-rows-start s version n q ps index place at rows p r = rw (p, r) (ap (λ (k : ℕ). conditionHolds q ps (rowsFrom s version n (entry index place) k)) (sub-zero (entry index (place + 1))))
+  pub rows-start : (index : List ℕ) (place at rows : ℕ) → at ≡ entry index place → rows ≡ entry index (place + 1) → conditionHolds q ps (rowsFrom s version n at (rows - 0)) ≡ conditionHolds q ps (spanRows s version n index place)
+  unfolding conditionHolds holds
+  rows-start = loops.rows-start holds s version n
 
 -- two values are the same where their bits are
 told-false : (b : Bool) → (T b → ⊥) → b ≡ false
@@ -148,12 +137,24 @@ first-true a b e = ap (λ x. x || b) (sym e)
 pub first-false : (a b c : Bool) → a ≡ false → c ≡ b → c ≡ (a || b)
 first-false a b c e p = p ∙ ap (λ x. x || b) (sym e)
 
--- a variable of a moving component is free, one of a staying component keeps its value
+-- a variable that is not kept is free
 pub kept-moves : (a b : Bool) → a ≡ false → true ≡ (not a || b)
 kept-moves a b e = ap (λ x. not x || b) (sym e)
 
 pub kept-stays : (a b c : Bool) → a ≡ true → c ≡ b → c ≡ (not a || b)
 kept-stays a b c e p = p ∙ ap (λ x. not x || b) (sym e)
+
+-- a value that is the same is kept; one that is not is where nothing asks that it be
+pub kept-same : (test : ℕ → Bool) (n : ℕ) (state : List ℤ) (v : ℕ) (same : Bool) → same ≡ sameAt n state v → same ≡ true → true ≡ keptAt test n state v
+unfolding keptAt
+kept-same test n state v same p e = sym (or-true (not (test v))) ∙ ap (λ x. not (test v) || x) (sym e ∙ p)
+
+pub kept-changed : (test : ℕ → Bool) (n : ℕ) (state : List ℤ) (v : ℕ) (same kept : Bool) → same ≡ sameAt n state v → same ≡ false → kept ≡ test v → not kept ≡ keptAt test n state v
+unfolding keptAt
+kept-changed test n state v same kept p e q = ap not q ∙ sym (or-false (not (test v))) ∙ ap (λ x. not (test v) || x) (sym e ∙ p)
+
+pub kept-of : (test : ℕ → Bool) (m n : ℕ) (state : List ℤ) (v : ℕ) (r : Bool) → m ≡ n → r ≡ keptAt test m state v → r ≡ keptAt test n state v
+kept-of test m n state v r e q = q ∙ ap (λ (k : ℕ). keptAt test k state v) e
 
 -- where a good index keeps rows: at an offset from a mode, of a switch, of an unsafe condition
 pub point-for : {n m : ℕ} {point : List ℤ} → n ≡ m → SmallPoint m point → SmallPoint n point
@@ -214,11 +215,15 @@ pub third-left : (a b c : Bool) → a ≡ true → b ≡ true → c ≡ (a && (b
 third-left a b c p q = ap (λ y. y && c) (sym q) ∙ ap (λ y. y && (b && c)) (sym p)
 
 -- the rule of a flow, where its tests are settled
-pub flow-fails : (a n b : Bool) → a ≡ false → false ≡ (a && (not n || b))
-flow-fails a n b e = ap (λ y. y && (not n || b)) (sym e)
+module _ (a k n b : Bool) where
+  pub flow-fails : a ≡ false → false ≡ (a && (k && (not n || b)))
+  flow-fails e = ap (λ y. y && (k && (not n || b))) (sym e)
 
-pub flow-lasts : (a n b : Bool) → a ≡ true → n ≡ false → true ≡ (a && (not n || b))
-flow-lasts a n b e p = ap (λ y. not y || b) (sym p) ∙ ap (λ y. y && (not n || b)) (sym e)
+  pub flow-drifts : a ≡ true → k ≡ false → false ≡ (a && (k && (not n || b)))
+  flow-drifts e p = ap (λ y. y && (not n || b)) (sym p) ∙ ap (λ y. y && (k && (not n || b))) (sym e)
 
-pub flow-stands : (a n b : Bool) → a ≡ true → n ≡ true → b ≡ (a && (not n || b))
-flow-stands a n b e p = ap (λ y. not y || b) (sym p) ∙ ap (λ y. y && (not n || b)) (sym e)
+  pub flow-lasts : a ≡ true → k ≡ true → n ≡ false → true ≡ (a && (k && (not n || b)))
+  flow-lasts e p q = ap (λ y. not y || b) (sym q) ∙ ap (λ y. y && (not n || b)) (sym p) ∙ ap (λ y. y && (k && (not n || b))) (sym e)
+
+  pub flow-stands : a ≡ true → k ≡ true → n ≡ true → b ≡ (a && (k && (not n || b)))
+  flow-stands e p q = ap (λ y. not y || b) (sym q) ∙ ap (λ y. y && (not n || b)) (sym p) ∙ ap (λ y. y && (k && (not n || b))) (sym e)

@@ -1,25 +1,17 @@
 -- Loops over numbers from 0 on that test each and stop early: the numbers that are left are tested exactly as all are. Assumes nothing.
 use mathlib.Core.Path.{_≡_, refl, sym, ap, _∙_}
-use mathlib.Core.Bool.{Bool, true, false, not, cond, _&&_, _||_}
+use mathlib.Core.Bool.{Bool, true, false, _&&_, _||_}
 use mathlib.Core.List.{List, [], _∷_, map}
 use Prim.Native.Nat.{ℕ, zero, suc, _+_, _-_, _≤_, _<_}
 use native.Mathlib.Numerals.{add-one}
 use native.Mathlib.Omega.{arith}
 use Rattle.farkas.specs.Lists.{every, some}
-use Rattle.formats.specs.Joint.{countUp, numbersFrom}
+use Rattle.formats.specs.Joint.{countUp}
+use Rattle.papers.proofs.RowLoops.{left-less, left-none, one-less}
 
 -- what is left of so many
 left-all : (n m : ℕ) → n ≡ m → n - 0 ≡ m
 left-all n m e = omega arith
-
-pub left-less : (n k : ℕ) → k < n → n - (k + 1) ≡ n - k - 1
-left-less n k h = omega arith
-
-pub left-none : (n k : ℕ) → n ≤ k → 0 ≡ n - k
-left-none n k h = omega arith
-
-pub one-less : (left : ℕ) → left ≡ suc left - 1
-one-less left = omega arith
 
 count-first : (k left : ℕ) → 0 < left → countUp k left ≡ k ∷ countUp (k + 1) (left - 1)
 unfolding countUp
@@ -95,18 +87,8 @@ unfolding some
 some-map f g [] = refl
 some-map f g (x ∷ xs) = ap (λ b. f (g x) || b) (some-map f g xs)
 
--- of the numbers of those that pass a test
-picked : (b : Bool) (f : ℕ → Bool) (k : ℕ) (xs : List ℕ) → every f (cond b (k ∷ xs) xs) ≡ ((not b || f k) && every f xs)
+-- a test that every number passes
+pub each-true : (f : ℕ → Bool) (xs : List ℕ) → ((i : ℕ) → f i ≡ true) → true ≡ every f xs
 unfolding every
-picked true f k xs = refl
-picked false f k xs = refl
-
-numbers-each : {A : Type 0} (f : ℕ → Bool) (test : A → Bool) (g : ℕ → A) (k n : ℕ) → every f (numbersFrom k test (map g (countUp k n))) ≡ every (λ i. not (test (g i)) || f i) (countUp k n)
-unfolding every countUp numbersFrom
-numbers-each f test g k zero = refl
-numbers-each f test g k (suc n) =
-    picked (test (g k)) f k (numbersFrom (suc k) test (map g (countUp (suc k) n)))
-    ∙ ap (λ b. (not (test (g k)) || f k) && b) (numbers-each f test g (suc k) n)
-
-pub each-picked : {A : Type 0} (f : ℕ → Bool) (test : A → Bool) (g : ℕ → A) (n : ℕ) → every f (numbersFrom 0 test (map g (countUp 0 n))) ≡ every (λ i. not (test (g i)) || f i) (countUp 0 n)
-each-picked f test g n = numbers-each f test g 0 n
+each-true f [] h = refl
+each-true f (x ∷ xs) h = each-true f xs h ∙ ap (λ b. b && every f xs) (sym (h x))

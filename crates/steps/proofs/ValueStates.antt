@@ -16,18 +16,21 @@ use Rattle.farkas.specs.Rows.{item}
 use Rattle.farkas.specs.Farkas.{sameZ}
 use Rattle.formats.specs.Model.{Mode, Switch, Component, Unsafe, Model}
 use Rattle.formats.specs.Locations.{locationCount, modesAt, modeOf}
-use Rattle.formats.specs.Joint.{stays, switchOf, countUp}
-use Rattle.models.specs.Index.{entry, ownerPlace, componentPlace, modePlace, switchPlace, unsafePlace, spanRows, modeFrom, switchFrom, unsafeFrom, componentsFrom, modelFrom, GoodIndex}
+use Rattle.formats.specs.Joint.{stays, switchOf, those, countUp}
+use Rattle.models.specs.Index.{entry, componentPlace, modePlace, switchPlace, unsafePlace, spanRows, modeFrom, switchFrom, unsafeFrom, componentsFrom, modelFrom, GoodIndex}
 use Rattle.models.specs.Counts.{componentAt, perComponent, KnownSwitches}
 use Rattle.models.proofs.GoodIndexLaws.{components-drop, components-end, switch-at}
 use Rattle.joint_switches.proofs.JointLoops.{componentsOn, numbersOn, per-component-drop}
 use Rattle.rules.specs.Runs as runs
-use Rattle.rules.specs.Runs.{conditionHolds, present, movers, difference, sameValues, modesFit}
+use Rattle.rules.specs.Runs.{conditionHolds, present, movers, difference, sameValues, modesFit, unmentioned}
 use Rattle.papers.specs.Standing.{Stands}
 use Rattle.steps.specs.Held.{perVariable, stateOf, valuesAfter, withChanges, modeHolds, unsafeAt, moveHolds, moveAt, sameAt, keptAt}
-use Rattle.rules.proofs.ListFacts.{there}
+use Rattle.rules.proofs.ListFacts.{every-those}
+use Rattle.formats.specs.Versions.{keepsBlanks}
+use Rattle.papers.specs.Blanks.{ownerIn, stillAt, staysAt, restsAt}
+use Rattle.papers.proofs.BlankLaws.{plain-rests, still-told, rests-told}
 use Rattle.papers.proofs.StandingLaws.{mode-at}
-use Rattle.steps.proofs.ValueLoops.{each-agree, some-agree, some-map, each-picked}
+use Rattle.steps.proofs.ValueLoops.{each-agree, each-true, some-agree, some-map}
 use Rattle.steps.proofs.ValueLaws.{second-fails}
 use Rattle.steps.proofs.SliceLaws.{changes-apart, changes-taken}
 
@@ -52,6 +55,39 @@ unfolding sameAt item
 changes-same n state room =
     each-agree (sameAt n (withChanges n state)) (sameAt n state) n
     (λ i h. ap₂ sameZ (changes-apart n state room n (n + i) (omega arith) (omega arith)) (changes-apart n state room n i (omega arith) (omega arith)))
+
+-- variables keep their values: those that pass a test, by another test that says the same of each
+kept-told : (n : ℕ) (state : List ℤ) (test told : ℕ → Bool) → ((v : ℕ) → v < n → test v ≡ told v) → every (keptAt told n state) (countUp 0 n) ≡ every (λ v. sameZ (item (take n (drop n state)) v) (item (take n state) v)) (those test (countUp 0 n))
+unfolding keptAt sameAt item
+kept-told n state test told e =
+    sym
+    (every-those (λ v. sameZ (item (take n (drop n state)) v) (item (take n state) v)) test (countUp 0 n)
+    ∙ each-agree _ (keptAt told n state) n
+    (λ v h.
+    ap (λ (b : Bool). not b || sameZ (getD (take n (drop n state)) v (pos 0)) (getD (take n state) v (pos 0))) (e v h)
+    ∙ ap (λ x. not (told v) || sameZ x (getD (take n state) v (pos 0))) (getD-take n (drop n state) v (pos 0) h ∙ getD-drop n state v (pos 0))
+    ∙ ap (λ x. not (told v) || sameZ (getD state (n + v) (pos 0)) x) (getD-take n state v (pos 0) h)))
+
+-- the changes behind the values leave them kept or not
+pub changes-kept : (n : ℕ) (state : List ℤ) (test : ℕ → Bool) → 3 * n ≤ length state → every (keptAt test n (withChanges n state)) (countUp 0 n) ≡ every (keptAt test n state) (countUp 0 n)
+unfolding keptAt sameAt item
+changes-kept n state test room =
+    each-agree (keptAt test n (withChanges n state)) (keptAt test n state) n
+    (λ i h. ap (λ (b : Bool). not (test i) || b) (ap₂ sameZ (changes-apart n state room n (n + i) (omega arith) (omega arith)) (changes-apart n state room n i (omega arith) (omega arith))))
+
+-- where no blank is kept, nothing is asked
+pub nothing-still : (s index modes : List ℕ) (n : ℕ) (state : List ℤ) → keepsBlanks (entry index 11) ≡ false → true ≡ every (keptAt (stillAt s index modes) n state) (countUp 0 n)
+unfolding keptAt stillAt
+nothing-still s index modes n state e =
+    each-true (keptAt (stillAt s index modes) n state) (countUp 0 n)
+    (λ v. ap (λ (b : Bool). not (b && unmentioned v (spanRows s (entry index 11) (entry index 0) index (modePlace (componentPlace (ownerIn index v)) (getD modes (ownerIn index v) 0) + 5))) || sameAt n state v) e)
+
+-- and of a jump only those are asked whose owners stay
+pub owned-all : (s index switches : List ℕ) (n : ℕ) (state : List ℤ) → keepsBlanks (entry index 11) ≡ false → every (keptAt (staysAt index switches) n state) (countUp 0 n) ≡ every (keptAt (restsAt s index switches) n state) (countUp 0 n)
+unfolding keptAt
+owned-all s index switches n state e =
+    each-agree (keptAt (staysAt index switches) n state) (keptAt (restsAt s index switches) n state) n
+    (λ v h. ap (λ (b : Bool). not b || sameAt n state v) (plain-rests s index switches v e))
 
 -- values before and after are the first numbers, one to a variable and then as many
 both-taken : (n : ℕ) (state : List ℤ) → take (2 * n) state ≡ take n state ++ take n (drop n state)
@@ -169,15 +205,19 @@ module _ {s index : List ℕ} (g : GoodIndex s index) (location : ℕ) (modes : 
 
   -- the rule of a flow
   module _ (δ : ℕ) (state : List ℤ) (room : 3 * entry index 0 ≤ length state) where
-    pub flow-told : (a b : Bool) → a ≡ every (modeHolds s index modes 5 δ (drop (2 * entry index 0) (withChanges (entry index 0) state))) (countUp 0 (entry index 1)) → b ≡ every (sameAt (entry index 0) state) (countUp 0 (entry index 0)) → (a && (not (eqb δ 0) || b)) ≡ runs.flowRule (modelFrom s index) (stateOf index location state) δ (valuesAfter index state)
+    blanks-told : every (keptAt (stillAt s index modes) (entry index 0) state) (countUp 0 (entry index 0)) ≡ runs.blanksKept (modelFrom s index) (stateOf index location state) (valuesAfter index state)
+    unfolding runs.blanksKept runs.stillVariables runs.variablesThat runs.kept stateOf perVariable modelFrom
+    blanks-told = kept-told (entry index 0) state _ (stillAt s index modes) (λ v h. still-told g v h location modes stands long)
+
+    pub flow-told : (a k b : Bool) → a ≡ every (modeHolds s index modes 5 δ (drop (2 * entry index 0) (withChanges (entry index 0) state))) (countUp 0 (entry index 1)) → k ≡ every (keptAt (stillAt s index modes) (entry index 0) state) (countUp 0 (entry index 0)) → b ≡ every (sameAt (entry index 0) state) (countUp 0 (entry index 0)) → (a && (k && (not (eqb δ 0) || b))) ≡ runs.flowRule (modelFrom s index) (stateOf index location state) δ (valuesAfter index state)
     unfolding runs.flowRule runs.ratesHold runs.stillAtZero stateOf perVariable
-    flow-told a b p r =
+    flow-told a k b p t r =
         let n = entry index 0 in
         let change = difference (take n (drop n state)) (take n state) in
         let rates = every (λ mode. conditionHolds δ change (mode .flow)) (runs.modesIn (modelFrom s index) location) in
         let a-is : a ≡ rates = p ∙ sym (flows-told δ change (drop (2 * n) (withChanges n state)) (changes-taken n state room)) in
         let b-is : b ≡ sameValues (take n (drop n state)) (take n state) = r ∙ sym (same-all n state (omega arith)) in
-        ap (λ x. x && (not (eqb δ 0) || b)) a-is ∙ ap (λ x. rates && (not (eqb δ 0) || x)) b-is
+        ap (λ x. x && (k && (not (eqb δ 0) || b))) a-is ∙ ap (λ x. rates && (x && (not (eqb δ 0) || b))) (t ∙ blanks-told) ∙ ap (λ x. rates && (runs.blanksKept (modelFrom s index) (stateOf index location state) (valuesAfter index state) && (not (eqb δ 0) || x))) b-is
 
 -- the rows of a jump
 picked : (c : Component) (cs : List Component) (i : ℕ) (is : List ℕ) (f : Switch → Bool) → every f (movers (c ∷ cs) (i ∷ is)) ≡ ((eqb i stays || f (switchOf c i)) && every f (movers cs is))
@@ -211,26 +251,11 @@ module _ {s index switches : List ℕ} (g : GoodIndex s index) (known : KnownSwi
           (λ f. ap (conditionHolds q (take (entry index 0) state ++ take (entry index 0) (drop (entry index 0) state))) (jump-is k (known .known k h f))
           ∙ ap (λ xs. conditionHolds q xs (spanRows s (entry index 11) (2 * entry index 0) index (switchPlace (componentPlace k) (getD switches k 0) + 3))) (sym (both-taken (entry index 0) state)))
 
--- the variables of staying components
-module _ {s index : List ℕ} (g : GoodIndex s index) (switches : List ℕ) (long : length switches ≡ 4) (location : ℕ) (state : List ℤ) where
-  kept-is : (v : ℕ) → v < entry index 0 → (not (eqb (getD (take (entry index 1) switches) (entry index (ownerPlace v)) stays) stays) || sameZ (item (take (entry index 0) (drop (entry index 0) state)) v) (item (take (entry index 0) state) v)) ≡ keptAt index switches (entry index 0) state v
-  unfolding keptAt sameAt item
-  kept-is v h =
-      let n = entry index 0 in
-      let c = entry index 1 in
-      let owner = entry index (ownerPlace v) in
-      let mine : owner < length switches = omega (arith, g .owners v h, g .few) in
-      let switch : getD (take c switches) owner stays ≡ getD switches owner 0 = getD-take c switches owner stays (g .owners v h) ∙ there switches owner stays 0 mine in
-      ap (λ (i : ℕ). not (eqb i stays) || sameZ (getD (take n (drop n state)) v (pos 0)) (getD (take n state) v (pos 0))) switch
-      ∙ ap (λ x. not (eqb (getD switches owner 0) stays) || sameZ x (getD (take n state) v (pos 0))) (getD-take n (drop n state) v (pos 0) h ∙ getD-drop n state v (pos 0))
-      ∙ ap (λ x. not (eqb (getD switches owner 0) stays) || sameZ (getD state (n + v) (pos 0)) x) (getD-take n state v (pos 0) h)
-
-  pub staying-told : every (keptAt index switches (entry index 0) state) (countUp 0 (entry index 0)) ≡ runs.stayingKept (modelFrom s index) (stateOf index location state) (perComponent index switches) (valuesAfter index state)
-  unfolding runs.stayingKept runs.stayingVariables stateOf perVariable perComponent modelFrom
-  staying-told =
-      sym
-      (each-picked (λ v. sameZ (item (take (entry index 0) (drop (entry index 0) state)) v) (item (take (entry index 0) state) v)) (λ owner. eqb (getD (take (entry index 1) switches) owner stays) stays) (λ v. entry index (ownerPlace v)) (entry index 0)
-      ∙ each-agree _ (keptAt index switches (entry index 0) state) (entry index 0) kept-is)
+-- the variables of staying components, and those that no row of their owner's switch mentions
+module _ {s index : List ℕ} (g : GoodIndex s index) (switches : List ℕ) (moves : KnownSwitches index switches) (long : entry index 1 ≤ length switches) (location : ℕ) (state : List ℤ) where
+  pub staying-told : every (keptAt (restsAt s index switches) (entry index 0) state) (countUp 0 (entry index 0)) ≡ runs.stayingKept (modelFrom s index) (stateOf index location state) (perComponent index switches) (valuesAfter index state)
+  unfolding runs.stayingKept runs.stayingVariables runs.variablesThat runs.kept stateOf perVariable modelFrom
+  staying-told = kept-told (entry index 0) state _ (restsAt s index switches) (λ v h. rests-told g v h switches moves long)
 
 -- a run does not begin in a state that is not admissible
 pub start-refused : (m : Model) (q : ℕ) (state : runs.State) (a : Bool) → a ≡ runs.admissible m q state → a ≡ false → false ≡ runs.startAllowed m q state

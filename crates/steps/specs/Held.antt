@@ -15,7 +15,7 @@ use Rattle.farkas.specs.Farkas.{sameZ}
 use Rattle.formats.specs.Joint.{stays, modesAfter}
 use Rattle.formats.specs.Locations.{locationOf}
 use Rattle.formats.specs.RunSheet.{Step}
-use Rattle.models.specs.Index.{versionIn, entry, ownerPlace, componentPlace, modePlace, switchPlace, unsafePlace, spanRows, unsafeFrom, componentsFrom, GoodIndex}
+use Rattle.models.specs.Index.{versionIn, entry, componentPlace, modePlace, switchPlace, unsafePlace, spanRows, unsafeFrom, componentsFrom, GoodIndex}
 use Rattle.models.specs.Counts.{perComponent, KnownSwitches}
 use Rattle.second_sheets.specs.declared.Switches.{Switches}
 use Rattle.second_sheets.specs.declared.Step as coded
@@ -95,9 +95,9 @@ moveAt s index switches q point k = moveHolds s index q point k (getD switches k
 unfoldable pub sameAt : ℕ → List ℤ → ℕ → Bool
 sameAt n state v = sameZ (item state (n + v)) (item state v)
 
--- the variable's owner moves, or its value is kept
-unfoldable pub keptAt : List ℕ → List ℕ → ℕ → List ℤ → ℕ → Bool
-keptAt index switches n state v = not (eqb (getD switches (entry index (ownerPlace v)) 0) stays) || sameAt n state v
+-- and that, where a test says that it is kept
+unfoldable pub keptAt : (ℕ → Bool) → ℕ → List ℤ → ℕ → Bool
+keptAt test n state v = not (test v) || sameAt n state v
 
 -- a step that was read has a time below 2^24, or an event that is a label and switches of the components
 pub record KnownStep (index : List ℕ) (by : coded.Step) : Type 0 where

@@ -2,9 +2,9 @@
 // many numbers from there on, and then their change. How a run may begin, unsafe states, the rules of flows and jumps.
 use crate::rows::condition_holds;
 use crate::rows::modes_hold;
+use fields::versions::keeps_blanks;
 use models::layout::COMPONENTS_AT;
 use models::layout::CONDITIONS_AT;
-use models::layout::FIRST_OWNER;
 use models::layout::FIRST_UNSAFE;
 use models::layout::FLOW_AT;
 use models::layout::INITIAL_AT;
@@ -13,19 +13,24 @@ use models::layout::Index;
 use models::layout::UNSAFE_LENGTH;
 use models::layout::UNSAFE_ROWS_AT;
 use models::layout::VARIABLES_AT;
+use papers::blanks::kept_in_flow;
+use papers::blanks::kept_in_jump;
+use papers::blanks::owner_stays;
 use papers::opening::number_at;
+use papers::opening::version_of;
 use papers::standing::all_start;
 use papers::standing::modes_fit;
 use papers::standing::switch_place;
 ghost use mathlib.Core.Path.{_≡_};
-ghost use mathlib.Core.Bool.{false};
+ghost use mathlib.Core.Bool.{false, not};
 ghost use Prim.Native.Nat.{ℕ, _+_, _*_, _^_, _≤_, _<_};
 ghost use lib.Dec.{eqb};
 ghost use lib.ListN.{length};
 ghost use Rattle.farkas.specs.Lists.{every};
 ghost use Rattle.formats.specs.Joint.{stays, countUp};
-ghost use Rattle.models.specs.Index.{entry, ownerPlace, modelFrom, GoodIndex, componentsIn, conditionsIn, switchCountIn, variablesIn};
-ghost use Rattle.models.specs.Counts.{perComponent, KnownSwitches};
+ghost use Rattle.models.specs.Index.{modelFrom, GoodIndex, componentsIn, conditionsIn, switchCountIn, variablesIn};
+ghost use Rattle.models.specs.Counts.{perComponent, KnownModes, KnownSwitches};
+ghost use Rattle.papers.specs.Blanks.{Owned, restsAt, stillAt, staysAt};
 ghost use Rattle.rules.specs.Runs as runs;
 ghost use Rattle.steps.specs.Held.{Located, SmallValues, SmallState, SmallPoint, stateOf, stateIn, valuesAfter, withChanges, movedOn, unsafeAt, moveHolds, sameAt, keptAt};
 
@@ -108,6 +113,74 @@ fn changes_into(n: usize, state: &mut [i64])
     }
 }
 
+// Whether a variable's value is the same after as before.
+fn same_value(v: usize, n: usize, state: &[i64]) -> bool
+    requires { ⌜ (v < n) × (2 * n ≤ length (now state)) ⌝ }
+    ensures { λ r. ⌜ r ≡ sameAt n (now (state .entry)) v ⌝ }
+{
+    state[n + v] == state[v]
+}
+
+// Whether a variable's value has changed though a flow in these modes keeps it. Rows are looked at only where it has changed.
+fn moved_in_flow(
+    model: &[u8],
+    index: &Index,
+    modes: [u8; 4],
+    v: usize,
+    n: usize,
+    state: &[i64],
+) -> bool
+    requires { ⌜ GoodIndex (now model) (now index) × (length (now model) ≤ 32768) ⌝ }
+    requires { ⌜ KnownModes (now index) modes × (v < variablesIn (now index)) ⌝ }
+    requires { ⌜ (v < n) × (2 * n ≤ length (now state)) ⌝ }
+    ensures { λ r. ⌜ not r ≡ keptAt (stillAt (now (model .entry)) (now (index .entry)) modes) n (now (state .entry)) v ⌝ }
+{
+    if same_value(v, n, state) {
+        return false;
+    }
+    kept_in_flow(model, index, modes, v)
+}
+
+// The same of a jump by these switches.
+fn moved_in_jump(
+    model: &[u8],
+    index: &Index,
+    switches: [u8; 4],
+    v: usize,
+    n: usize,
+    state: &[i64],
+) -> bool
+    requires { ⌜ GoodIndex (now model) (now index) × (length (now model) ≤ 32768) ⌝ }
+    requires { ⌜ KnownSwitches (now index) switches × (v < variablesIn (now index)) ⌝ }
+    requires { ⌜ (v < n) × (2 * n ≤ length (now state)) ⌝ }
+    ensures { λ r. ⌜ not r ≡ keptAt (restsAt (now (model .entry)) (now (index .entry)) switches) n (now (state .entry)) v ⌝ }
+{
+    if same_value(v, n, state) {
+        return false;
+    }
+    kept_in_jump(model, index, switches, v)
+}
+
+// Whether the variables keep their values that no flow row mentions.
+fn still_kept(model: &[u8], index: &Index, modes: [u8; 4], state: &[i64]) -> bool
+    requires { ⌜ GoodIndex (now model) (now index) × (length (now model) ≤ 32768) ⌝ }
+    requires { ⌜ KnownModes (now index) modes × (2 * variablesIn (now index) ≤ length (now state)) ⌝ }
+    ensures { λ r. ⌜ r ≡ every (keptAt (stillAt (now (model .entry)) (now (index .entry)) modes) (variablesIn (now (index .entry))) (now (state .entry))) (countUp 0 (variablesIn (now (index .entry)))) ⌝ }
+{
+    if !keeps_blanks(version_of(index)) {
+        return true;
+    }
+    let n = number_at(index, VARIABLES_AT);
+    let mut v: usize = 0;
+    while v < n {
+        if moved_in_flow(model, index, modes, v, n, state) {
+            return false;
+        }
+        v += 1;
+    }
+    true
+}
+
 // Whether a flow of this time meets its rule. The changes of the values stand behind them then.
 pub fn flow_rule(model: &[u8], index: &Index, modes: [u8; 4], time: u32, state: &mut [i64]) -> bool
     requires { ⌜ Located (now model) (now index) modes × (time < 2 ^ 24) ⌝ }
@@ -119,6 +192,9 @@ pub fn flow_rule(model: &[u8], index: &Index, modes: [u8; 4], time: u32, state: 
     changes_into(n, state);
     let changes = 2 * n;
     if !modes_hold(model, index, modes, FLOW_AT, &state[changes..], time) {
+        return false;
+    }
+    if !still_kept(model, index, modes, state) {
         return false;
     }
     if time != 0 {
@@ -166,29 +242,48 @@ pub fn jump_rows(model: &[u8], index: &Index, q: u32, switches: [u8; 4], state: 
     true
 }
 
-// Whether a variable's owner moves, or its value is kept.
+// Whether a variable's value is the same after as before, where its owner stays.
 fn value_kept(index: &Index, switches: [u8; 4], v: usize, n: usize, state: &[i64]) -> bool
-    requires { ⌜ (v < 8) × (entry (now index) (ownerPlace v) < 4) ⌝ }
+    requires { ⌜ Owned (now index) × (v < variablesIn (now index)) ⌝ }
     requires { ⌜ (v < n) × (2 * n ≤ length (now state)) ⌝ }
-    ensures { λ r. ⌜ r ≡ keptAt (now (index .entry)) switches n (now (state .entry)) v ⌝ }
+    ensures { λ r. ⌜ r ≡ keptAt (staysAt (now (index .entry)) switches) n (now (state .entry)) v ⌝ }
 {
-    let owner = number_at(index, FIRST_OWNER + v);
-    if switches[owner] != 255 {
+    if !owner_stays(index, switches, v) {
         return true;
     }
-    state[n + v] == state[v]
+    same_value(v, n, state)
 }
 
-// Whether the variables of staying components keep their values, from whichever location.
-pub fn staying_kept(model: &[u8], index: &Index, switches: [u8; 4], state: &[i64]) -> bool
-    requires { ⌜ GoodIndex (now model) (now index) ⌝ }
-    requires { ⌜ 2 * variablesIn (now index) ≤ length (now state) ⌝ }
-    ensures { λ r. ⌜ ((location : ℕ) → r ≡ runs.stayingKept (modelFrom (now (model .entry)) (now (index .entry))) (stateOf (now (index .entry)) location (now (state .entry))) (perComponent (now (index .entry)) switches) (valuesAfter (now (index .entry)) (now (state .entry)))) ⌝ }
+// Whether the variables keep their values whose owners stay.
+fn owned_kept(index: &Index, switches: [u8; 4], state: &[i64]) -> bool
+    requires { ⌜ Owned (now index) × (2 * variablesIn (now index) ≤ length (now state)) ⌝ }
+    ensures { λ r. ⌜ r ≡ every (keptAt (staysAt (now (index .entry)) switches) (variablesIn (now (index .entry))) (now (state .entry))) (countUp 0 (variablesIn (now (index .entry)))) ⌝ }
 {
     let n = number_at(index, VARIABLES_AT);
     let mut v: usize = 0;
     while v < n {
         if !value_kept(index, switches, v, n, state) {
+            return false;
+        }
+        v += 1;
+    }
+    true
+}
+
+// Whether the variables keep their values that a jump by these switches keeps, from whichever location. Where no blank is kept, only
+// owners are looked at.
+pub fn staying_kept(model: &[u8], index: &Index, switches: [u8; 4], state: &[i64]) -> bool
+    requires { ⌜ GoodIndex (now model) (now index) × (length (now model) ≤ 32768) ⌝ }
+    requires { ⌜ KnownSwitches (now index) switches × (2 * variablesIn (now index) ≤ length (now state)) ⌝ }
+    ensures { λ r. ⌜ ((location : ℕ) → r ≡ runs.stayingKept (modelFrom (now (model .entry)) (now (index .entry))) (stateOf (now (index .entry)) location (now (state .entry))) (perComponent (now (index .entry)) switches) (valuesAfter (now (index .entry)) (now (state .entry)))) ⌝ }
+{
+    if !keeps_blanks(version_of(index)) {
+        return owned_kept(index, switches, state);
+    }
+    let n = number_at(index, VARIABLES_AT);
+    let mut v: usize = 0;
+    while v < n {
+        if moved_in_jump(model, index, switches, v, n, state) {
             return false;
         }
         v += 1;

@@ -62,7 +62,7 @@ returns-2 c =
     let p = s .pre in
     let k = c .before .before .before .before .before .before .flow-table in
     let lines = lines-start (pushed (k .ensures)) in
-    same-group _ _ _ _ (c .region-group .ensures) (flow-tasks _ _ _ _ (s .args .modes) _ (long s) (p .1 .0) _ (k .result) _ lines)
+    same-group _ _ _ _ (c .region-group .ensures) (flow-tasks _ _ _ _ (s .args .modes) _ (long s) (p .1 .0) _ (k .result) _ (p .0 .good) lines)
     (region-good _ _ _ _ _ _ (k .result) _ _ _ (p .0) (p .1 .0 .below) (k .ensures .1 .stacked) (omega (arith, k .ensures .1 .few)) lines (flow-fine _ _ _ _ _ _ (long s) (p .1 .0 .known) (p .0) (p .1 .0 .below)) (omega arith) (omega (arith, p .0 .good .most)))
 
 pub flow-group-spec : {M : Type 1} → statement M

@@ -1,4 +1,4 @@
--- Region and invariants, invariants on x', flow rows, the time. Assumes nothing.
+-- Region and invariants, invariants on x', flow rows, the time and what follows it. Assumes nothing.
 use native.Mathlib.Omega.{arith}
 use borrow.Author.Needs.{needs}
 use denote.Ref.{now}
@@ -30,13 +30,13 @@ push-modes-requires-2 c κs =
     let index = now (s .args .index) in
     (few-rows model index (s .args .modes) 5 (s .pre .0 .good) (omega arith) (flow-good model index (s .args .modes) (s .pre .0 .good) (s .pre .1 .0 .1)), (omega (arith, h .kept .1 .1 .1 .1 .1 .1 .0, k .kept .1 .1 .1 .1 .0, s .pre .1 .1 .0), (omega (arith, h .ensures .1 .few, k .ensures .1 .few), k .ensures .1 .stacked)))
 
-push-requires : tie.Need-push-requires
-push-requires c κs =
+push-time-requires : tie.Need-push-time-requires
+push-time-requires c κs =
     let s = c .before .before .before .before .before .before .before .before .before .before .before .before .before .before .before .before in
     let r = c .before .before .before .push-modes2 in
     let k = c .before .before .before .before .before .before .before .push-modes in
     let h = c .before .before .before .before .before .before .before .before .before .before .before .push-here in
-    ((omega (arith, h .kept .1 .1 .1 .1 .1 .1 .0, k .kept .1 .1 .1 .1 .0, r .kept .1 .1 .1 .1 .0, s .pre .1 .1 .0), omega (arith, h .ensures .1 .few, k .ensures .1 .few, r .ensures .1 .few)), (r .ensures .1 .stacked, omega arith))
+    ((s .pre .0 .good, (s .pre .0 .short, s .pre .1 .0 .1)), (omega (arith, h .kept .1 .1 .1 .1 .1 .1 .0, k .kept .1 .1 .1 .1 .0, r .kept .1 .1 .1 .1 .0, s .pre .1 .1 .0), (omega (arith, h .ensures .1 .few, k .ensures .1 .few, r .ensures .1 .few), r .ensures .1 .stacked)))
 
 same-length : tie.Need-same-length
 same-length c = search needs
@@ -44,7 +44,7 @@ same-length c = search needs
 returns : tie.Need-returns
 unfolding flowLines
 returns c =
-    as-promised (pushed-then (pushed (c .before .before .before .before .before .before .before .before .before .before .before .before .before .before .push-here .ensures)) (pushed-then {j = 5} {n = 9} (pushed (c .before .before .before .before .before .before .before .before .before .before .push-modes .ensures)) (pushed-then {n = 5} (pushed (c .before .before .before .before .before .before .push-modes2 .ensures)) (pushed (c .before .before .push .ensures)) (omega arith)) (omega arith)) (omega arith))
+    as-promised (pushed-then (pushed (c .before .before .before .before .before .before .before .before .before .before .before .before .before .before .push-here .ensures)) (pushed-then {j = 13} {n = 17} (pushed (c .before .before .before .before .before .before .before .before .before .before .push-modes .ensures)) (pushed-then {n = 13} (pushed (c .before .before .before .before .before .before .push-modes2 .ensures)) (pushed (c .before .before .push-time .ensures)) (omega arith)) (omega arith)) (omega arith))
 
 pub flow-table-spec : {M : Type 1} → statement M
 flow-table-spec =
@@ -53,6 +53,6 @@ flow-table-spec =
     push-here-requires
     push-modes-requires
     push-modes-requires-2
-    push-requires
+    push-time-requires
     same-length
     returns)

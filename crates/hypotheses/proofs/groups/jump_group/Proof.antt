@@ -34,7 +34,7 @@ jump-table-requires c κs =
     let s = c .before .before .before .before .before .before in
     let told = c .before .before .modes-at in
     let there = stands-at (now (s .args .model)) (now (s .args .index)) (s .args .landing .target) (told .result) _ (s .pre .0 .good) (s .pre .1 .0 .0) (told .ensures) in
-    ((s .pre .0 .good, (there .known, s .pre .1 .0 .1)), (s .pre .1 .1 .0, (s .pre .1 .1 .1 .few, s .pre .1 .1 .1 .stacked)))
+    ((s .pre .0 .good, (s .pre .0 .short, (there .known, s .pre .1 .0 .1))), (s .pre .1 .1 .0, (s .pre .1 .1 .1 .few, s .pre .1 .1 .1 .stacked)))
 
 element-copy-out-n : tie.Need-element-copy-out-n
 element-copy-out-n c = search needs
@@ -78,8 +78,8 @@ returns c =
     let broad : entry index 1 ≤ length switches = omega (arith, s .pre .0 .good .few, switches-length s) in
     let k = c .before .before .before .before .before .before .jump-table in
     let table = k .last .1 .1 .1 .1 .1 .0 in
-    let lines : linesIn table (k .result) ≡ jumpLines index regions location (perComponent index modes) (perComponent index (told .result)) switches =
-    k .ensures .0 ∙ ap (λ (ls : List TableLine). ls ++ landingLines index (perComponent index (told .result)) switches) (here .told ∙ ap (hereLines index regions location) (sym (stands .here))) in
+    let lines : linesIn table (k .result) ≡ jumpLines model index regions location (perComponent index modes) (perComponent index (told .result)) switches =
+    k .ensures .0 ∙ ap (λ (ls : List TableLine). ls ++ landingLines model index (perComponent index (told .result)) switches) (here .told ∙ ap (hereLines index regions location) (sym (stands .here))) in
     let fine = jump-fine model index second regions modes location long (stands .known) (s .pre .0) (here .below) (told .result) switches wide (there .known) broad (s .pre .1 .0 .1) in
     let same : c .region-group .result ≡ regionGroup (entry index 11) regions to table (k .result) n (n + n) = c .region-group .ensures in (
       ap (tasksOf model second n table) same ∙ jump-tasks model index second regions modes location long stands table (k .result) (n + n) to (told .result) switches wide there broad (s .pre .1 .0 .1) (s .pre .0 .good) lines,

@@ -100,7 +100,7 @@ jump-table-requires : tie.Need-jump-table-requires
 jump-table-requires c κs =
     let at = c .before .before .before .before .before .before .before in
     let pushed-here = c .before .before .before .push-here in
-    ((s at .pre .0 .good, (there (c .before .before .before .before .before) .known, known at)), (omega (arith, pushed-here .kept .1 .1 .1 .1 .1 .1 .0, s at .pre .1 .1 .0), (omega (arith, pushed-here .ensures .1 .few), pushed-here .ensures .1 .stacked)))
+    ((s at .pre .0 .good, (s at .pre .0 .short, (there (c .before .before .before .before .before) .known, known at))), (omega (arith, pushed-here .kept .1 .1 .1 .1 .1 .1 .0, s at .pre .1 .1 .0), (omega (arith, pushed-here .ensures .1 .few), pushed-here .ensures .1 .stacked)))
 
 same-length : tie.Need-same-length
 same-length c = search needs
@@ -118,8 +118,8 @@ returns c =
     let long : entry (index at) 1 ≤ length (modes .result) = omega (arith, good .few, modes .ok) in
     let wide : entry (index at) 1 ≤ length (targets .result) = omega (arith, good .few, targets .ok) in
     let broad : entry (index at) 1 ≤ length (lands at .switches) = omega (arith, good .few, switches-length at) in
-    let lines : linesIn _ (made .result) ≡ jumpLines (index at) (now (a .regions)) (a .location) (perComponent (index at) (modes .result)) (perComponent (index at) (targets .result)) (lands at .switches) =
-    made .ensures .0 ∙ ap (λ (ls : List TableLine). ls ++ landingLines (index at) (perComponent (index at) (targets .result)) (lands at .switches)) (lines-start (pushed (pushed-here .ensures))) in
+    let lines : linesIn _ (made .result) ≡ jumpLines (model at) (index at) (now (a .regions)) (a .location) (perComponent (index at) (modes .result)) (perComponent (index at) (targets .result)) (lands at .switches) =
+    made .ensures .0 ∙ ap (λ (ls : List TableLine). ls ++ landingLines (model at) (index at) (perComponent (index at) (targets .result)) (lands at .switches)) (lines-start (pushed (pushed-here .ensures))) in
     let held = jump-held (model at) (index at) (now (a .second)) (now (a .regions)) (modes .result) (a .location) long (here at) _ (made .result) (lands at .target) (a .e) (targets .result) (lands at .switches) wide (there (c .before .before .before .before .before .before .before .before)) broad (known at) good lines _ (same at) in
     (held, (made .ensures .1 .stacked, omega (arith, made .ensures .1 .few, pushed-here .ensures .1 .few)))
 

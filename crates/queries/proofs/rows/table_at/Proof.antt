@@ -50,7 +50,7 @@ unfolding entry
 returns-2 c =
     let s = c .before .before .before .before .before .before .before .before .before in
     let made = c .before .before .flow-table .ensures in
-    (held s (sym (c .before .before .before .before .if2 .taken)) (flow-held _ _ _ _ _ _ (long s) (s .pre .1 .0) _ _ (lines-start (pushed made))), (made .1 .stacked, omega (arith, made .1 .few)))
+    (held s (sym (c .before .before .before .before .if2 .taken)) (flow-held _ _ _ _ _ _ (long s) (s .pre .1 .0) _ _ (s .pre .0 .good) (lines-start (pushed made))), (made .1 .stacked, omega (arith, made .1 .few)))
 
 sub-unsafe-table : tie.Need-sub-unsafe-table
 sub-unsafe-table c = search needs
