@@ -28,6 +28,8 @@ static const char help[] =
     "\n"
     "MODEL, SECOND and OTHER are files with one sheet each. SECOND is marked as a run if its byte 3 is 3, else as a certificate.\n"
     "Variables are the letters a to h, in the model's order; a' is the value of a after a flow or a jump.\n"
+    "In a model of version 2 a variable keeps its value in a flow if no flow row of its component's present mode mentions it, and in a\n"
+    "jump if no row of its component's switch mentions its new value. In version 1 it need not.\n"
     "A fair copy has each row divided by the greatest common divisor of its numbers, no row that always holds, and rows in ascending\n"
     "order, each once. Models with the same one allow the same runs; with different ones they still may. Certificates are for the\n"
     "model that they were drawn for, not for its copy.\n"
@@ -50,6 +52,14 @@ struct request {
     uint32_t variables;
 };
 
+/* Says why a paper is refused, and its model's version if it is known. */
+static void refuse(const struct silfoddra_answer *answer, const struct paper *paper)
+{
+    print_refusal(answer, paper);
+    if (is_version_known(answer))
+        print_version(&paper->model);
+}
+
 static int mark_run(const struct paper *paper)
 {
     const struct sheet *model = &paper->model;
@@ -58,10 +68,11 @@ static int mark_run(const struct paper *paper)
         silfoddra_mark_run(model->bytes, model->length, run->bytes, run->length, paper->limits.locations, paper->limits.joints);
     if (answer.number == 0) {
         printf("Accepted: a run of the model that ends in an unsafe state.\n");
+        print_version(model);
         printf("Steps: %" PRIu32 ". Score: %" PRIu32 ".\n", answer.done, answer.score);
         return ACCEPTED;
     }
-    print_refusal(&answer, paper);
+    refuse(&answer, paper);
     printf("Steps passed: %" PRIu32 ". Score: %" PRIu32 ".\n", answer.done, answer.score);
     print_run_fault(&answer, model, run);
     return REFUSED;
@@ -75,10 +86,11 @@ static int mark_certificate(const struct paper *paper)
                                                                 paper->limits.locations, paper->limits.joints);
     if (answer.number == 0) {
         printf("Accepted: no run of the model reaches an unsafe state.\n");
+        print_version(model);
         printf("Proofs: %" PRIu32 ". Score: %" PRIu32 ".\n", answer.done, answer.score);
         return ACCEPTED;
     }
-    print_refusal(&answer, paper);
+    refuse(&answer, paper);
     printf("Proofs passed: %" PRIu32 ". Score: %" PRIu32 ".\n", answer.done, answer.score);
     print_obligation(paper, answer.done);
     return REFUSED;
@@ -101,6 +113,7 @@ static int show_row(const struct request *request)
         print_refusal(&answer, paper);
         return REFUSED;
     }
+    print_version(&paper->model);
     print_obligation(paper, request->obligation);
     print_hypothesis(paper, request->obligation, request->hypothesis, &row);
     return ACCEPTED;

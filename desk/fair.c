@@ -1,6 +1,7 @@
 #include "fair.h"
 
 #include "marker.h"
+#include "model.h"
 #include "status.h"
 #include "words.h"
 
@@ -42,6 +43,13 @@ int write_fair_copy(const struct paper *paper, const char *name)
     return ACCEPTED;
 }
 
+/* The same rows may mean other runs in another version. */
+static void print_versions_if_different(const struct sheet *model, const struct sheet *other)
+{
+    if (model_version(model) != model_version(other))
+        printf("Versions: %u and %u.\n", model_version(model), model_version(other));
+}
+
 int compare_fair_copies(const struct paper *paper)
 {
     struct fair_copy first, second;
@@ -50,6 +58,7 @@ int compare_fair_copies(const struct paper *paper)
         return REFUSED;
     if (first.length != second.length || memcmp(first.bytes, second.bytes, first.length) != 0) {
         printf("Different: %s and %s have different fair copies.\n", paper->model.name, other.model.name);
+        print_versions_if_different(&paper->model, &other.model);
         return DIFFERENT;
     }
     printf("Same: %s and %s have the same fair copy.\n", paper->model.name, other.model.name);

@@ -1,8 +1,13 @@
 #include "model.h"
 
-/* Document 01, Model: the first fields, and the fields before a component's modes. */
-enum { VARIABLES_AT = 4, COMPONENTS_AT = 5, OWNERS_AT = 7 };
+/* Document 01, Sheet and Model: the version, the first fields, and the fields before a component's modes. */
+enum { VERSION_AT = 2, VARIABLES_AT = 4, COMPONENTS_AT = 5, OWNERS_AT = 7 };
 enum { MODES_IN = 2, SWITCHES_IN = 3, COMPONENT_HEAD = 4, CONDITIONS_OF_MODE = 3 };
+
+uint8_t model_version(const struct sheet *model)
+{
+    return sheet_byte(model, VERSION_AT);
+}
 
 size_t model_variables(const struct sheet *model)
 {
@@ -12,6 +17,11 @@ size_t model_variables(const struct sheet *model)
 size_t model_components(const struct sheet *model)
 {
     return sheet_byte(model, COMPONENTS_AT);
+}
+
+size_t model_owner(const struct sheet *model, size_t variable)
+{
+    return sheet_byte(model, OWNERS_AT + variable);
 }
 
 /* Where a condition ends that begins at an offset, and whose rows have so many coefficients. */

@@ -24,6 +24,12 @@ enum {
 
 enum { MOST_NUMBERS = 2 * MOST_VARIABLES + 1 };
 
+static struct silfoddra_obligation find_obligation(const struct paper *paper, uint32_t number)
+{
+    return silfoddra_which_obligation(paper->model.bytes, paper->model.length, paper->second.bytes, paper->second.length, number,
+                                      paper->limits.locations, paper->limits.joints);
+}
+
 static void print_region_row(const struct sheet *model, uint32_t row, uint32_t location, const char *when)
 {
     printf("region row %" PRIu32 " of ", row);
@@ -44,9 +50,7 @@ static void print_after_jump(const struct paper *paper, const struct silfoddra_o
 void print_obligation(const struct paper *paper, uint32_t number)
 {
     const struct sheet *model = &paper->model;
-    struct silfoddra_obligation obligation =
-        silfoddra_which_obligation(model->bytes, model->length, paper->second.bytes, paper->second.length, number,
-                                   paper->limits.locations, paper->limits.joints);
+    struct silfoddra_obligation obligation = find_obligation(paper, number);
     if (obligation.number != 0)
         return;
     printf("Obligation %" PRIu32 ": ", number);
@@ -68,8 +72,41 @@ void print_obligation(const struct paper *paper, uint32_t number)
     }
 }
 
-/* What a hypothesis is. */
-static void print_role(const struct silfoddra_row *row)
+/* Why a variable stays in a flow in a location. */
+static void print_reason_in_flow(const struct sheet *model, uint32_t location, size_t owner)
+{
+    uint32_t modes[MOST_COMPONENTS];
+    model_modes(model, location, modes);
+    printf(", because no flow row of mode %" PRIu32 " of its component %zu mentions it", modes[owner], owner);
+}
+
+/* Why it stays in a jump by the joint switch with a number. */
+static void print_reason_in_jump(const struct paper *paper, uint32_t number, size_t owner)
+{
+    struct silfoddra_joint joint;
+    if (model_joint(&paper->model, &paper->limits, number, &joint) != 0)
+        return;
+    if (joint.switches[owner] == STAYS)
+        printf(", because its component %zu does not move", owner);
+    else
+        printf(", because no row of switch %u of its component %zu mentions its new value", joint.switches[owner], owner);
+}
+
+/* A variable that stays in the flow or the jump of an obligation, and why. */
+static void print_staying_variable(const struct paper *paper, uint32_t number, uint32_t variable)
+{
+    struct silfoddra_obligation obligation = find_obligation(paper, number);
+    size_t owner = model_owner(&paper->model, variable);
+    printf("variable %c stays", variable_letter(variable));
+    if (obligation.kind == AFTER_FLOW)
+        print_reason_in_flow(&paper->model, obligation.subject, owner);
+    else
+        print_reason_in_jump(paper, obligation.subject, owner);
+    printf(".\n");
+}
+
+/* What a hypothesis of an obligation is. */
+static void print_role(const struct paper *paper, uint32_t obligation, const struct silfoddra_row *row)
 {
     switch (row->role) {
     case INITIAL:
@@ -97,7 +134,7 @@ static void print_role(const struct silfoddra_row *row)
         printf("jump row of component %" PRIu32 ".\n", row->owner);
         break;
     default:
-        printf("variable %c stays.\n", variable_letter(row->owner));
+        print_staying_variable(paper, obligation, row->owner);
         break;
     }
 }
@@ -142,7 +179,7 @@ void print_hypothesis(const struct paper *paper, uint32_t obligation, uint32_t h
 {
     const struct sheet *model = &paper->model;
     printf("Hypothesis %" PRIu32 ": ", hypothesis);
-    print_role(row);
+    print_role(paper, obligation, row);
     if (row->sheet != IN_NO_SHEET) {
         print_row(row->sheet == IN_MODEL ? model : &paper->second, row, model_variables(model));
         return;

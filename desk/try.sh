@@ -75,16 +75,44 @@ sheet() {
     printf "$(printf '\\x%s' $(printf '%02x %02x' $(($# - 1 >> 8)) $(($# - 1 & 255))) "${@:2}")" >"$1"
 }
 
+# numbers NUMBER..: each in four bytes
+numbers() {
+    local number
+    for number; do printf '%02x ' $((number >> 24 & 255)) $((number >> 16 & 255)) $((number >> 8 & 255)) $((number & 255)); done
+}
+
+# condition WIDTH NUMBER..: a condition whose rows have so many numbers each, the bound last
+condition() {
+    printf '%02x ' $((($# - 1) / $1))
+    numbers "${@:2}"
+}
+
 # rows NUMBER..: a condition on one variable, of rows by their coefficient and bound
 rows() {
-    local number
-    printf '%02x ' $(($# / 2))
-    for number; do printf '%02x ' $((number >> 24 & 255)) $((number >> 16 & 255)) $((number >> 8 & 255)) $((number & 255)); done
+    condition 2 "$@"
 }
 
 # tank NAME INITIAL INVARIANT FLOW UNSAFE: the tank of the examples with these rows, the numbers of each condition in one word
 tank() {
     sheet "$1" 01 01 01 01 01 00 00 00 01 00 01 $(rows $2) $(rows $3) $(rows $4) 00 $(rows $5)
+}
+
+# blanks NAME VERSION UNSAFE: two components with a variable, a mode and a switch each, and this unsafe row. Component 0 says how a may
+# change: its flow row is a + b <= 2, its jump row a' <= 0. Component 1 does not say it of b: its flow row is a <= 3, its jump row b <= 4.
+# At the start a <= 0 and b <= 5.
+blanks() {
+    sheet "$1" "$2" 01 02 02 01 00 01 \
+        00 00 01 01 01 $(condition 3 1 0 0) 00 $(condition 3 1 1 2) 00 00 00 $(condition 5 0 0 1 0 0) \
+        00 00 01 01 01 $(condition 3 0 1 5) 00 $(condition 3 1 0 3) 00 00 00 $(condition 5 0 1 0 0 4) \
+        ff ff $(condition 3 $3)
+}
+
+# proof K HYPOTHESIS..: a proof whose multipliers are 1
+proof() {
+    local hypothesis
+    numbers "$1"
+    printf '%02x ' $(($# - 1))
+    for hypothesis in "${@:2}"; do printf '%02x 00 00 00 01 ' "$hypothesis"; done
 }
 
 # bytes FILE: what it holds
@@ -258,6 +286,81 @@ try desk --same examples/tank.model examples/plant.model
 try desk --same examples/tank.certificate examples/tank.model
 try desk --same examples/tank.model examples/tank.run
 try desk --same examples/tank.run examples/tank.certificate
+
+echo '# Version 2: accepted and refused, a certificate and runs; the same bytes but for version 1'
+blanks blanks.model 02 '0 -1 -6'
+blanks free.model 01 '0 -1 -6'
+blanks unsafe-blanks.model 02 '-1 0 -2'
+sheet blanks.certificate 01 02 01 $(condition 3 0 1 5) $(proof 1 1) $(proof 1 0 4) $(proof 0 0 1) $(proof 1 0 2) $(proof 1 0 4)
+sheet blanks.run 01 03 $(numbers 1) 00 02 00 $(numbers 0 4) 00 $(numbers 1 2 4) 01 00 ff 00 $(numbers 2 4)
+sheet blank-flow.run 01 03 $(numbers 1) 00 01 00 $(numbers 0 5) 00 $(numbers 1 0 6)
+sheet blank-jump.run 01 03 $(numbers 1) 00 01 00 $(numbers 0 4) 01 00 ff 00 $(numbers 0 6)
+try desk examples/still.model examples/still.certificate
+try desk blanks.model blanks.certificate
+try desk free.model blanks.certificate
+edit blanks.certificate blank-flow.certificate 38 05
+try desk blanks.model blank-flow.certificate
+try desk unsafe-blanks.model blanks.run
+try desk blanks.model blanks.run
+try desk blanks.model blank-flow.run
+try desk free.model blank-flow.run
+try desk blanks.model blank-jump.run
+try desk free.model blank-jump.run
+try desk --practice blanks.model blanks.certificate
+
+echo '# Rows in version 2: of a blank in a flow, of a component that stays in a jump, of a blank in a jump, of a sheet; in version 1'
+try desk --row 1 2 examples/still.model examples/still.certificate
+try desk --row 1 4 blanks.model blanks.certificate
+try desk --row 1 5 blanks.model blanks.certificate
+try desk --row 1 6 blanks.model blanks.certificate
+try desk --row 3 2 blanks.model blanks.certificate
+try desk --row 4 3 blanks.model blanks.certificate
+try desk --row 4 4 blanks.model blanks.certificate
+try desk --row 4 5 blanks.model blanks.certificate
+try desk --row 4 1 blanks.model blanks.certificate
+try desk --row 1 4 free.model blanks.certificate
+try desk --row 3 2 free.model blanks.certificate
+try desk --row 4 4 free.model blanks.certificate
+
+echo '# Reasons with other modes and switches than 0'
+sheet modes.model 02 01 01 02 00 01 $(times 2 00 00 04 00 $(times 4 01 00 00 00))
+sheet modes.certificate 01 02 10 $(times 14 00) $(rows 1 1) 00
+try desk --row 1 2 modes.model modes.certificate
+edit examples/plant.model blank-plant.model 2 02
+try desk --row 87 18 blank-plant.model examples/plant.certificate
+
+echo '# The most hypotheses: 129, in a flow of version 2'
+sheet most.model 02 01 08 04 00 00 00 01 01 02 02 03 03 $(times 4 00 00 01 00 00 00 $(times 2 08 $(times 288 00)))
+sheet most.certificate 01 02 01 10 $(times 576 00)
+try desk --row 0 128 most.model most.certificate
+try desk --row 0 129 most.model most.certificate
+
+echo '# Versions that no model or no second sheet has; a model of version 2 that is refused for other things'
+edit blanks.model none.model 2 00
+try desk none.model blanks.certificate
+edit blanks.model later.model 2 03
+try desk later.model blanks.run
+try desk --joints later.model
+edit blanks.certificate later.certificate 2 02
+try desk blanks.model later.certificate
+try desk --row 0 0 blanks.model later.certificate
+edit blanks.run later.run 2 02
+try desk free.model later.run
+try desk later.certificate blanks.certificate
+edit blanks.model length.model 0 00 00
+try desk length.model blanks.certificate
+edit blanks.model longer.model 136 00
+edit longer.model left.model 0 00 87
+try desk left.model blanks.certificate
+try desk --limits 64 1 blanks.model blanks.certificate
+try desk --limits 64 0 blanks.model blanks.certificate
+
+echo '# A fair copy has the version of its model'
+try desk --fair blanks.model blanks.copy
+found blanks.copy blanks.model
+try desk --same blanks.model blanks.copy
+try desk --same blanks.model free.model
+try desk --same free.model later.model
 
 echo '# Sheets of any length'
 head -c 32768 /dev/zero >zeros

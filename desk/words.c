@@ -3,16 +3,15 @@
 #include <inttypes.h>
 #include <stdio.h>
 
-/* The numbers of a model over a limit, and the sheets of a place: the model and the call itself. */
-enum { OVER_LOCATIONS = 7, OVER_JOINTS = 8 };
+/* The numbers of a header that does not fit and of a model over a limit, and the sheets of a place: the model and the call itself. */
+enum { OTHER_VERSION = 2, OTHER_KIND = 3, OVER_LOCATIONS = 7, OVER_JOINTS = 8 };
 enum { IN_MODEL = 0, IN_CALL = 2 };
 
-/* By the number of the answer. Those of a model over a limit are said with the limit. */
+/* By the number of the answer. That of a version is said by the sheet, those of a model over a limit with the limit. */
 static const char *const meanings[] = {
     "accepted",
     "the sheet has under 4 or over 32,768 bytes, or its first two bytes do not say how many follow",
-    "the sheet's version is not 1",
-    "the sheet is of another kind",
+    [OTHER_KIND] = "the sheet is of another kind",
     "the sheet ends inside a field, or has bytes left after its last field",
     "a field, or a number given to the desk, is outside its range",
     "a switch has an event that is not in its component's alphabet",
@@ -26,6 +25,12 @@ static const char *const meanings[] = {
     "the text is not one <= between two expressions",
     "a product of variables, a letter beyond the variables, or a result outside -2147483648 to 2147483647",
 };
+
+/* Which versions the sheet may have instead. */
+static void print_other_version(uint32_t sheet)
+{
+    fputs(sheet == IN_MODEL ? "the model's version is neither 1 nor 2" : "the second sheet's version is not 1", stdout);
+}
 
 /* The limit that a model is over. */
 static void print_over(uint32_t number, const struct limits *limits)
@@ -41,7 +46,9 @@ void print_meaning(const struct silfoddra_answer *answer, const struct limits *l
 {
     uint32_t number = answer->number;
     printf("Refused (%" PRIu32 "): ", number);
-    if (number == OVER_LOCATIONS || number == OVER_JOINTS)
+    if (number == OTHER_VERSION)
+        print_other_version(answer->sheet);
+    else if (number == OVER_LOCATIONS || number == OVER_JOINTS)
         print_over(number, limits);
     else
         fputs(number < sizeof meanings / sizeof *meanings ? meanings[number] : "an unknown number", stdout);
@@ -59,6 +66,18 @@ void print_refusal(const struct silfoddra_answer *answer, const struct paper *pa
         printf("Place: the numbers given to the desk.\n");
     else
         printf("Place: %s, byte %" PRIu32 ".\n", answer->sheet == IN_MODEL ? paper->model.name : paper->second.name, answer->place);
+}
+
+int is_version_known(const struct silfoddra_answer *answer)
+{
+    return answer->sheet != IN_CALL && (answer->sheet != IN_MODEL || answer->number > OTHER_KIND);
+}
+
+void print_version(const struct sheet *model)
+{
+    uint8_t version = model_version(model);
+    if (version != 1)
+        printf("Model of version %u: a variable keeps its value where no row of its component says how it may change.\n", version);
 }
 
 void print_location(const struct sheet *model, uint32_t location)

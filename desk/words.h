@@ -13,6 +13,12 @@ void print_meaning(const struct silfoddra_answer *answer, const struct limits *l
 /* The same, and the place. The paper is null for a typed row. */
 void print_refusal(const struct silfoddra_answer *answer, const struct paper *paper);
 
+/* Whether a refused paper's model has a version: not where the limits or the model's header are refused. */
+int is_version_known(const struct silfoddra_answer *answer);
+
+/* The model's version and what it means, unless it is 1. */
+void print_version(const struct sheet *model);
+
 /* The rest is said of a model that the marker does not refuse. */
 
 /* A location by its number and its modes, component 0 first. */

@@ -1,6 +1,6 @@
 /* The marker of papers about hybrid automata, for C. Link with the archive that `rt staticlib entries` writes.
-   Document 01 defines the sheets and the answer, document 02 typed rows, fair copies and the limits of a desk; what each call answers is
-   proved for all bytes and all limits. */
+   Document 01 defines the sheets and the answer, document 02 models of version 2, typed rows, fair copies and the limits of a desk; what
+   each call answers is proved for all bytes and all limits. */
 #ifndef SILFODDRA_MARKER_H
 #define SILFODDRA_MARKER_H
 
@@ -14,7 +14,7 @@ extern "C" {
 /* What every call hands back. */
 struct silfoddra_answer {
     /* 0 if the paper is accepted, else why it is refused:
-        1 a sheet under 4 or over 32,768 bytes, or its L wrong     2 version
+        1 a sheet under 4 or over 32,768 bytes, or its L wrong     2 version: not 1 or 2 in a model, not 1 elsewhere
         3 kind                                                      4 the body cut in a field, or bytes left
         5 a field, argument or limit outside its range              6 a label from 1 that is not in its alphabet
         7 more locations than the caller's limit                    8 more joint switches than the caller's limit
@@ -69,7 +69,8 @@ struct silfoddra_row {
     /* What the hypothesis is; x are the values, x' those after a flow or a jump, d is the time of a flow:
         0 an initial row, on x      1 a region row, on x            2 an invariant row, on x
         3 an unsafe row, on x       4 an invariant row, on x'       5 a flow row, on the rates
-        6 -d <= 0                   7 a jump row, on x and x'       8 of a variable that stays: x' - x <= 0, then x - x' <= 0 */
+        6 -d <= 0                   7 a jump row, on x and x'       8 of a variable that stays: x' - x <= 0, then x - x' <= 0
+       A variable stays in a jump if its owner does not move; in a model of version 2 also where it is a blank, in a jump or a flow. */
     uint32_t role;
     /* The component whose row it is, for roles 0, 2, 4, 5 and 7; the variable that stays, for role 8; 0 for roles 1, 3 and 6. */
     uint32_t owner;
@@ -77,6 +78,11 @@ struct silfoddra_row {
 
 /* The calls take sheets as they were handed in: the bytes, of any length, and how many there are. A null pointer with length 0 is an
    empty sheet; with any other length the pointer must not be null. The bytes are only read, and nothing of them is kept. */
+
+/* A model has version 1 or 2; certificates and run sheets have version 1, whichever their model has. The model's version decides what a
+   blank means, in every call. A variable is a blank in a flow if all flow rows of its owner's present mode have coefficient 0 at it, and in
+   a jump that moves its owner if all rows of the owner's switch have coefficient 0 at its value after the jump. Rows of other components do
+   not count, and where the owner's mode has no flow rows, or its switch no rows, the variable is a blank. In version 2 a blank keeps its value; in version 1 it need not. */
 
 /* Every call that reads a model takes two limits, last: the most locations and the most joint switches that the model may have. Each
    caller states its own, in every call. A model with more is refused, by 7 or 8; one with just as many is not.
@@ -123,8 +129,8 @@ struct silfoddra_answer silfoddra_joint_list(const uint8_t *model, size_t model_
 /* Writes the fair copy of a model into a buffer that the caller lends: one spelling, by which models can be compared. Each row is divided
    by the greatest common divisor of all its numbers, the bound too, so that nothing is rounded: 2x <= 3 stays. A row with zero
    coefficients is left out if its bound is at least 0, else its bound becomes -1. The rows of each condition are sorted, ascending by
-   their coefficients, as signed numbers from the first on, then by the bound; equal rows stand once. All else is as in the model, but
-   for the counts of rows and the sheet's length.
+   their coefficients, as signed numbers from the first on, then by the bound; equal rows stand once. All else is as in the model, its
+   version too, but for the counts of rows and the sheet's length.
    The copy reads well under the same limits and is no longer than the model; it allows the same runs and unsafe states, and is its own
    fair copy. A certificate belongs to the sheet that it was drawn for: it need not fit the copy.
    The answer has number 0, sheet 0, the model's length as its place, and done, the bytes written: the first ones of the buffer. Later
@@ -135,8 +141,10 @@ struct silfoddra_answer silfoddra_fair_copy(const uint8_t *model, size_t model_l
                                             uint8_t *copy, size_t copy_length,
                                             uint32_t most_locations, uint32_t most_joints);
 
-/* Beside the marking. Obligations, and hypotheses of an obligation, are numbered from 0 in the order of document 01. The model
-   is read, then the second sheet, a certificate, up to the end of its regions; its proofs are not read. */
+/* Beside the marking. Obligations, and hypotheses of an obligation, are numbered from 0 in the order of document 01. The rows of blanks
+   that keep their value follow -d <= 0 in a flow, and stand among those of the other variables that stay in a jump, ascending by
+   variable. An obligation has at most 129 hypotheses, so that the greatest number is 128. The model is read, then the second sheet, a
+   certificate, up to the end of its regions; its proofs are not read. */
 
 /* Where the row of one hypothesis stands: number 0, and its sheet and the offset of its first byte there, or 2 and 0 for a row
    that no sheet holds; done and score are 0. The limits and a sheet are refused as in marking; then 5 at sheet 2, place 0, where

@@ -54,9 +54,10 @@ def fair_component(component):
 
 
 def fair_sheet(model):
-    """The model with each condition's rows made fair, and all else as it was."""
+    """The model with each condition's rows made fair, and all else as it was, its version too."""
     components = [fair_component(component) for component in model.components]
-    return sheet.model(model.owners, components, [(u.modes, fair_condition(u.rows)) for u in model.unsafe])
+    copy = sheet.model(model.owners, components, [(u.modes, fair_condition(u.rows)) for u in model.unsafe])
+    return copy.set('version', model.version)
 
 
 def fair_copy(model_sheet, lent, limits=marker.EXAM):

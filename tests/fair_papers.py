@@ -1,5 +1,5 @@
-"""The fair copies that crates/calls_test asks for, and what it must print for each, from document 02, order 4: `records` and `lines`, which
-tests/typed_papers.py writes after its texts.
+"""The fair copies that crates/calls_test asks for, and what it must print for each, from document 02, orders 4 and 6: `records` and `lines`,
+which tests/typed_papers.py writes after its texts.
 
 The lines come from tests/fair.py, a second reading. Where the order itself settles a copy or a refusal the paper states it here as well,
 and the script stops where the two differ. Nearly every copy is stated as a model with its rows written out.
@@ -13,7 +13,7 @@ from itertools import permutations
 import fair
 import marker
 from sheet import Sheet, alphabet, component, fixed, mode, model, switch
-from tank import C, SAFE_PLANT, T, tank
+from tank import C, SAFE_PLANT, STILL_TANK, T, tank
 
 EXAM, PRACTICE = marker.EXAM, marker.PRACTICE
 ANY = 255
@@ -37,10 +37,18 @@ def shown(buffer):
     return f' checksum {total}'
 
 
+def mentioned(data):
+    """A model's version, the variables that the flow rows of each mode mention, and those that the rows of each switch mention after."""
+    m = marker.read_model(data)
+    flows = [[v for v in range(m.n) if not marker.unmentioned(v, a.flow)] for part in m.components for a in part.modes]
+    return m.version, flows, [[v for v in range(m.n) if not marker.unmentioned(m.n + v, s.jump)] for part in m.components for s in part.switches]
+
+
 def call(label, original, room, limits=EXAM):
-    """The answer and the buffer after it."""
+    """The answer and the buffer after it. A copy mentions the same variables, else a model of version 2 would have other runs (order 6)."""
     data = original.bytes() if isinstance(original, Sheet) else original
     answer, buffer = fair.fair_copy(data, FILLED * room, limits)
+    assert answer[0] or mentioned(buffer[:answer[3]]) == mentioned(data), label
     assert label not in labels, label
     labels.add(label)
     head = FAIR + bytes([len(label)]) + label.encode() + b''.join(limit.to_bytes(4, 'big') for limit in limits)
@@ -239,10 +247,10 @@ def respelled(original, turn):
     components = [component(
         [mode(a.start, spelled(a.initial), spelled(a.invariant), spelled(a.flow)) for a in part.modes],
         [switch(s.source, s.target, s.label, spelled(s.jump)) for s in part.switches], part.alphabet) for part in m.components]
-    return model(m.owners, components, [(u.modes, spelled(u.rows)) for u in m.unsafe])
+    return model(m.owners, components, [(u.modes, spelled(u.rows)) for u in m.unsafe]).set('version', m.version)
 
 
-for name, original in (('T', T), ('several', made), ('plant', SAFE_PLANT)):
+for name, original in (('T', T), ('several', made), ('plant', SAFE_PLANT), ('still tank', STILL_TANK)):
     needed = call(f'{name} to be spelled anew', original, 1800)[0][3]
     data = fair.fair_copy(original.bytes(), bytes(needed))[1]
     for turn in (1, 2, 3):
@@ -250,6 +258,24 @@ for name, original in (('T', T), ('several', made), ('plant', SAFE_PLANT)):
         assert given[0][0] == 0 and given[1] == data + FILLED * 2, name
     given = call(f'copy of the copy of {name}', data, needed)
     assert given == ((0, 0, needed, needed, 0), data)
+
+# a model of version 2 (order 6): the copy's version is 2, and all else as in version 1. A row of zeros mentions nothing, so that a variable is
+# as blank with it as without it; a row that mentions a variable is neither dropped nor divided to one that does not
+for name, original, copy in (('T', T, FAIR_TANK), ('conditions that are emptied', emptied, one())):
+    copied(f'{name} of version 2', original.set('version', 2), copy.set('version', 2))
+for name in ('flow', 'jump'):
+    for rows, kept in (([(0, 5)], []), ([(0, -5)], [(0, -1)]), ([(0, 5), (6, 3), (0, -5), (0, 0)], [(0, -1), (2, 1)]), ([(LEAST, 0)], [(-1, 0)])):
+        given, left = (in_one(name, which, [(1, 7)]).set('version', 2) for which in (rows, kept))
+        copied(f'rows {", ".join(said(row) for row in rows)} in {name} of version 2', given, left)
+before = [(2, 0, 4), (0, 0, 9), (-3, 0, 3), (4, 0, 8)]
+copied('switch with values before alone', one(jump=before).set('version', 2), one(jump=[(-1, 0, 1), (1, 0, 2)]).set('version', 2))
+third = one(flow=[(0, 0, 8, 2), (0, 0, 0, 3)], jump=[(5, 5, 0, 0, 0, 5, 10), (0,) * 7], n=3)
+copied('third of three variables mentioned', third.set('version', 2), one(flow=[(0, 0, 4, 1)], jump=[(1, 1, 0, 0, 0, 1, 2)], n=3).set('version', 2))
+for name, original in (('several components', made), ('plant', SAFE_PLANT)):
+    room = original.length()
+    earlier = fair.fair_copy(original.bytes(), FILLED * room)[1]
+    answer, buffer = call(f'{name} of version 2', original.set('version', 2), room)
+    assert answer[0] == 0 and buffer == earlier[:2] + b'\2' + earlier[3:], name
 
 # "A short buffer is refused as 15 with the length needed", not the model's length; else the bytes past the copy stay
 longer = one([(1, 5), (2, 10)], [(0, 1), (1, 10)], [(1, 2), (-1, 0)], twice([(3, 3)] * 4), [(-1, -11)])
@@ -298,9 +324,9 @@ refused('2 joint switches where 1 is allowed', sized((1,), (2,)), 0, 8, 0, 4, 0,
 # the model's refusals, before 15
 for name, original, number, place in (
         ('no model', b'', 1, 0), ('three bytes', b'\0\1\1', 1, 0), ('L one less', T.set('L', 63), 1, 0),
-        ('L one more', T.set('L', 65), 1, 0), ('version 0', T.set('version', 0), 2, 2), ('version 9', T.set('version', 9), 2, 2),
-        ('kind 0', T.set('kind', 0), 3, 3), ('C as model', C, 3, 3), ('header alone', fixed(T.bytes()[:4]), 4, 4),
-        ('T less its last byte', cut, 4, 62),
+        ('L one more', T.set('L', 65), 1, 0), ('version 0', T.set('version', 0), 2, 2), ('version 3', T.set('version', 3), 2, 2),
+        ('version 9', T.set('version', 9), 2, 2), ('kind 0', T.set('kind', 0), 3, 3), ('C as model', C, 3, 3),
+        ('header alone', fixed(T.bytes()[:4]), 4, 4), ('T less its last byte', cut, 4, 62),
         ('T and a byte', fixed(T.bytes() + b'\0'), 4, 66), ('n 0', T.set('n', 0), 5, 4), ('n 9', T.set('n', 9), 5, 4),
         ('nine rows', T.set('flow0.0', 9), 5, T.place('flow0.0')), ('label outside', tank(switches=[switch(0, 0, 1)]), 6, 58),
         ('128 locations', sized((8, 8, 2)), 7, 4), ('4352 joint switches', sized((1, 1, 1), (17, 16, 16)), 8, 4)):

@@ -1,5 +1,5 @@
 #!/usr/bin/env python3
-"""A second marker of papers, written from document 01 and orders 2 and 5 of document 02 alone, to try the proved one against.
+"""A second marker of papers, written from document 01 and orders 2, 5 and 6 of document 02 alone, to try the proved one against.
 
 usage: marker.py MODEL SECOND      prints the line that the program `mark` prints for the two files, one after the other
 
@@ -13,6 +13,8 @@ from fractions import Fraction
 from itertools import product
 
 MODEL, CERTIFICATE, RUN = 1, 2, 3
+# "version 2 model sheets" (document 02, order 6): the versions that a sheet of each kind may have.
+VERSIONS = {MODEL: (1, 2), CERTIFICATE: (1,), RUN: (1,)}
 STAYS = 255
 ANY = 255
 CALL = 2
@@ -26,7 +28,7 @@ Mode = namedtuple('Mode', 'start initial invariant flow')
 Switch = namedtuple('Switch', 'source target label jump')
 Component = namedtuple('Component', 'alphabet modes switches')
 Unsafe = namedtuple('Unsafe', 'modes rows')
-Model = namedtuple('Model', 'n owners components unsafe')
+Model = namedtuple('Model', 'version n owners components unsafe')
 Joint = namedtuple('Joint', 'source event switches target')
 Obligation = namedtuple('Obligation', 'kind where row')
 Flow = namedtuple('Flow', 'time values')
@@ -52,11 +54,11 @@ class Reader:
     def __init__(self, data, kind):
         if not 4 <= len(data) <= 32768 or int.from_bytes(data[:2], 'big') != len(data) - 2:
             raise Refused(1, 0)
-        if data[2] != 1:
+        if data[2] not in VERSIONS[kind]:
             raise Refused(2, 2)
         if data[3] != kind:
             raise Refused(3, 3)
-        self.data, self.at = data, 4
+        self.data, self.at, self.version = data, 4, data[2]
 
     def field(self, size, signed=False):
         first = self.at
@@ -141,7 +143,7 @@ def read_model(data, limits=EXAM):
     conditions = r.within(1, 0, 16)
     owners = [r.within(1, 0, c - 1) for _ in range(n)]
     components = [read_component(r, n) for _ in range(c)]
-    model = Model(n, owners, components, [read_unsafe(r, n, components) for _ in range(conditions)])
+    model = Model(r.version, n, owners, components, [read_unsafe(r, n, components) for _ in range(conditions)])
     r.end()
     if location_count(model) > limits.locations:
         raise Refused(7, 4)
@@ -234,13 +236,43 @@ def joint_count(model):
     return sum(move_count(model, modes_at(model, location), event) for location in range(location_count(model)) for event in range(16))
 
 
-def staying(model, switches):
-    """The variables whose owner stays."""
-    return [v for v in range(model.n) if switches[model.owners[v]] == STAYS]
+def flow_rows(model, modes):
+    return [row for mode in present(model, modes) for row in mode.flow]
 
 
 def jump_rows(model, switches):
     return [row for component, i in zip(model.components, switches) if i != STAYS for row in component.switches[i].jump]
+
+
+# Blanks: "The board's new rule book reads a blank as "does not change"" (document 02, order 6)
+
+def keeps_blanks(model):
+    """From version 2 on; in version 1 a variable that no row mentions is free."""
+    return model.version >= 2
+
+
+def unmentioned(unknown, rows):
+    """Also where there are no rows."""
+    return all(row.coefs[unknown] == 0 for row in rows)
+
+
+def still(model, modes):
+    """The variables with "zero coefficients in all flow rows of its owner's present mode": each keeps its value in a flow."""
+    here = present(model, modes)
+    return [v for v in range(model.n) if keeps_blanks(model) and unmentioned(v, here[model.owners[v]].flow)]
+
+
+def keeps_in_jump(model, switches, v):
+    """A variable whose owner stays; or one "with zero after-coefficients in all rows of its moving owner's switch"."""
+    owner = model.owners[v]
+    if switches[owner] == STAYS:
+        return True
+    return keeps_blanks(model) and unmentioned(model.n + v, model.components[owner].switches[switches[owner]].jump)
+
+
+def staying(model, switches):
+    """The variables that keep their value in a jump: "these variables join the staying ones in ascending order"."""
+    return [v for v in range(model.n) if keeps_in_jump(model, switches, v)]
 
 
 # Runs
@@ -263,7 +295,9 @@ def flow_allowed(model, modes, p, step):
     moved = [after - before for before, after in zip(p, step.values)]
     if step.time == 0 and any(moved):
         return False
-    return all(holds(row, moved, step.time) for mode in present(model, modes) for row in mode.flow)
+    if any(moved[v] for v in still(model, modes)):
+        return False
+    return all(holds(row, moved, step.time) for row in flow_rows(model, modes))
 
 
 def jump_allowed(model, q, modes, p, step):
@@ -330,19 +364,20 @@ def start_hypotheses(model, location):
 
 def flow_hypotheses(model, regions, location):
     n = model.n
-    flow = [row for mode in present(model, modes_at(model, location)) for row in mode.flow]
+    modes = modes_at(model, location)
     hypotheses = before(n, regions[location] + invariants(model, location), 1) + after(n, invariants(model, location), 1)
-    hypotheses += [Row([-a for a in row.coefs] + row.coefs + [-row.bound], 0) for row in flow]
-    return hypotheses + [Row([0] * (2 * n) + [-1], 0)]
+    hypotheses += [Row([-a for a in row.coefs] + row.coefs + [-row.bound], 0) for row in flow_rows(model, modes)]
+    hypotheses += [Row([0] * (2 * n) + [-1], 0)]
+    return hypotheses + [row for v in still(model, modes) for row in staying_rows(n, v, 1)]
 
 
 def unsafe_hypotheses(model, regions, location, condition):
     return regions[location] + invariants(model, location) + model.unsafe[condition].rows
 
 
-def staying_rows(n, v):
-    """x'−x ≤ 0, then x−x' ≤ 0."""
-    up = [0] * (2 * n)
+def staying_rows(n, v, more=0):
+    """x'−x ≤ 0, then x−x' ≤ 0, among unknowns x, x' and so many others."""
+    up = [0] * (2 * n + more)
     up[v], up[n + v] = -1, 1
     return [Row(up, 0), Row([-a for a in up], 0)]
 
@@ -371,11 +406,12 @@ def parts(model, regions, obligation):
     """The bytes of an obligation's hypotheses as they stand in their sheets, and none for a row of no sheet."""
     kind, where, i = obligation
     source = where.source if kind == 'jump' else where
+    modes = modes_at(model, source)
     here = regions[source] + invariants(model, source)
     if kind == 'start':
         rows = start_hypotheses(model, where)
     elif kind == 'flow':
-        rows = here + invariants(model, where) + [row for mode in present(model, modes_at(model, where)) for row in mode.flow] + [None]
+        rows = here + invariants(model, where) + flow_rows(model, modes) + [None] + [None, None] * len(still(model, modes))
     elif kind == 'unsafe':
         rows = here + model.unsafe[i].rows
     else:

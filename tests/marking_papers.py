@@ -1,5 +1,6 @@
 #!/usr/bin/env python3
-"""Writes the papers that crates/marking_test marks, and what it must print for each, from document 01 and orders 2 and 5 of document 02.
+"""Writes the papers that crates/marking_test marks, and what it must print for each, from document 01 and orders 2, 5 and 6 of
+document 02.
 
 usage: marking_papers.py FOLDER                 writes FOLDER/stdin and FOLDER/stdout
        marking_papers.py --examples FOLDER      writes the sheets of examples/
@@ -22,7 +23,7 @@ sys.dont_write_bytecode = True
 import marker
 from largest import most_entries, most_joint_switches, most_proofs, most_steps
 from sheet import Sheet, alphabet, certificate, component, fixed, flow, jump, mode, model, run, switch
-from tank import C, PLANT_CERTIFICATE, PLANT_RUN, SAFE_PLANT, T, UNSAFE_PLANT, tank
+from tank import C, PLANT_CERTIFICATE, PLANT_REGIONS, PLANT_RUN, SAFE_PLANT, STILL_CERTIFICATE, STILL_TANK, T, UNSAFE_PLANT, proved, tank
 
 ANY = 255
 STAYS = 255
@@ -220,8 +221,9 @@ def headers(papers):
         p.certificate(f'model L {change}', T.set('L', 64 + by), C, 1, 0, 0, 0, 0)
         p.certificate(f'certificate L {change}', T, C.set('L', 47 + by), 1, 1, 0, 0, 0)
         p.run(f'run L {change}', T, AT_FIVE.set('L', 13 + by), 1, 1, 0, 0, 0)
-    for version in (0, 2, 255):
+    for version in (0, 3, 255):
         p.certificate(f'model version {version}', T.set('version', version), C, 2, 0, 2, 0, 0)
+    for version in (0, 2, 3, 255):
         p.certificate(f'certificate version {version}', T, C.set('version', version), 2, 1, 2, 0, 0)
         p.run(f'run version {version}', T, AT_FIVE.set('version', version), 2, 1, 2, 0, 0)
     for kind in (0, 1, 2, 3, 4, 255):
@@ -354,7 +356,7 @@ def switches_of_a_model(papers):
 
 def refused_models_in_each_call(papers):
     refused = [
-        (T.set('version', 2), 2, 2), (C, 3, 3), (fixed(T.bytes()[:-1]), 4, 62), (T.set('n', 0), 5, 4), (tank(switches=[switch(0, 0, 1)]), 6, 58),
+        (T.set('version', 3), 2, 2), (C, 3, 3), (fixed(T.bytes()[:-1]), 4, 62), (T.set('n', 0), 5, 4), (tank(switches=[switch(0, 0, 1)]), 6, 58),
         (plain(modes=(8, 8, 2))[0], 7, 4), (plain(modes=(1,) * 3, switches=[32] * 3, alphabets=[2] * 3, label=1)[0], 8, 4), (b'', 1, 0),
     ]
     for sheet, number, place in refused:
@@ -820,10 +822,339 @@ def inputs(papers):
     p.input('input: T and a header of kind 2', t + b'\0\2\1\2', 'REFUSED 4 1 4 0 0')
     p.input('input: T twice', t + t, 'REFUSED 3 1 3 0 0')
     p.input('input: run of version 2', t + AT_FIVE.set('version', 2).bytes(), 'REFUSED 2 1 2 0 0')
+    p.input('input: T of version 2 then C', T.set('version', 2).bytes() + c, 'SAFE 3')
+    p.input('input: T of version 3 then C', T.set('version', 3).bytes() + c, 'REFUSED 2 0 2 0 0')
+    p.input('input: still tank then its certificate', STILL_TANK.bytes() + STILL_CERTIFICATE.bytes(), 'SAFE 7')
     p.input('input: C then T', c + t, 'REFUSED 3 0 3 0 0')
     p.input('input: T, C and a byte', t + c + b'\0', 'REFUSED 1 1 0 0 0')
     p.input('input: last proof fails', t + C.set('multiplier2.1', 2).bytes(), 'REFUSED 10 1 34 2 67')
     p.input('input: last proof as 2, 0', t + C.set('hypothesis2.0', 2).set('hypothesis2.1', 0).bytes(), 'REFUSED 9 1 44 2 67')
+
+
+# Blanks (document 02, order 6). Many models are tried as version 1 and as version 2, with the same bytes but for the version; others as
+# version 2 alone.
+
+def in_both(call, sheet, *papers):
+    """Second sheets beside the model as version 1 and as version 2. Of each: its label, the sheet, and what it gives beside the one and
+    beside the other."""
+    for version in (1, 2):
+        for label, second, *given in papers:
+            call(f'version {version}: {label}', sheet.set('version', version), second, *given[version - 1])
+
+
+def versions(papers):
+    """Models have version 1 or 2, second sheets 1. T's flow rows mention its variable, and it has no switch: both versions give the same."""
+    p, later = papers, T.set('version', 2)
+    p.certificate('T of version 2 with C', later, C, 0, 1, 49, 3, 100)
+    p.certificate('T of version 2, first multiplier 2', later, C.set('multiplier0.0', 2), 10, 1, 14, 0, 0)
+    p.run('T of version 2, 5 to 8 in 1', later, run(1, 0, (5,), flow(1, 8)), 13, 1, 15, 0, 0)
+    p.run('T of version 2 at 5', later, AT_FIVE, 14, 1, 15, 0, 0)
+    p.list('T of version 2, list', later, 0, 0, 0, 66, 0, 0)
+    for version in (0, 2, 3, 255):
+        p.certificate(f'T of version 2, certificate version {version}', later, C.set('version', version), 2, 1, 2, 0, 0)
+        p.run(f'T of version 2, run version {version}', later, AT_FIVE.set('version', version), 2, 1, 2, 0, 0)
+    p.certificate('T of version 2, cut', fixed(later.bytes()[:-1]), C, 4, 0, 62, 0, 0)
+    p.run('T of version 2 with unsafe at 9, 5 to 9 in 2', UNSAFE_AT_NINE.set('version', 2), TO_NINE, 0, 1, 24, 1, 100)
+
+
+def still_tank(papers):
+    """The level is blank while the valve is closed and in both jumps, and mentioned while it is open. 7 obligations: 1 is the flow of the
+    closed tank, 3 that of the open one, 5 and 6 are the jumps."""
+    p, whole, last = papers, STILL_CERTIFICATE, STILL_CERTIFICATE.place('k6')
+
+    def change(name, value, number, done, score, at=None):
+        p.certificate(f'still tank, {name} as {value}', STILL_TANK, whole.set(name, value), number, 1, whole.place(at or name), done, score)
+
+    # other hypotheses of the same flow or jump, the last of them and one past it
+    change('hypothesis1.1', 1, 10, 1, 14, 'k1')
+    change('hypothesis1.1', 3, 10, 1, 14, 'k1')
+    change('hypothesis1.1', 4, 5, 1, 14)
+    change('hypothesis3.0', 5, 10, 3, 43, 'k3')
+    change('hypothesis3.0', 6, 5, 3, 43)
+    change('hypothesis5.1', 3, 10, 5, 71, 'k5')
+    change('hypothesis5.1', 4, 5, 5, 71)
+    change('hypothesis6.1', 1, 10, 6, 86, 'k6')
+    change('hypothesis6.1', 3, 10, 6, 86, 'k6')
+    change('hypothesis6.1', 4, 5, 6, 86)
+    p.certificate('still tank without its last proof', STILL_TANK, fixed(whole.bytes()[:last]), 4, 1, last, 6, 86)
+    p.certificate('still tank and a byte', STILL_TANK, fixed(whole.bytes() + b'\0'), 4, 1, 118, 7, 99)
+    p.certificate('still tank at the practice desk', STILL_TANK, whole, 0, 1, 118, 7, 100, limits=PRACTICE)
+    p.certificate('still tank, 2 locations where 1 is allowed', STILL_TANK, whole, 7, 0, 4, 0, 0, limits=marker.Limits(1, 4096))
+    p.list('still tank, list', STILL_TANK, 2, 0, 0, 78, 2, 0)
+    in_both(p.certificate, STILL_TANK, ('still tank', whole, (5, 1, 43, 1, 14), (0, 1, 118, 7, 100)))
+    opens, closes = jump(0, [0], 5), jump(0, [1], 10)
+    in_both(
+        p.run, STILL_TANK,
+        ('closed, to 11', run(1, 0, (5,), flow(1, 11)), (0, 1, 24, 1, 100), (13, 1, 15, 0, 0)),
+        ('closed, to 4', run(1, 0, (5,), flow(1, 4)), (14, 1, 24, 1, 0), (13, 1, 15, 0, 0)),
+        ('closed, staying', run(1, 0, (5,), flow(1, 5)), (14, 1, 24, 1, 0), (14, 1, 24, 1, 0)),
+        ('closed, staying for 0', run(1, 0, (5,), flow(0, 5)), (14, 1, 24, 1, 0), (14, 1, 24, 1, 0)),
+        ('closed, to 11 in 0', run(1, 0, (5,), flow(0, 11)), (13, 1, 15, 0, 0), (13, 1, 15, 0, 0)),
+        ('opened to 6', run(1, 0, (5,), jump(0, [0], 6)), (14, 1, 22, 1, 0), (13, 1, 15, 0, 0)),
+        ('opened, to 10', run(1, 0, (5,), opens, flow(3, 10)), (14, 1, 31, 2, 0), (14, 1, 31, 2, 0)),
+        ('opened, to 6 in 0', run(1, 0, (5,), opens, flow(0, 6)), (13, 1, 22, 1, 0), (13, 1, 22, 1, 0)),
+        ('opened and closed to 11', run(1, 0, (5,), opens, flow(3, 10), jump(0, [1], 11)), (0, 1, 38, 3, 100), (13, 1, 31, 2, 0)),
+        ('opened, closed, to 11', run(1, 0, (5,), opens, flow(3, 10), closes, flow(1, 11)), (0, 1, 47, 4, 100), (13, 1, 38, 3, 0)),
+        ('opened, closed, staying', run(1, 0, (5,), opens, flow(3, 10), closes, flow(1, 10)), (14, 1, 47, 4, 0), (14, 1, 47, 4, 0)),
+    )
+
+
+def blanks_of_one_mode(papers):
+    """A variable that goes from 5 to 6 in 1. A coefficient other than 0 in one of the mode's flow rows mentions it, whatever its bytes are;
+    bounds, initial rows and invariants do not."""
+    p, zero = papers, (0, 0)
+    to_six, staying = run(1, 0, (5,), flow(1, 6)), run(1, 0, (5,), flow(1, 5))
+    moved, held = (0, 1, 24, 1, 100), (13, 1, 15, 0, 0)
+
+    def flows(*rows, initial=(), invariant=()):
+        return model([0], [component([mode(1, initial, invariant, rows)])], [([0], [])])
+
+    mentioned = [(f'with {number}', flows((number, max(number, 0)))) for number in (1, -1, 255, 256, 65536, 2 ** 24, 2 ** 31 - 1, -2 ** 31)]
+    mentioned += [('in the first of eight rows', flows((1, 1), *[zero] * 7)), ('in the last of eight rows', flows(*[zero] * 7, (1, 1)))]
+    for label, sheet in mentioned:
+        p.run(f'mentioned {label}', sheet.set('version', 2), to_six, *moved)
+    for label, sheet in (
+            ('no flow rows', flows()), ('eight flow rows of zeros', flows(*[zero] * 8)), ('a flow row with a bound alone', flows((0, 5))),
+            ('initial row and invariant alone', flows(initial=[(1, 5)], invariant=[(1, 10)]))):
+        in_both(p.run, sheet, (label, to_six, moved, held), (f'{label}, staying', staying, moved, moved))
+
+
+def blanks_among_variables(papers):
+    """Three variables of one component, of which flow and jump mention the middle one; all have coefficients before the jump. Eight
+    variables that nothing mentions."""
+    p = papers
+    sheet = model([0] * 3, [component([mode(1, [], [], [(0, 1, 0, 9)])], [switch(0, 0, 0, [(1, 1, 1, 0, 1, 0, 99)])])], [([0], [])])
+    table, held = [], (13, 1, 23, 0, 0)
+    for v in range(3):
+        values = [1, 2, 3]
+        values[v] += 1
+        for name, step, moved in (('flow', flow(1, *values), (0, 1, 40, 1, 100)), ('jump', jump(0, [0], *values), (0, 1, 38, 1, 100))):
+            table.append((f'{name} that changes variable {v} of 3', run(1, 0, (1, 2, 3), step), moved, moved if v == 1 else held))
+    in_both(p.run, sheet, *table)
+    table, held = [], (13, 1, 43, 0, 0)
+    for v in (0, 7):
+        values = [int(v == other) for other in range(8)]
+        table.append((f'flow that changes variable {v} of 8', run(1, 0, (0,) * 8, flow(1, *values)), (0, 1, 80, 1, 100), held))
+    in_both(p.run, free(8), *table)
+
+
+def blanks_by_owner(papers):
+    """Variable 0 is of component 1, and variable 1 of component 0; each is mentioned by the other component alone. The rows go by variable:
+    hypotheses 5 and 6 are of variable 0, 7 and 8 of variable 1."""
+    p = papers
+
+    def crossed(start):
+        return model([1, 0], [component([mode(start, [], [], [row])]) for row in ((1, 0, 9), (0, 1, 9))], [([ANY, ANY], [])] * start)
+
+    moved, held = (0, 1, 32, 1, 100), (13, 1, 19, 0, 0)
+    first, second = run(1, 0, (0, 0), flow(1, 1, 0)), run(1, 0, (0, 0), flow(1, 0, 1))
+    in_both(
+        p.run, crossed(1),
+        ('first variable, mentioned by the other component', first, moved, held),
+        ('second variable, mentioned by the other component', second, moved, held),
+        ('neither, mentioned by the other component', run(1, 0, (0, 0), flow(1, 0, 0)), moved, moved),
+    )
+    in_both(
+        p.run, crossed(1).set('flow0.0.0.1', 1),
+        ('first variable, beside one that its own component mentions', first, moved, held),
+        ('second variable, mentioned by both components', second, moved, moved),
+    )
+    whole = certificate([[(1, 0, 5), (0, 1, 5)]], [(1, [(0, 1), (5, 1)]), (1, [(1, 1), (7, 1)])])
+    refused = 5, 1, whole.place('hypothesis0.1'), 0, 0
+    in_both(p.certificate, crossed(0), ('proofs of variables that the other mentions', whole, refused, (0, 1, whole.length(), 2, 100)))
+    for hypothesis, number, place in ((6, 10, 'k1'), (8, 10, 'k1'), (9, 5, 'hypothesis1.1')):
+        changed = whole.set('hypothesis1.1', hypothesis)
+        p.certificate(f'second variable by hypothesis {hypothesis}', crossed(0).set('version', 2), changed, number, 1, whole.place(place), 1, 50)
+
+
+def blanks_by_location(papers):
+    """Two modes by three: the first component mentions its variable in mode 1, the second in mode 2, and there they fall. The hypotheses of a
+    location: two region rows, the flow rows, the time, two rows of each blank. By which of them each variable's region row is shown:"""
+    p, shown_by = papers, ((3, 5), (3, 5), (4, 2), (2, 4), (2, 4), (2, 3))
+
+    def sheet(start):
+        first, second = mode(start, [], [], [(1, 0, 0)]), mode(start, [], [], [(0, 1, 0)])
+        return model([0, 1], [component([mode(start), first]), component([mode(start), mode(start), second])], [([ANY, ANY], [])] * start)
+
+    table, moved, held = [], (0, 1, 32, 1, 100), (13, 1, 19, 0, 0)
+    for location in range(6):
+        for name, values, mentioned in (('first', (-1, 0), location in (3, 4, 5)), ('second', (0, -1), location in (2, 5))):
+            falls = run(1, location, (0, 0), flow(1, *values))
+            table.append((f'{name} variable falls in location {location}', falls, moved, moved if mentioned else held))
+    in_both(p.run, sheet(1), *table)
+    whole = certificate([[(1, 0, 0), (0, 1, 0)]] * 6, [(1, [(v, 1), (by[v], 1)]) for by in shown_by for v in range(2)])
+    refused = 5, 1, whole.place('hypothesis0.1'), 0, 0
+    in_both(p.certificate, sheet(0), ('proofs in each of six locations', whole, refused, (0, 1, whole.length(), 12, 100)))
+
+
+def blanks_after_the_time(papers):
+    """One flow row, 0 ≤ −1: no time may pass, and its hypothesis is d ≤ 0. With −d ≤ 0, as many times, it leaves nothing at d, where the
+    blank's rows have nothing either."""
+    p = papers
+    sheet = model([0], [component([mode(0, [], [], [(0, -1)])])])
+    whole = certificate([[(1, 5)]], [(1, [(0, 1), (1, 7), (2, 7), (3, 1)])])
+    in_both(p.certificate, sheet, ('blank after the time', whole, (5, 1, whole.place('hypothesis0.3'), 0, 0), (0, 1, 39, 1, 100)))
+    for name, value in (('hypothesis0.3', 4), ('multiplier0.2', 6), ('multiplier0.2', 8), ('multiplier0.3', 2)):
+        p.certificate(f'blank after the time, {name} as {value}', sheet.set('version', 2), whole.set(name, value), 10, 1, 14, 0, 0)
+
+
+def blanks_in_a_jump(papers):
+    """A variable that goes from 5 to 6, by each switch of one component. A coefficient after the jump mentions it, in a row of the switch that
+    is taken; coefficients before, bounds and rows of other switches do not."""
+    p, moved, held = papers, (0, 1, 22, 1, 100), (13, 1, 15, 0, 0)
+    earlier = (1, 0, 7)
+    blank = [('no rows', []), ('a row before', [earlier]), ('eight rows before', [earlier] * 8), ('a bound alone', [(0, 0, 5)])]
+    mentioned = [(f'{number} after', [(0, number, max(7 * number, 0))]) for number in (1, -1, 255, 256, 65536, 2 ** 24, -2 ** 31)]
+    mentioned += [('the first of eight rows', [(1, 1, 14)] + [earlier] * 7), ('the last of eight rows', [earlier] * 7 + [(0, 1, 7)])]
+    sheet = free(switches=[switch(0, 0, 0, rows) for _, rows in blank + mentioned])
+    table = []
+    for i, (label, _) in enumerate(blank):
+        table.append((f'jump with {label}', run(1, 0, (5,), jump(0, [i], 6)), moved, held))
+        table.append((f'jump with {label}, staying', run(1, 0, (5,), jump(0, [i], 5)), moved, moved))
+    in_both(p.run, sheet, *table)
+    for i, (label, _) in enumerate(mentioned, len(blank)):
+        p.run(f'jump with {label}', sheet.set('version', 2), run(1, 0, (5,), jump(0, [i], 6)), *moved)
+    p.run('jump beyond a row after', sheet.set('version', 2), run(1, 0, (5,), jump(0, [len(blank)], 8)), *held)
+
+
+def blanks_of_two_movers(papers):
+    """An event moves the first two of three components, with a variable each. The first's switch mentions the second's variable after; of
+    the second's switches one has no row, and one mentions its own variable."""
+    p = papers
+    other, own = [(0, 0, 0, 0, 1, 0, 9)], [(0, 0, 0, 0, 1, 0, 8)]
+    first = component([mode()], [switch(0, 0, 1, other)], alphabet(1))
+    second = component([mode()], [switch(0, 0, 1), switch(0, 0, 1, own)], alphabet(1))
+    sheet = model([0, 1, 2], [first, second, component([mode()])], [([ANY] * 3, [])])
+    moved, held = (0, 1, 40, 1, 100), (13, 1, 23, 0, 0)
+    table = []
+    for taken, v, *given in (
+            (0, 0, moved, held), (0, 1, moved, held), (0, 2, held, held), (1, 0, moved, held), (1, 1, moved, moved), (1, 2, held, held)):
+        values = [int(v == variable) for variable in range(3)]
+        table.append((f'two move, by switch {taken}, variable {v} changed', run(1, 0, (0, 0, 0), jump(1, [0, taken, STAYS], *values)), *given))
+    table.append(('two move, all kept', run(1, 0, (0, 0, 0), jump(1, [0, 0, STAYS], 0, 0, 0)), moved, moved))
+    in_both(p.run, sheet, *table)
+
+
+def proofs_of_two_movers(papers):
+    """Both variables fall in a flow. In the jump the first's switch mentions the second's variable after, as in hypothesis 2; both are blank,
+    with hypotheses 3 and 4, and 5 and 6."""
+    p = papers
+    first = component([mode(0, [], [], [(1, 0, 0)])], [switch(0, 0, 1, [(0, 0, 0, 1, 9)])], alphabet(1))
+    second = component([mode(0, [], [], [(0, 1, 0)])], [switch(0, 0, 1)], alphabet(1))
+    flows = [(1, [(0, 1), (2, 1)]), (1, [(1, 1), (3, 1)])]
+    whole = certificate([[(1, 0, 5), (0, 1, 5)]], flows + [(1, [(0, 1), (3, 1)]), (1, [(1, 1), (5, 1)])])
+    refused = 5, 1, whole.place('hypothesis2.1'), 2, 50
+    sheet = model([0, 1], [first, second])
+    in_both(p.certificate, sheet, ('proofs of two movers', whole, refused, (0, 1, whole.length(), 4, 100)))
+    for hypothesis, number, place in ((2, 10, 'k3'), (4, 10, 'k3'), (6, 10, 'k3'), (7, 5, 'hypothesis3.1')):
+        changed = whole.set('hypothesis3.1', hypothesis)
+        p.certificate(f'second mover by hypothesis {hypothesis}', sheet.set('version', 2), changed, number, 1, whole.place(place), 3, 75)
+
+
+def blanks_among_staying_variables(papers):
+    """Variables 0 and 2 stay while the owner of 1 jumps without rows: in version 2 they are one list, where 1 has hypotheses between theirs.
+    In a flow every variable is mentioned, and falls."""
+    p = papers
+    moving = component([mode(0, [], [], [(0, 1, 0, 0)])], [switch(0, 0)])
+    sheet = model([1, 0, 1], [moving, component([mode(0, [], [], [(1, 0, 0, 0), (0, 0, 1, 0)])])])
+    zero, one, two = (1, 0, 0, 0), (0, 1, 0, 0), (0, 0, 1, 0)
+    flows = [(1, [(0, 1), (4, 1)]), (1, [(1, 1), (3, 1)]), (1, [(2, 1), (5, 1)])]
+    three = certificate([[zero, one, two]], flows + [(1, [(0, 1), (3, 1)]), (1, [(1, 1), (5, 1)]), (1, [(2, 1), (7, 1)])])
+    without = certificate([[zero, two]], [(1, [(0, 1), (3, 1)]), (1, [(1, 1), (4, 1)]), (1, [(0, 1), (2, 1)]), (1, [(1, 1), (4, 1)])])
+    counted = without.set('hypothesis3.1', 6)
+    end = without.length()
+    in_both(
+        p.certificate, sheet,
+        ('a blank between staying variables', three, (10, 1, three.place('k4'), 4, 67), (0, 1, three.length(), 6, 100)),
+        ('staying variables, a blank left out', without, (0, 1, end, 4, 100), (10, 1, without.place('k3'), 3, 75)),
+        ('staying variables, a blank counted', counted, (5, 1, without.place('hypothesis3.1'), 3, 75), (0, 1, end, 4, 100)),
+    )
+
+
+def most_hypotheses(papers):
+    """Four components with eight rows in each condition, eight variables, sixteen region rows. Flow rows, and jump rows on the values after,
+    mention the variables of other components alone, so that all are blank: a flow has 129 hypotheses, a jump of all components 128. The
+    last sixteen are the blanks'. Region row v is x_v ≤ 0, and 8+v is −x_v ≤ 0."""
+    p, owners = papers, [3, 1, 0, 2, 2, 0, 1, 3]
+
+    def opposite(*coefs):
+        return [(*coefs, 0), (*[-a for a in coefs], 0)] * 4
+
+    def part(k):
+        others = [int(owner != k) for owner in owners]
+        full = mode(0, [], opposite(*[1] * 8), opposite(*others))
+        return component([full], [switch(0, 0, 1, opposite(*[1] * 8, *others))], alphabet(1))
+
+    def kept(first):
+        """Each region row by itself and a row of its variable, x'−x ≤ 0 or x−x' ≤ 0."""
+        return [(1, [(i, 1), (first + 2 * (i % 8) + i // 8, 1)]) for i in range(16)]
+
+    sheet = model(owners, [part(k) for k in range(4)]).set('version', 2)
+    region = [tuple(sign * int(v == other) for other in range(8)) + (0,) for sign in (1, -1) for v in range(8)]
+    whole = certificate([region], kept(113) + kept(112))
+    in_both(p.certificate, sheet, ('129 and 128 hypotheses', whole, (5, 1, whole.place('hypothesis0.1'), 0, 0), (0, 1, whole.length(), 32, 100)))
+    p.certificate('hypothesis 129 of 129', sheet, whole.set('hypothesis15.1', 129), 5, 1, whole.place('hypothesis15.1'), 15, 47)
+    p.certificate('hypothesis 128 of 128', sheet, whole.set('hypothesis31.1', 128), 5, 1, whole.place('hypothesis31.1'), 31, 97)
+    # −d ≤ 0 is left out; of the others all cancel but region row 15 and hypothesis 128, which count twice
+    every = [(h, 2 if h in (15, 128) else 1) for h in range(129) if h != 112]
+    many = certificate([region], kept(113)[:15] + [(1, every)] + kept(112))
+    count = many.place('entries15')
+    p.certificate('128 entries of 129', sheet, many, 0, 1, many.length(), 32, 100)
+    p.certificate('129 entries of 129', sheet, fixed(many.set('entries15', 129).bytes()[:count + 1]), 5, 1, count, 15, 47)
+    unproved = certificate([region], [])
+    p.part('shown: last flow row of 129 hypotheses', sheet, unproved, 0, 111, 0, -1, -1, -1, -1, -1, -1, 0, 0)
+    p.part('shown: last of 129 hypotheses', sheet, unproved, 0, 128)
+    p.part('shown: past the last of 129 hypotheses', sheet, unproved, 0, 129)
+
+
+def large_numbers_with_blanks(papers):
+    """128 hypotheses of a jump with numbers as large as they may be: all four components move. The last owns all variables and has no
+    coefficient after the jump."""
+    p = papers
+    least, most, multiplier = -2 ** 31, 2 ** 31 - 1, 2 ** 24 - 1
+    full = mode(0, [], opposite_rows(8, 8, most, least))
+    rows = opposite_rows(8, 16, most, least)
+    moving = [component([full], [switch(0, 0, 1, jumps)], alphabet(1)) for jumps in [rows] * 3 + [[row[:8] + (0,) * 8 + row[16:] for row in rows]]]
+    two = (0, [(0, 1), (1, 1)])
+    whole = certificate([opposite_rows(16, 8, most, least)], [two] * 16 + [(0, [(h, multiplier) for h in range(128)])] + [two] * 15)
+    p.certificate('128 entries, bound as low as may be', model([3] * 8, moving).set('version', 2), whole, 0, 1, whole.length(), 32, 100)
+
+
+def blanks_of_the_plant(papers):
+    """No row mentions the valve but those of the mixer's jumps, of which one does after. Of 115 proofs some use staying rows of the clock,
+    which the valve's rows come before in a jump of the mixer alone."""
+    p, sheet = papers, SAFE_PLANT.set('version', 2)
+    whole = proved(sheet, PLANT_REGIONS)
+    p.certificate('plant of version 2', sheet, whole, 0, 1, whole.length(), 115, 100)
+    p.certificate('plant of version 2 with the proofs of version 1', sheet, PLANT_CERTIFICATE, 10, 1, PLANT_CERTIFICATE.place('k87'), 87, 76)
+    kept = PLANT_RUN
+    for name in ['p2'] + [f'p2.{i}' for i in range(7)]:
+        kept = kept.set(name, 6)
+    in_both(
+        p.run, UNSAFE_PLANT,
+        ('plant run', PLANT_RUN, (0, 1, 178, 7, 100), (13, 1, PLANT_RUN.place('step0'), 0, 0)),
+        ('plant run, valve kept', kept, (0, 1, 178, 7, 100), (0, 1, 178, 7, 100)),
+        ('plant run, valve moved by the mixer alone', kept.set('p2.3', 7), (13, 1, kept.place('step4'), 4, 0), (13, 1, kept.place('step3'), 3, 0)),
+        ('plant run, valve lowered by the last jump', kept.set('p2.6', 5), (14, 1, 178, 7, 0), (14, 1, 178, 7, 0)),
+    )
+
+
+def shown_blanks(papers):
+    """The rows of a blank stand in no sheet. The still tank's closed flow has its row of the region, the time and two rows; the jump that
+    opens it the region's, the invariant's and two."""
+    p = papers
+    unproved = fixed(STILL_CERTIFICATE.bytes()[:STILL_CERTIFICATE.place('k0')])
+    # a part is empty past the last hypothesis too, so the second marker's own count is stated
+    m = marker.read_model(STILL_TANK.bytes())
+    regions = marker.read_regions(marker.Reader(unproved, marker.CERTIFICATE), m)
+    assert [len(marker.parts(m, regions, o)) for o in marker.obligations(m, regions)] == [2, 4, 2, 6, 3, 4, 4]
+    for label, obligation, hypothesis, row in (
+            ('region row of a flow with a blank', 1, 0, (1, 10)), ('time of a flow with a blank', 1, 1, ()),
+            ('first row of a blank in a flow', 1, 2, ()), ('second row of a blank in a flow', 1, 3, ()), ('past a blank in a flow', 1, 4, ()),
+            ('last flow row where nothing is blank', 3, 4, (-1, 0)), ('past the time where nothing is blank', 3, 6, ()),
+            ('invariant of the target of a jump with a blank', 5, 1, (1, 10)), ('first row of a blank in a jump', 5, 2, ()),
+            ('second row of a blank in a jump', 5, 3, ()), ('past a blank in a jump', 5, 4, ())):
+        p.part(f'shown: {label}', STILL_TANK, unproved, obligation, hypothesis, *row)
 
 
 # The limits that a caller states (document 02, order 2)
@@ -943,7 +1274,7 @@ def limits_before_the_sheets(papers):
         p.list(f'{named(limits)}: 128 locations, no list', over, 0, 5, 2, 0, 0, 0, limits=limits)
     least = marker.Limits(1, 1)
     broken = [
-        (b'', 1, 0), (T.set('version', 2), 2, 2), (C, 3, 3), (fixed(T.bytes()[:-1]), 4, 62), (T.set('n', 0), 5, 4),
+        (b'', 1, 0), (T.set('version', 3), 2, 2), (C, 3, 3), (fixed(T.bytes()[:-1]), 4, 62), (T.set('n', 0), 5, 4),
         (tank(switches=[switch(0, 0, 1)]), 6, 58), (fixed(over.bytes() + b'\0'), 4, over.length()),
         (fixed(joined(4)[0].bytes() + b'\0'), 4, joined(4)[0].length()),
     ]
@@ -977,12 +1308,16 @@ SECTIONS = [
     fields_of_a_certificate, fields_of_a_run, fields_of_a_jump, joint_steps, starts, conditions, large_numbers,
     order_of_joint_switches, order_of_hypotheses, order_of_locations, order_of_staying_variables, contradictions, scores,
     plant_certificate, plant_run, joint_list, inputs, sizes,
+    versions, still_tank, blanks_of_one_mode, blanks_among_variables, blanks_by_owner, blanks_by_location, blanks_after_the_time,
+    blanks_in_a_jump, blanks_of_two_movers, proofs_of_two_movers, blanks_among_staying_variables, most_hypotheses, large_numbers_with_blanks,
+    blanks_of_the_plant, shown_blanks,
     limits_of_the_tank, limits_on_locations, limits_on_joints, limits_of_the_plant, limits_before_the_sheets, limits_of_two_desks,
 ]
 
 EXAMPLES = {
     'tank.model': T, 'tank.certificate': C, 'tank.run': AT_FIVE,
     'unsafe-tank.model': UNSAFE_AT_NINE, 'unsafe-tank.run': TO_NINE,
+    'still.model': STILL_TANK, 'still.certificate': STILL_CERTIFICATE,
     'plant.model': SAFE_PLANT, 'plant.certificate': PLANT_CERTIFICATE,
     'unsafe-plant.model': UNSAFE_PLANT, 'unsafe-plant.run': PLANT_RUN,
 }

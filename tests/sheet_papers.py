@@ -1,5 +1,5 @@
 #!/usr/bin/env python3
-"""Writes the papers that crates/sheets_test reads, and what it must print for each, from document 01.
+"""Writes the papers that crates/sheets_test reads, and what it must print for each, from document 01 and order 6 of document 02.
 
 usage: sheet_papers.py FOLDER      writes FOLDER/stdin and FOLDER/stdout
 
@@ -56,8 +56,9 @@ case('L one more', 1, T.set('L', 65).bytes(), 1, 0)
 case('L one less', 1, T.set('L', 63).bytes(), 1, 0)
 case('32768 bytes', 1, fixed(t + bytes(32768 - 66)), 4, 66)
 case('32769 bytes', 1, fixed(t + bytes(32769 - 66)), 1, 0)
-# 2 and 3
-for v in (0, 2, 9, 255): field('version', 1, T, 'version', v, 2)
+# 2 and 3; "version 2 model sheets"
+for v in (0, 3, 9, 255): field('version', 1, T, 'version', v, 2)
+accepted('version 2', T.set('version', 2))
 for v in (0, 2, 3, 255): field('kind', 1, T, 'kind', v, 3)
 case('C as model', 1, C.bytes(), 3, 3)
 # 4: every cut of T at every byte, L made right: "A cut field's place is its first byte"; under 4 bytes it is 1
@@ -124,6 +125,7 @@ case('bytes left before 7', 1, fixed(model(c=3, modes=[8, 8, 2]).bytes() + b'\0'
 case('model T', 0, t, 0, 0)
 case('C regions', 2, C.bytes(), 0, 14)
 case('T as certificate', 2, t, 3, 3)
+for v in (0, 2, 3, 255): field('certificate version', 2, C, 'version', v, 2)
 for v in (0, 2, 255): field('locations', 2, C, 'locations', v, 5)
 for v in (17, 255): field('region rows', 2, C, 'region0', v, 5)
 case('region rows 0', 2, C.set('region0', 0).bytes(), 0, 6)
@@ -156,6 +158,7 @@ for cut, at in ((19, 19), (20, 20), (23, 20)): case(f'entry cut to {cut}', 4, C.
 R = run(1, 0, [5], flow(2, 9))
 case('run', 5, R.bytes(), 0, 15)
 case('C as run', 5, C.bytes(), 3, 3)
+for v in (0, 2, 3, 255): field('run version', 5, R, 'version', v, 2)
 for v in (0, 2 ** 24, 2 ** 32 - 1): field('q', 5, R, 'q', v, 5)
 case('q 16777215', 5, R.set('q', 2 ** 24 - 1).bytes(), 0, 15)
 for v in (4096, 65535): field('steps', 5, R, 'steps', v, 5)
@@ -185,6 +188,13 @@ for v in (0, 254): field('second switch', 6, j, 'switch1.0', v, 5, (15, 0, 0))
 for v in (1, 254): field('third switch', 6, j, 'switch2.0', v, 5, (15, 0, 0))
 for v in (-2 ** 27 - 1, 2 ** 27 + 1): field('jump to p', 6, j, 'p0.0', v, 5, (15, 0, 0))
 for cut, at in ((16, 16), (17, 17), (18, 18), (19, 19), (20, 20), (23, 20)): case(f'jump cut to {cut}', 6, j.bytes()[:cut], 4, at, (15, 0, 0))
+
+# second sheets have version 1 beside a model of version 2 too
+case('model T of version 2', 0, T.set('version', 2).bytes(), 0, 0)
+case('C regions beside version 2', 2, C.bytes(), 0, 14)
+field('beside version 2, certificate version', 2, C, 'version', 2, 2)
+case('run beside version 2', 5, R.bytes(), 0, 15)
+field('beside version 2, run version', 5, R, 'version', 2, 2)
 
 folder = sys.argv[1]
 data = b''.join(records)

@@ -1,4 +1,5 @@
-"""Document 01's tank T and its certificate C, and a plant of four components with its certificate and a run, as sheets."""
+"""Document 01's tank T and its certificate C, a tank of version 2 with its certificate, and a plant of four components with its certificate
+and a run, as sheets."""
 from fractions import Fraction
 from math import lcm
 
@@ -18,6 +19,19 @@ def tank(bound=-11, switches=(), events=0):
 T = tank()
 C = certificate([[(1, 10)]], [(1, [(2, 1)]), (1, [(2, 1)]), (0, [(0, 1), (2, 1)])])
 assert T.length() == 66 and C.length() == 49 and [C.place(k) for k in ('k0', 'k1', 'k2')] == [14, 24, 34]
+
+# A tank of version 2 with a valve. Open, in mode 1, its level rises at 0 to 2, up to 10. Closed, in mode 0, no flow row mentions the level, and
+# no switch has a row, so that it changes neither then nor in a jump (document 02, order 6). A level of 11 is unsafe.
+STILL_TANK = model([0], [component(
+    [mode(1, [(1, 5), (-1, -5)]), mode(0, [], [(1, 10)], [(1, 2), (-1, 0)])],
+    [switch(0, 1), switch(1, 0)],
+)], [([ANY], [(-1, -11)])]).set('version', 2)
+# Closed: start, flow, unsafe; open: flow, unsafe; then the two jumps. Where the level is blank its row x'−x ≤ 0 is hypothesis 2.
+STILL_CERTIFICATE = certificate([[(1, 10)], [(1, 10)]], [
+    (1, [(0, 1)]), (1, [(0, 1), (2, 1)]), (0, [(0, 1), (1, 1)]),
+    (1, [(2, 1)]), (0, [(0, 1), (2, 1)]),
+    (1, [(0, 1), (2, 1)]), (1, [(0, 1), (2, 1)]),
+])
 
 # The plant. Variables: level (of the filler), heat (heater), valve (mixer), clock (supervisor). Events: 1 begins to fill (filler and
 # supervisor), 2 goes over from filling to heating (filler and heater), 3 ends the batch (heater, mixer, supervisor), 4 is in no

@@ -1,7 +1,7 @@
 //! The papers that are timed, and the number that each is answered with.
 
 use crate::measure::Call;
-use differential::papers::{Random, certificates, extremes, models};
+use differential::papers::{Random, certificates, extremes, models, turns};
 
 pub struct Case {
     pub name: String,
@@ -39,6 +39,10 @@ pub fn cases() -> Vec<Case> {
         case("the same model", Call::FairCopy, 0, extremes::longest_copy()),
         case("the same model, a buffer one byte too short", Call::ShortCopy, 15, extremes::longest_copy()),
         case("model of 32,768 bytes, most of it repeated rows", Call::FairCopy, 0, extremes::longest_model()),
+        case("blanks of version 2, 912 proofs", Call::Certificate, 0, proved_turns(2)),
+        case("the same in version 1, staying rows written out", Call::Certificate, 0, proved_turns(1)),
+        case("blanks of version 2, 896 steps", Call::Run, 0, turns::run(2)),
+        case("the same in version 1, staying rows written out", Call::Run, 0, turns::run(1)),
     ]
 }
 
@@ -51,6 +55,10 @@ fn medium_certificate() -> Case {
     });
     let paper = found.expect("rounds go on until one is found");
     Case { name: "medium".into(), call: Call::Certificate, model: paper.model.bytes, second: paper.second.bytes, number: 0 }
+}
+
+fn proved_turns(version: u8) -> extremes::Paper {
+    turns::certificate(version).expect("its proofs are found")
 }
 
 /// A certificate with one proof of one entry for each joint switch.

@@ -10,9 +10,9 @@
 mod compare;
 
 use compare::{Compared, Comparison};
-use differential::marker::Limits;
+use differential::marker::{EXAM, Limits};
 use differential::papers::damage::{ALL, damaged, random_bytes};
-use differential::papers::{Random, Sheet, certificates, extremes, models, runs, scores, spellings, texts};
+use differential::papers::{Random, Sheet, blanks, certificates, extremes, models, runs, scores, spellings, texts};
 use std::path::PathBuf;
 use std::process::ExitCode;
 use std::time::{Duration, Instant};
@@ -83,6 +83,7 @@ fn compare_all(options: &Options, comparison: &mut Comparison) -> Compared<u64> 
         comparison.origin = format!("fixed paper \"{}\"", paper.name);
         comparison.compare("fixed", &paper.model, &paper.second, &mut random)?;
     }
+    compare_blanks(&mut random, comparison)?;
     compare_limits(&mut random, comparison)?;
     compare_copies(&mut random, comparison)?;
     compare_scores(&mut random, comparison)?;
@@ -107,6 +108,32 @@ fn compare_all(options: &Options, comparison: &mut Comparison) -> Compared<u64> 
         }
     }
     Ok(round)
+}
+
+/// Papers with blanks at the exam desk: with the model in both versions, then with either sheet in others, and each hypothesis of each
+/// obligation.
+fn compare_blanks(random: &mut Random, comparison: &mut Comparison) -> Compared<()> {
+    comparison.desk = Some(EXAM);
+    for paper in blanks::fixed().into_iter().chain(extremes::for_blanks()) {
+        comparison.origin = format!("fixed paper \"{}\"", paper.name);
+        let (model, second) = (&paper.model, &paper.second);
+        comparison.compare("fixed, with blanks", model, second, random)?;
+        comparison.compare_other_version("fixed, with blanks", model, second, random)?;
+        for version in [0, 3, 255] {
+            comparison.compare("fixed, with blanks, worse version", &model.clone().in_version(version), second, random)?;
+        }
+        for version in [0, 2, 3, 255] {
+            comparison.compare("fixed, with blanks, worse version", model, &second.clone().in_version(version), random)?;
+        }
+    }
+    for paper in blanks::fixed().into_iter().chain([extremes::most_hypotheses()]) {
+        comparison.origin = format!("fixed paper \"{}\"", paper.name);
+        for model in [1, 2].map(|version| paper.model.clone().in_version(version)) {
+            comparison.compare_every_row("fixed, with blanks", &model, &paper.second, random)?;
+        }
+    }
+    comparison.desk = None;
+    Ok(())
 }
 
 /// Papers on both sides of the limits of two desks, under all limits beside the ends of their ranges and beside the papers' counts.
@@ -145,14 +172,14 @@ fn compare_scores(random: &mut Random, comparison: &mut Comparison) -> Compared<
     Ok(())
 }
 
-/// One model with a certificate, one with a run, what becomes of them by damage, one with rows that a fair copy changes, and random bytes;
-/// typed texts between them.
+/// One model with a certificate, one with a run, what becomes of them in the other version and by damage, one with rows that a fair copy
+/// changes, and random bytes; typed texts between them.
 fn compare_round(seed: u64, round: u64, comparison: &mut Comparison) -> Compared<()> {
     let random = &mut Random::new(seed, round);
     comparison.origin = format!("seed {seed}, round {round}");
     let size = [1, 2, 2, 3, 3, 4, 5, 8][random.below(8)];
 
-    let plan = models::random_plan(random, size);
+    let plan = blanks::random_plan_of_either_version(random, size);
     match certificates::random_certificate(random, plan.clone()) {
         Some(paper) => {
             compare_with_damage("certificate", &paper.model, &paper.second, random, comparison)?;
@@ -162,11 +189,11 @@ fn compare_round(seed: u64, round: u64, comparison: &mut Comparison) -> Compared
         None => compare_model("model", &plan, random, comparison)?,
     }
     if random.one_in(4) {
-        let plan = models::crowded_plan(random);
+        let plan = models::Plan { version: blanks::either_version(random), ..models::crowded_plan(random) };
         compare_model("crowded model", &plan, random, comparison)?;
     }
 
-    let plan = models::random_plan(random, size);
+    let plan = blanks::random_plan_of_either_version(random, size);
     let most_steps = if random.one_in(50) { 4_095 } else { 12 };
     if let Some(paper) = runs::random_run(random, plan, most_steps) {
         compare_with_damage("run", &paper.model, &paper.second, random, comparison)?;
@@ -174,7 +201,7 @@ fn compare_round(seed: u64, round: u64, comparison: &mut Comparison) -> Compared
     }
     compare_rough(random, comparison)?;
 
-    let model = models::random_plan(random, 2).sheet();
+    let model = blanks::random_plan_of_either_version(random, 2).sheet();
     let kind = 2 + random.below(2) as u8;
     let second = random_bytes(random, kind);
     comparison.compare("random second sheet", &model, &second, random)?;
@@ -228,6 +255,7 @@ fn compare_with_damage(
     comparison: &mut Comparison,
 ) -> Compared<()> {
     comparison.compare(name, model, second, random)?;
+    comparison.compare_other_version(name, model, second, random)?;
     for damage in ALL {
         compare_texts(random, comparison)?;
         for _ in 0..2 {

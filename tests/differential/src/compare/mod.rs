@@ -6,9 +6,10 @@ mod limits;
 mod rows;
 mod scores;
 mod typed;
+mod versions;
 
 use differential::fence::{Edge, Fence};
-use differential::marker::Limits;
+use differential::marker::{Answer, Limits};
 use differential::papers::{Random, Sheet};
 use differential::{hex, library, marker};
 use fair::Changed;
@@ -16,6 +17,7 @@ use limits::{Size, Stated, shown};
 use std::collections::BTreeMap;
 use std::fmt::Debug;
 use std::path::Path;
+use versions::Versions;
 
 /// What a call gave on both sides, and on which paper.
 pub struct Mismatch {
@@ -56,6 +58,21 @@ struct Count {
     passed: u64,
 }
 
+impl Count {
+    /// One more paper, by the answers of the two markings.
+    fn add(&mut self, answers: [Answer; 2]) {
+        self.compared += 1;
+        for answer in answers.iter().filter(|answer| answer.number == 0) {
+            self.accepted += 1;
+            self.passed += u64::from(answer.done);
+        }
+    }
+
+    fn print(&self, kind: &str) {
+        println!("{kind:<36} {:>9} {:>9} {:>17}", self.compared, self.accepted, self.passed);
+    }
+}
+
 /// The paper at hand: its kind, its sheets, and which end of what is lent touches a closed page.
 #[derive(Clone, Copy)]
 struct Paper<'a> {
@@ -77,6 +94,8 @@ pub struct Comparison {
     /// The limits to state; none for random ones, of which each call has its own.
     pub desk: Option<Limits>,
     counts: BTreeMap<String, Count>,
+    /// Of all papers those whose model has version 2.
+    version_2: Count,
     texts: BTreeMap<&'static str, Count>,
     /// How often each number was the answer, by call.
     certificate_numbers: [u64; 16],
@@ -85,6 +104,9 @@ pub struct Comparison {
     typed_numbers: [u64; 18],
     /// How often the row of a hypothesis had each role.
     roles: [u64; 9],
+    /// How often it was the staying row of a blank in a flow.
+    blanks_in_flows: u64,
+    versions: Versions,
     changed: Changed,
     /// How often two spellings of a model were copied.
     spellings: u64,
@@ -110,12 +132,15 @@ impl Comparison {
             origin: String::new(),
             desk: None,
             counts: BTreeMap::new(),
+            version_2: Count::default(),
             texts: BTreeMap::new(),
             certificate_numbers: [0; 16],
             run_numbers: [0; 16],
             fair_numbers: [0; 16],
             typed_numbers: [0; 18],
             roles: [0; 9],
+            blanks_in_flows: 0,
+            versions: Versions::default(),
             changed: Changed::default(),
             spellings: 0,
             scores: 0,
@@ -134,27 +159,29 @@ impl Comparison {
     }
 
     pub fn print_counts(&self) {
-        println!("{:<32} {:>9} {:>9} {:>17}", "papers", "compared", "accepted", "proofs and steps");
+        println!("{:<36} {:>9} {:>9} {:>17}", "papers", "compared", "accepted", "proofs and steps");
         let mut all = Count::default();
         for (kind, count) in &self.counts {
-            println!("{kind:<32} {:>9} {:>9} {:>17}", count.compared, count.accepted, count.passed);
+            count.print(kind);
             all.compared += count.compared;
             all.accepted += count.accepted;
             all.passed += count.passed;
         }
-        println!("{:<32} {:>9} {:>9} {:>17}", "all", all.compared, all.accepted, all.passed);
-        println!("{:<32} {:>9} {:>9}", "typed texts", "compared", "accepted");
+        all.print("all");
+        self.version_2.print("of these with a model of version 2");
+        println!("{:<36} {:>9} {:>9}", "typed texts", "compared", "accepted");
         for (kind, count) in &self.texts {
-            println!("{kind:<32} {:>9} {:>9}", count.compared, count.accepted);
+            println!("{kind:<36} {:>9} {:>9}", count.compared, count.accepted);
         }
         let (compared, accepted) = (self.texts(), self.texts.values().map(|count| count.accepted).sum::<u64>());
-        println!("{:<32} {compared:>9} {accepted:>9}", "all");
+        println!("{:<36} {compared:>9} {accepted:>9}", "all");
         let marking = [("certificate", &self.certificate_numbers[..]), ("run", &self.run_numbers)];
         let calls = marking.into_iter().chain([("fair copy", &self.fair_numbers[..]), ("typed row", &self.typed_numbers)]);
         for (call, numbers) in calls {
             println!("answers of the {call} call by number: {}", by_number(numbers));
         }
-        println!("rows of hypotheses by role: {}", by_number(&self.roles));
+        println!("rows of hypotheses by role: {}; of role 8 in flows: {}", by_number(&self.roles), self.blanks_in_flows);
+        self.versions.print();
         self.changed.print();
         println!("copies compared between two spellings: {}", self.spellings);
         println!("certificates cut at each proof, scores compared with the definition: {}", self.scores);
@@ -171,11 +198,9 @@ impl Comparison {
         let run = marker::mark_run(model, second, run_limits);
         self.certificate_numbers[certificate.number as usize] += 1;
         self.run_numbers[run.number as usize] += 1;
-        let count = self.counts.entry(kind.to_string()).or_default();
-        count.compared += 1;
-        for answer in [certificate, run].iter().filter(|answer| answer.number == 0) {
-            count.accepted += 1;
-            count.passed += u64::from(answer.done);
+        self.counts.entry(kind.to_string()).or_default().add([certificate, run]);
+        if model.get(2) == Some(&2) {
+            self.version_2.add([certificate, run]);
         }
 
         for &edge in self.edges() {

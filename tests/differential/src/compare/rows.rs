@@ -2,9 +2,10 @@
 
 use super::{Compared, Comparison, Paper, Size};
 use differential::marker::EXAM;
-use differential::marker::certificate::{Claim, Hypotheses};
+use differential::marker::certificate::{Claim, Hypotheses, Kind, Role};
 use differential::marker::reader::Reader;
-use differential::{library, marker, papers::Random};
+use differential::papers::{Random, Sheet};
+use differential::{library, marker};
 
 impl Comparison {
     pub(super) fn compare_rows(&mut self, paper: Paper, size: Size, random: &mut Random) -> Compared<()> {
@@ -18,22 +19,47 @@ impl Comparison {
             self.same(&format!("silfoddra_which_obligation({obligation})"), paper, limits, got, which)?;
 
             let hypothesis = random_argument(random, hypothesis_count(model, second, obligation));
-            let limits = self.limits(size, random);
-            let (answer, bytes) = marker::show_row(model, second, obligation, hypothesis, limits);
-            let got = self.on_sheets(paper, |model, second| library::show_row(model, second, obligation, hypothesis, limits));
-            self.same(&format!("silfoddra_show_row({obligation}, {hypothesis})"), paper, limits, got, answer)?;
-            if let Some(sheet) = [model, second].get(answer.sheet as usize).filter(|_| answer.number == 0) {
-                assert!(sheet[answer.place as usize..].starts_with(bytes) && !bytes.is_empty());
-            }
-
-            let limits = self.limits(size, random);
-            let row = marker::hypothesis(model, second, obligation, hypothesis, limits);
-            let got = self.on_sheets(paper, |model, second| library::hypothesis(model, second, obligation, hypothesis, limits));
-            self.same(&format!("silfoddra_hypothesis({obligation}, {hypothesis})"), paper, limits, got, row)?;
-            if row.number == 0 {
-                self.roles[row.role as usize] += 1;
-            }
+            self.compare_row(paper, size, obligation, hypothesis, random)?;
             self.other_calls += 3;
+        }
+        Ok(())
+    }
+
+    /// The row of a hypothesis, shown and told.
+    fn compare_row(&mut self, paper: Paper, size: Size, obligation: u32, hypothesis: u32, random: &mut Random) -> Compared<()> {
+        let Paper { model, second, .. } = paper;
+        let limits = self.limits(size, random);
+        let (answer, bytes) = marker::show_row(model, second, obligation, hypothesis, limits);
+        let got = self.on_sheets(paper, |model, second| library::show_row(model, second, obligation, hypothesis, limits));
+        self.same(&format!("silfoddra_show_row({obligation}, {hypothesis})"), paper, limits, got, answer)?;
+        if let Some(sheet) = [model, second].get(answer.sheet as usize).filter(|_| answer.number == 0) {
+            assert!(sheet[answer.place as usize..].starts_with(bytes) && !bytes.is_empty());
+        }
+
+        let limits = self.limits(size, random);
+        let row = marker::hypothesis(model, second, obligation, hypothesis, limits);
+        let got = self.on_sheets(paper, |model, second| library::hypothesis(model, second, obligation, hypothesis, limits));
+        self.same(&format!("silfoddra_hypothesis({obligation}, {hypothesis})"), paper, limits, got, row)?;
+        if row.number == 0 {
+            self.roles[row.role as usize] += 1;
+            let staying = row.role == Role::Staying as u32;
+            self.blanks_in_flows += u64::from(staying && marker::which(model, second, obligation, EXAM).kind == Kind::Flow as u32);
+        }
+        Ok(())
+    }
+
+    /// Each hypothesis of each obligation, and one beyond.
+    pub fn compare_every_row(&mut self, kind: &str, model: &Sheet, second: &Sheet, random: &mut Random) -> Compared<()> {
+        let (model, second) = (&model.bytes[..], &second.bytes[..]);
+        let size = Size::of(model);
+        for &edge in self.edges() {
+            let paper = Paper { kind, model, second, edge };
+            for obligation in 0..obligation_count(model, second) as u32 {
+                for hypothesis in 0..=hypothesis_count(model, second, obligation) as u32 {
+                    self.compare_row(paper, size, obligation, hypothesis, random)?;
+                    self.other_calls += 2;
+                }
+            }
         }
         Ok(())
     }

@@ -1,6 +1,7 @@
 //! The certificate (01, "Certificate"): regions, obligations, hypotheses, and the marking of proofs.
 
 use super::answer::{Answer, Fault, Refusal, Sheet};
+use super::blanks::{Variables, ascending, kept_in_flow, kept_in_jump};
 use super::farkas::{Form, Row, Sum};
 use super::joint::{self, JointSwitch};
 use super::limits::{Limits, open_model};
@@ -136,6 +137,13 @@ impl<'a> Hypotheses<'a> {
             self.push(role, component, condition(mode));
         }
     }
+
+    /// The two staying rows of each variable that keeps its value.
+    fn push_kept(&mut self, variables: Variables) {
+        for variable in ascending(variables) {
+            self.unwritten.extend([Form::NotRaised(variable), Form::NotLowered(variable)]);
+        }
+    }
 }
 
 /// A model with a region for each location: what the obligations are made of.
@@ -198,6 +206,7 @@ impl<'a> Claim<'a> {
                 hypotheses.push_modes(Role::InvariantAfter, model.modes(location), |mode| &mode.invariant);
                 hypotheses.push_modes(Role::Flow, model.modes(location), |mode| &mode.flow);
                 hypotheses.unwritten.push(Form::TimePasses);
+                hypotheses.push_kept(kept_in_flow(model, location));
             }
             Kind::Unsafe => {
                 let location = &model.locations[group.subject];
@@ -213,11 +222,7 @@ impl<'a> Claim<'a> {
                 hypotheses.push_modes(Role::InvariantBefore, model.modes(source), |mode| &mode.invariant);
                 hypotheses.push_modes(Role::InvariantAfter, model.modes(target), |mode| &mode.invariant);
                 joint.moving(model).for_each(|(component, switch)| hypotheses.push(Role::Jump, component, &switch.jump));
-                for (variable, &owner) in model.owners.iter().enumerate() {
-                    if joint.stays(owner) {
-                        hypotheses.unwritten.extend([Form::NotRaised(variable), Form::NotLowered(variable)]);
-                    }
-                }
+                hypotheses.push_kept(kept_in_jump(model, joint));
             }
         }
     }

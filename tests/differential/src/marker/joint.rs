@@ -21,10 +21,6 @@ impl JointSwitch {
         let moving = model.components.iter().zip(self.switches).enumerate().filter(|&(_, (_, number))| number != STAYS);
         moving.map(|(at, (component, number))| (at, &component.switches[usize::from(number)]))
     }
-
-    pub fn stays(&self, component: u8) -> bool {
-        self.switches[usize::from(component)] == STAYS
-    }
 }
 
 /// How many joint switches a model has, by multiplying: there may be a million.

@@ -1,6 +1,7 @@
 //! The model sheet (01, "Model").
 
 use super::answer::{Fault, Refusal};
+use super::blanks::{Variables, blanks};
 use super::joint;
 use super::limits::Limits;
 use super::reader::{Condition, Reader};
@@ -16,6 +17,8 @@ pub struct Mode {
     pub initial: Condition,
     pub invariant: Condition,
     pub flow: Condition,
+    /// What the flow rows do not mention, from version 2 on.
+    pub blanks: Variables,
 }
 
 pub struct Switch {
@@ -23,9 +26,13 @@ pub struct Switch {
     pub target: u8,
     pub label: u8,
     pub jump: Condition,
+    /// What the rows do not mention after the jump, from version 2 on.
+    pub blanks: Variables,
 }
 
 pub struct Component {
+    /// The variables that it owns.
+    pub own: Variables,
     pub alphabet: u16,
     pub modes: Vec<Mode>,
     pub switches: Vec<Switch>,
@@ -41,6 +48,7 @@ pub struct UnsafeCondition {
 pub type Location = [u8; MOST_COMPONENTS];
 
 pub struct Model {
+    pub version: u8,
     pub variables: usize,
     /// Each variable's component.
     pub owners: Vec<u8>,
@@ -59,8 +67,10 @@ impl Model {
         let variables = usize::from(reader.u8(1..=8)?);
         let component_count = reader.u8(1..=MOST_COMPONENTS as u8)?;
         let unsafe_count = reader.u8(..=16)?;
-        let owners = (0..variables).map(|_| reader.u8(..component_count)).collect::<Result<_, _>>()?;
-        let components = (0..component_count).map(|_| read_component(&mut reader, variables)).collect::<Result<Vec<_>, _>>()?;
+        let owners = (0..variables).map(|_| reader.u8(..component_count)).collect::<Result<Vec<_>, _>>()?;
+        let components = (0..component_count)
+            .map(|number| read_component(&mut reader, variables, owned_by(number, &owners)))
+            .collect::<Result<Vec<_>, _>>()?;
         let unsafe_conditions =
             (0..unsafe_count).map(|_| read_unsafe_condition(&mut reader, variables, &components)).collect::<Result<_, _>>()?;
         reader.finish()?;
@@ -70,7 +80,8 @@ impl Model {
             return Err(Refusal::new(Fault::Locations, PLACE_OF_N));
         }
         let locations = (0..location_count).map(|number| location(&components, number)).collect();
-        let mut model = Model { variables, owners, components, unsafe_conditions, locations, joint_count: 0 };
+        let version = reader.version();
+        let mut model = Model { version, variables, owners, components, unsafe_conditions, locations, joint_count: 0 };
         model.joint_count = joint::count(&model);
         if model.joint_count > limits.joints as usize {
             return Err(Refusal::new(Fault::JointSwitches, PLACE_OF_N));
@@ -117,7 +128,11 @@ impl UnsafeCondition {
     }
 }
 
-fn read_component(reader: &mut Reader, variables: usize) -> Result<Component, Refusal> {
+fn owned_by(component: u8, owners: &[u8]) -> Variables {
+    owners.iter().enumerate().map(|(variable, &owner)| Variables::from(owner == component) << variable).sum()
+}
+
+fn read_component(reader: &mut Reader, variables: usize, own: Variables) -> Result<Component, Refusal> {
     let place = reader.place();
     let alphabet = reader.u16(..)?;
     if alphabet & 1 == 1 {
@@ -127,7 +142,7 @@ fn read_component(reader: &mut Reader, variables: usize) -> Result<Component, Re
     let switch_count = reader.u8(..=32)?;
     let modes = (0..mode_count).map(|_| read_mode(reader, variables)).collect::<Result<_, _>>()?;
     let switches = (0..switch_count).map(|_| read_switch(reader, variables, alphabet, mode_count)).collect::<Result<_, _>>()?;
-    Ok(Component { alphabet, modes, switches })
+    Ok(Component { own, alphabet, modes, switches })
 }
 
 fn read_mode(reader: &mut Reader, variables: usize) -> Result<Mode, Refusal> {
@@ -135,7 +150,8 @@ fn read_mode(reader: &mut Reader, variables: usize) -> Result<Mode, Refusal> {
     let initial = reader.condition(if start { MOST_ROWS } else { 0 }, variables)?;
     let invariant = reader.condition(MOST_ROWS, variables)?;
     let flow = reader.condition(MOST_ROWS, variables)?;
-    Ok(Mode { start, initial, invariant, flow })
+    let blanks = blanks(reader.version(), &flow, 0..variables);
+    Ok(Mode { start, initial, invariant, flow, blanks })
 }
 
 fn read_switch(reader: &mut Reader, variables: usize, alphabet: u16, modes: u8) -> Result<Switch, Refusal> {
@@ -147,7 +163,8 @@ fn read_switch(reader: &mut Reader, variables: usize, alphabet: u16, modes: u8) 
         return Err(Refusal::new(Fault::Label, place));
     }
     let jump = reader.condition(MOST_ROWS, 2 * variables)?;
-    Ok(Switch { source, target, label, jump })
+    let blanks = blanks(reader.version(), &jump, variables..2 * variables);
+    Ok(Switch { source, target, label, jump, blanks })
 }
 
 fn read_unsafe_condition(reader: &mut Reader, variables: usize, components: &[Component]) -> Result<UnsafeCondition, Refusal> {

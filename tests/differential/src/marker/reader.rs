@@ -2,9 +2,11 @@
 
 use super::answer::{Fault, Refusal};
 use super::farkas::Row;
-use std::ops::RangeBounds;
+use std::ops::{RangeBounds, RangeInclusive};
 
 const LONGEST_SHEET: usize = 32_768;
+/// The kind of a model sheet.
+const MODEL: u8 = 1;
 
 /// Stands at a place in a sheet whose header is good. Each reading method takes one field: a field that is cut is refused at its first
 /// byte before its range is looked at.
@@ -19,13 +21,17 @@ impl<'a> Reader<'a> {
         if sheet.len() < 4 || sheet.len() > LONGEST_SHEET || usize::from(u16::from_be_bytes([sheet[0], sheet[1]])) + 2 != sheet.len() {
             return Err(Refusal::new(Fault::Length, 0));
         }
-        if sheet[2] != 1 {
+        if !versions(kind).contains(&sheet[2]) {
             return Err(Refusal::new(Fault::Version, 2));
         }
         if sheet[3] != kind {
             return Err(Refusal::new(Fault::Kind, 3));
         }
         Ok(Reader { sheet, place: 4 })
+    }
+
+    pub fn version(&self) -> u8 {
+        self.sheet[2]
     }
 
     pub fn place(&self) -> usize {
@@ -84,6 +90,11 @@ impl<'a> Reader<'a> {
         }
         Ok(Condition { count, width, place, numbers })
     }
+}
+
+/// The versions that a sheet of a kind may have: a model 1 and 2 (02, order 6), any other 1.
+fn versions(kind: u8) -> RangeInclusive<u8> {
+    1..=if kind == MODEL { 2 } else { 1 }
 }
 
 fn within<T: PartialOrd>(value: T, range: impl RangeBounds<T>, place: usize) -> Result<T, Refusal> {

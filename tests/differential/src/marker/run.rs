@@ -1,6 +1,7 @@
 //! The run sheet and the runs that a model allows (01, "Runs" and "Run sheet").
 
 use super::answer::{Answer, Fault, Refusal, Sheet};
+use super::blanks::{ascending, kept_in_flow, kept_in_jump};
 use super::joint::{JointSwitch, STAYS};
 use super::limits::{Limits, open_model};
 use super::model::{EVENTS, Location, MOST_COMPONENTS, Model};
@@ -59,7 +60,8 @@ pub fn after(model: &Model, from: &State, step: &Step, values: [i64; 8], q: i64)
 
 fn flow_allowed(model: &Model, from: &State, time: i64, values: &[i64; 8]) -> bool {
     let change: [i64; 8] = std::array::from_fn(|v| values[v] - from.values[v]);
-    (time > 0 || change == [0; 8]) && model.modes(&from.location).all(|mode| mode.flow.rows().all(|row| row.holds(change, time)))
+    let kept = ascending(kept_in_flow(model, &from.location)).all(|v| change[v] == 0);
+    kept && (time > 0 || change == [0; 8]) && model.modes(&from.location).all(|mode| mode.flow.rows().all(|row| row.holds(change, time)))
 }
 
 /// The target of the joint switch with this source, event and switches, if there is one.
@@ -84,7 +86,7 @@ fn jump_allowed(model: &Model, from: &State, event: u8, switches: [u8; MOST_COMP
     let joint = JointSwitch { source: 0, event, switches, target: 0 };
     let n = model.variables;
     let both = || from.values[..n].iter().chain(&values[..n]).copied();
-    let kept = model.owners.iter().enumerate().all(|(v, &owner)| !joint.stays(owner) || values[v] == from.values[v]);
+    let kept = ascending(kept_in_jump(model, &joint)).all(|v| values[v] == from.values[v]);
     kept && joint.moving(model).all(|(_, switch)| switch.jump.rows().all(|row| row.holds(both(), q)))
 }
 

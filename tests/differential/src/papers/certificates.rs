@@ -35,7 +35,7 @@ pub fn random_certificate(random: &mut Random, mut plan: Plan) -> Option<Proved>
     let mut regions: Vec<Vec<Row>> = (0..plan.locations()).map(|location| random_region(random, &plan, location)).collect();
     for _ in 0..12 {
         let model = plan.sheet();
-        match prove_all(random, &model.bytes, &regions)? {
+        match prove_all(&model.bytes, &regions, |hypotheses, goal, found| vary(random, hypotheses, goal, found))? {
             Outcome::Proved(proofs) => {
                 let second = certificate_sheet(&regions, &proofs);
                 return (second.bytes.len() <= MOST_BYTES).then_some(Proved { model, second });
@@ -44,6 +44,14 @@ pub fn random_certificate(random: &mut Random, mut plan: Plan) -> Option<Proved>
         }
     }
     None
+}
+
+/// A certificate with the first proofs that are found; none where one is not.
+pub fn short_certificate(model: &[u8], regions: &[Vec<Row>]) -> Option<Sheet> {
+    match prove_all(model, regions, |_, _, found| as_proof(found))? {
+        Outcome::Proved(proofs) => Some(certificate_sheet(regions, &proofs)),
+        Outcome::Failed(_) => None,
+    }
 }
 
 /// A region row by location and line, or an unsafe condition.
@@ -73,7 +81,7 @@ fn give_up(plan: &mut Plan, regions: &mut [Vec<Row>], mut failed: Vec<Failed>) {
 fn random_region(random: &mut Random, plan: &Plan, location: usize) -> Vec<Row> {
     let n = plan.variables();
     let modes = plan.modes(location);
-    let mut region = vec![];
+    let mut region = if plan.version == 2 { values_at_start(random, plan) } else { vec![] };
     for (component, &mode) in plan.components.iter().zip(&modes) {
         for invariant in &component.modes[mode].invariant {
             if random.one_in(2) {
@@ -107,8 +115,15 @@ fn random_region(random: &mut Random, plan: &Plan, location: usize) -> Vec<Row> 
     region
 }
 
-/// None where the model is refused.
-fn prove_all(random: &mut Random, model: &[u8], regions: &[Vec<Row>]) -> Option<Outcome> {
+/// Rows that hold as long as some variables keep the values that runs begin with.
+fn values_at_start(random: &mut Random, plan: &Plan) -> Vec<Row> {
+    let n = plan.variables();
+    let kept: Vec<usize> = (0..n).filter(|_| random.one_in(3)).collect();
+    kept.into_iter().flat_map(|v| [row(n, &[(v, 1)], plan.start[v]), row(n, &[(v, -1)], -plan.start[v])]).collect()
+}
+
+/// Each proof is made of what is found for it. None where the model is refused.
+fn prove_all(model: &[u8], regions: &[Vec<Row>], mut made_of: impl FnMut(&[Form], Option<Form>, Found) -> Proof) -> Option<Outcome> {
     let model = Model::read(model, EXAM).ok()?;
     let sheet = certificate_sheet(regions, &[]);
     let claim = Claim::read(&mut Reader::open(&sheet.bytes, 2).ok()?, &model).ok()?;
@@ -121,8 +136,9 @@ fn prove_all(random: &mut Random, model: &[u8], regions: &[Vec<Row>]) -> Option<
         claim.list_hypotheses(&group, &mut hypotheses);
         let hypotheses: Vec<Form> = (0..).map_while(|number| Some(hypotheses.get(number)?.form)).collect();
         for line in group.lines.clone() {
-            match prove(random, &hypotheses, claim.goal(&group, line)) {
-                Some(proof) => proofs.push((proof, group.kind == Kind::Unsafe)),
+            let goal = claim.goal(&group, line);
+            match prove(&hypotheses, goal) {
+                Some(found) => proofs.push((made_of(&hypotheses, goal, found), group.kind == Kind::Unsafe)),
                 None => failed.push(failure(&claim, &group, line)),
             }
         }
@@ -146,17 +162,16 @@ fn dense(form: Form) -> Dense {
     sum.parts()
 }
 
-/// A proof with few entries, then made longer here and there.
-fn prove(random: &mut Random, hypotheses: &[Form], goal: Option<Form>) -> Option<Proof> {
+/// A proof with few entries.
+fn prove(hypotheses: &[Form], goal: Option<Form>) -> Option<Found> {
     let rows: Vec<Dense> = hypotheses.iter().map(|&form| dense(form)).collect();
-    let found = (0..4).find_map(|depth| {
+    (0..4).find_map(|depth| {
         let shown = goal.and_then(|goal| {
             let (coefficients, bound) = dense(goal);
             Search::new(&rows).close(coefficients, bound, 1, depth)
         });
         shown.or_else(|| (depth > 0).then(|| contradiction(&rows, depth)).flatten())
-    })?;
-    Some(vary(random, hypotheses, goal, found))
+    })
 }
 
 fn contradiction(rows: &[Dense], depth: usize) -> Option<Found> {
@@ -215,11 +230,14 @@ pub(super) fn gcd(a: i64, b: i64) -> i64 {
     if b == 0 { a } else { gcd(b, a % b) }
 }
 
-/// The same proof, or one multiplied by a number, or one with more entries that still passes.
-fn vary(random: &mut Random, hypotheses: &[Form], goal: Option<Form>, (k, used): Found) -> Proof {
-    let mut used = used;
+fn as_proof((k, mut used): Found) -> Proof {
     used.sort();
-    let mut proof = Proof { k: k as u32, entries: used.iter().map(|&(h, multiplier)| (h as u8, multiplier as u32)).collect() };
+    Proof { k: k as u32, entries: used.iter().map(|&(h, multiplier)| (h as u8, multiplier as u32)).collect() }
+}
+
+/// The same proof, or one multiplied by a number, or one with more entries that still passes.
+fn vary(random: &mut Random, hypotheses: &[Form], goal: Option<Form>, found: Found) -> Proof {
+    let mut proof = as_proof(found);
     if random.one_in(5) {
         let largest = proof.entries.iter().map(|entry| entry.1).chain([proof.k, 1]).max().unwrap_or(1);
         let scale = random.between(1, (MULTIPLIER_LIMIT - 1) / i64::from(largest)) as u32;

@@ -1,7 +1,8 @@
 //! Papers made of other papers by one change.
 
+use super::blanks::either_version;
 use super::random::Random;
-use super::sheet::{Field, Sheet, fix_length};
+use super::sheet::{Field, MODEL, Sheet, fix_length};
 
 #[derive(Clone, Copy, Debug, PartialEq, Eq)]
 pub enum Damage {
@@ -17,9 +18,11 @@ pub enum Damage {
     Cut,
     /// There are more bytes.
     Added,
+    /// The version is another.
+    Version,
 }
 
-pub const ALL: [Damage; 6] = [Damage::Byte, Damage::Field, Damage::Ends, Damage::Number, Damage::Cut, Damage::Added];
+pub const ALL: [Damage; 7] = [Damage::Byte, Damage::Field, Damage::Ends, Damage::Number, Damage::Cut, Damage::Added, Damage::Version];
 
 /// The sheet with this damage.
 pub fn damaged(random: &mut Random, sheet: &Sheet, damage: Damage) -> Sheet {
@@ -85,6 +88,10 @@ pub fn damaged(random: &mut Random, sheet: &Sheet, damage: Damage) -> Sheet {
                 fix_length(&mut sheet.bytes);
             }
         }
+        Damage::Version => {
+            let versions = [0, 1, 2, 3, 4, 255].into_iter().filter(|&version| version != sheet.bytes[2]);
+            sheet.bytes[2] = *random.pick(&versions.collect::<Vec<u8>>());
+        }
     }
     sheet
 }
@@ -110,7 +117,7 @@ pub fn random_bytes(random: &mut Random, kind: u8) -> Sheet {
         sheet.bytes.push(byte);
     }
     if length >= 4 && !random.one_in(8) {
-        sheet.bytes[2] = 1;
+        sheet.bytes[2] = if kind == MODEL { either_version(random) } else { 1 };
         sheet.bytes[3] = kind;
     }
     if !random.one_in(8) {

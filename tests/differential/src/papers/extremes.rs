@@ -5,6 +5,7 @@ use super::certificates::certificate_sheet;
 use super::models::{ANY, Component, Mode, Plan, Switch, row};
 use super::runs::{NONE, put_step, run_sheet};
 use super::sheet::{Proof, Row, Sheet};
+use super::turns;
 use crate::marker::run::Step;
 
 pub struct Paper {
@@ -14,17 +15,17 @@ pub struct Paper {
 }
 
 impl Paper {
-    fn new(name: &str, model: Sheet, second: Sheet) -> Self {
+    pub(super) fn new(name: &str, model: Sheet, second: Sheet) -> Self {
         Paper { name: name.to_string(), model, second }
     }
 }
 
 pub(super) fn plan(owners: Vec<u8>, components: Vec<Component>, unsafe_conditions: Vec<(Vec<u8>, Vec<Row>)>) -> Plan {
     let n = owners.len();
-    Plan { owners, components, unsafe_conditions, start: vec![0; n], low: vec![0; n], high: vec![0; n] }
+    Plan { version: 1, owners, components, unsafe_conditions, start: vec![0; n], low: vec![0; n], high: vec![0; n] }
 }
 
-fn proof(k: u32, entries: &[(u8, u32)]) -> (Proof, bool) {
+pub(super) fn proof(k: u32, entries: &[(u8, u32)]) -> (Proof, bool) {
     (Proof { k, entries: entries.to_vec() }, false)
 }
 
@@ -198,17 +199,24 @@ pub fn near_limits() -> Paper {
     Paper::new("certificate near all limits", model, certificate_sheet(&regions, &proofs))
 }
 
+/// Rows in pairs, a·x ≤ 0 and −a·x ≤ 0, on 8 variables.
+fn pairs(count: usize) -> Vec<Row> {
+    let row = |i: usize| -> Row {
+        let sign = if i.is_multiple_of(2) { 1 } else { -1 };
+        (0..9).map(|v| if v == 8 { 0 } else { sign * (1_000 + (i / 2 * 8 + v) as i32) }).collect()
+    };
+    (0..count).map(row).collect()
+}
+
+/// Eight jump rows in pairs, on 8 variables before and after.
+fn jump_pairs() -> Vec<Row> {
+    (0..8).map(|i| (0..17).map(|v| if v == 16 { 0 } else { [1, -1][i % 2] * (v + 3) }).collect()).collect()
+}
+
 /// Proofs that use nearly every hypothesis, up to all 120: rows come in pairs a·x ≤ 0 and −a·x ≤ 0, and a proof takes both sides of each
 /// pair as often, the goal's own row once more.
 pub fn many_entries() -> Paper {
-    let pairs = |count: usize| -> Vec<Row> {
-        let row = |i: usize| -> Row {
-            let sign = if i.is_multiple_of(2) { 1 } else { -1 };
-            (0..9).map(|v| if v == 8 { 0 } else { sign * (1_000 + (i / 2 * 8 + v) as i32) }).collect()
-        };
-        (0..count).map(row).collect()
-    };
-    let jump: Vec<Row> = (0..8).map(|i| (0..17).map(|v| if v == 16 { 0 } else { [1, -1][i % 2] * (v + 3) }).collect()).collect();
+    let jump = jump_pairs();
     let rows = pairs(32);
     let components = (0..4).map(|number| {
         let invariant = rows[8 * number..8 * number + 8].to_vec();
@@ -227,6 +235,88 @@ pub fn many_entries() -> Paper {
     proofs.extend((0..16).map(|line| proof_of(112, 16 + 32 + line)));
     proofs.extend((0..16).map(|line| proof_of(120, 16 + 32 + line)));
     Paper::new("proofs with up to 120 entries", model, certificate_sheet(&[rows[..16].to_vec()], &proofs))
+}
+
+/// The most hypotheses there are, in version 2: 129 in a flow, 128 in a jump of all four components. All conditions are full, and neither
+/// the flow rows nor the after-coefficients of a component are on its own two variables. Rows come in pairs, and proofs take both sides of
+/// each pair: 128 entries, −d ≤ 0 aside. The last two proofs of a flow and of a jump take one staying row of variable 7 each, which are
+/// the last hypotheses.
+pub fn most_hypotheses() -> Paper {
+    most_hypotheses_with("the most hypotheses", Faults::default())
+}
+
+/// The same certificate, then with an entry too many, and with a hypothesis too many in a flow and in a jump.
+pub fn for_blanks() -> Vec<Paper> {
+    vec![
+        most_hypotheses(),
+        most_hypotheses_with("129 entries", Faults { time: true, ..Faults::default() }),
+        most_hypotheses_with("hypothesis 129 of a flow", Faults { beyond_flow: true, ..Faults::default() }),
+        most_hypotheses_with("hypothesis 128 of a jump", Faults { beyond_jump: true, ..Faults::default() }),
+    ]
+}
+
+/// What is wrong with a certificate for the most hypotheses.
+#[derive(Default)]
+struct Faults {
+    /// Flow proofs take −d ≤ 0 too, and the bound of a flow row makes up for it.
+    time: bool,
+    /// The last flow proof, or jump proof, takes the hypothesis after the last.
+    beyond_flow: bool,
+    beyond_jump: bool,
+}
+
+/// Where −d ≤ 0 stands in a flow with full conditions, and the first staying row in a jump with them.
+const AFTER_CONDITIONS: usize = 16 + 32 + 32 + 32;
+
+fn most_hypotheses_with(name: &str, faults: Faults) -> Paper {
+    let mut rows = pairs(32);
+    (rows[14], rows[15]) = (row(8, &[(7, 1)], 0), row(8, &[(7, -1)], 0));
+    let model = most_hypotheses_model(&rows, if faults.time { -1 } else { 0 });
+    let mut proofs: Vec<Proof> = (0..16).map(|line| taken_by_all(64, 32 + line)).collect();
+    for (staying, beyond) in [(AFTER_CONDITIONS + 1, faults.beyond_flow), (AFTER_CONDITIONS, faults.beyond_jump)] {
+        for (line, region_row) in rows[..14].iter().enumerate() {
+            let mut proof = kept_by_all(region_row, line, staying);
+            if staying > AFTER_CONDITIONS && !faults.time {
+                proof.entries.remove(AFTER_CONDITIONS);
+            }
+            proofs.push(proof);
+        }
+        for (line, beyond) in [(14, false), (15, beyond)] {
+            let last = staying + line + usize::from(beyond);
+            proofs.push(Proof { k: 1, entries: vec![(line as u8, 1), (last as u8, 1)] });
+        }
+    }
+    let proofs: Vec<(Proof, bool)> = proofs.into_iter().map(|proof| (proof, false)).collect();
+    Paper::new(name, model, certificate_sheet(&[rows[..16].to_vec()], &proofs))
+}
+
+/// The rows are initial rows and invariants, eight in each component. The bound is that of the first flow row.
+fn most_hypotheses_model(rows: &[Row], bound: i32) -> Sheet {
+    let components = rows.chunks(8).enumerate().map(|(number, rows)| {
+        let (mut flow, mut jump) = (pairs(8), jump_pairs());
+        flow.iter_mut().for_each(|row| row[2 * number..][..2].fill(0));
+        jump.iter_mut().for_each(|row| row[8 + 2 * number..][..2].fill(0));
+        flow[0][8] = if number == 0 { bound } else { 0 };
+        let mode = Mode { start: true, initial: rows.to_vec(), invariant: rows.to_vec(), flow };
+        Component { alphabet: 2, modes: vec![mode], switches: vec![Switch { source: 0, target: 0, label: 1, jump }] }
+    });
+    let plan = plan((0..8).map(|v| v / 2).collect(), components.collect(), vec![]);
+    Plan { version: 2, ..plan }.sheet()
+}
+
+/// A proof that takes so many hypotheses, all as often but for its own, which it takes once more.
+fn taken_by_all(count: usize, own: usize) -> Proof {
+    let entries = (0..count).map(|h| (h as u8, if h == own { 70_001 } else { 70_000 })).collect();
+    Proof { k: 1, entries }
+}
+
+/// Such a proof for a region row after a flow or a jump, with the staying rows that turn it into one on x'.
+fn kept_by_all(region_row: &Row, line: usize, staying: usize) -> Proof {
+    let mut proof = taken_by_all(staying + 16, line);
+    for (v, &a) in region_row[..8].iter().enumerate() {
+        proof.entries[staying + 2 * v + usize::from(a < 0)].1 += a.unsigned_abs();
+    }
+    proof
 }
 
 /// Sums that go up to 2^60 and come back to 0 in one proof, where only the last bound decides: accepted if it is at most −(2^31 − 1).
@@ -431,6 +521,8 @@ pub fn all() -> Vec<Paper> {
         shared_events(),
         Paper::new("products", products(&[8, 4, 2]), products_certificate(&[8, 4, 2])),
     ];
+    papers.extend([1, 2].into_iter().filter_map(turns::certificate));
+    papers.extend([1, 2].map(turns::run));
     papers.extend([i32::MIN, -i32::MAX, 1 - i32::MAX, 0, i32::MAX].map(largest_sums));
     let most = (1 << 24) - 1;
     papers.extend([(0, 0), (-1, 1), (-1, 0), (0, 1), (1, 1), (-(most as i32), most), (i32::MIN, most)].map(|(b, t)| least_rate(b, t)));

@@ -1,5 +1,6 @@
 //! Papers and typed texts to compare the markers on.
 
+pub mod blanks;
 pub mod certificates;
 pub mod damage;
 pub mod extremes;
@@ -10,6 +11,7 @@ pub mod scores;
 pub mod sheet;
 pub mod spellings;
 pub mod texts;
+pub mod turns;
 
 pub use random::Random;
 pub use sheet::Sheet;

@@ -30,6 +30,7 @@ pub struct Component {
 
 #[derive(Clone)]
 pub struct Plan {
+    pub version: u8,
     pub owners: Vec<u8>,
     pub components: Vec<Component>,
     /// Mode bytes and rows.
@@ -75,8 +76,9 @@ impl Plan {
             (modes, rows_of(&condition.rows))
         });
         let (components, unsafe_conditions) = (components.collect(), unsafe_conditions.collect());
+        let (version, owners) = (model.version, model.owners.clone());
         let none = || vec![0; model.variables];
-        Plan { owners: model.owners.clone(), components, unsafe_conditions, start: none(), low: none(), high: none() }
+        Plan { version, owners, components, unsafe_conditions, start: none(), low: none(), high: none() }
     }
 
     /// Every condition that may have rows, with the number of coefficients in each row.
@@ -115,7 +117,7 @@ impl Plan {
     }
 
     pub fn sheet(&self) -> Sheet {
-        let mut sheet = Sheet::new(MODEL);
+        let mut sheet = Sheet::new(MODEL).in_version(self.version);
         sheet.put(1, self.owners.len() as i64, 1, 8);
         sheet.put(1, self.components.len() as i64, 1, 4);
         sheet.put(1, self.unsafe_conditions.len() as i64, 0, 16);
@@ -150,7 +152,7 @@ impl Plan {
     }
 }
 
-/// A random model with at most `size` of most things (1 to 8).
+/// A random model of version 1 with at most `size` of most things (1 to 8).
 pub fn random_plan(random: &mut Random, size: usize) -> Plan {
     let variables = 1 + random.below(size);
     let component_count = 1 + random.below(size.min(4));
@@ -159,7 +161,7 @@ pub fn random_plan(random: &mut Random, size: usize) -> Plan {
     let high: Vec<i32> = low.iter().map(|low| low + random.between(0, 20) as i32 * scale).collect();
     let start: Vec<i32> = (0..variables).map(|v| random.between(low[v].into(), high[v].into()) as i32).collect();
     let owners = (0..variables).map(|_| random.below(component_count) as u8).collect();
-    let mut plan = Plan { owners, components: vec![], unsafe_conditions: vec![], start, low, high };
+    let mut plan = Plan { version: 1, owners, components: vec![], unsafe_conditions: vec![], start, low, high };
 
     // A small pool of events, so that components share them.
     let pool: Vec<u8> = (0..1 + random.below(3)).map(|_| random.between(1, 15) as u8).collect();
@@ -197,7 +199,7 @@ pub fn crowded_plan(random: &mut Random) -> Plan {
         Component { alphabet, switches: switches.collect(), modes: vec![mode; mode_count] }
     });
     let components = components.collect();
-    Plan { owners: vec![0], components, unsafe_conditions: vec![], start: vec![0], low: vec![0], high: vec![0] }
+    Plan { version: 1, owners: vec![0], components, unsafe_conditions: vec![], start: vec![0], low: vec![0], high: vec![0] }
 }
 
 fn random_component(random: &mut Random, plan: &Plan, number: usize, mode_count: usize, pool: &[u8], size: usize) -> Component {

@@ -3,6 +3,7 @@
 use super::models::{ANY, Plan, row};
 use super::random::Random;
 use super::sheet::{RUN, Sheet};
+use crate::marker::blanks::{kept_in_flow, kept_in_jump};
 use crate::marker::joint::{self, JointSwitch, STAYS};
 use crate::marker::run::{State, Step, admissible, after, may_begin};
 use crate::marker::{EXAM, Model};
@@ -96,9 +97,10 @@ fn random_step(random: &mut Random, plan: &Plan, model: &Model, joints: &[JointS
     let from_here: Vec<&JointSwitch> = joints.iter().filter(|joint| usize::from(joint.source) == here).collect();
     if from_here.is_empty() || random.one_in(2) {
         let time = *random.pick(&[0, 1, 1, 2, q.min(100), q]);
+        let kept = kept_in_flow(model, &from.location);
         let values = std::array::from_fn(|v| {
-            if v >= model.variables {
-                return 0;
+            if v >= model.variables || kept >> v & 1 == 1 {
+                return from.values[v];
             }
             let rate = random.between(-2, 2) * i64::from(random.one_in(2));
             let moved = from.values[v] + rate * time;
@@ -107,8 +109,9 @@ fn random_step(random: &mut Random, plan: &Plan, model: &Model, joints: &[JointS
         return (Step::Flow(time), values);
     }
     let joint = **random.pick(&from_here);
+    let kept = kept_in_jump(model, &joint);
     let values = std::array::from_fn(|v| {
-        if v >= model.variables || joint.stays(model.owners[v]) {
+        if v >= model.variables || kept >> v & 1 == 1 {
             return from.values[v];
         }
         match random.below(5) {

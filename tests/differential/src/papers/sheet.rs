@@ -33,9 +33,15 @@ impl Sheet {
     pub fn new(kind: u8) -> Self {
         let mut sheet = Sheet { bytes: vec![], fields: vec![] };
         sheet.put(2, 0, 0, 65_535);
-        sheet.put(1, 1, 1, 1);
+        sheet.put(1, 1, 1, if kind == MODEL { 2 } else { 1 });
         sheet.put(1, kind.into(), kind.into(), kind.into());
         sheet
+    }
+
+    /// The same sheet in another version.
+    pub fn in_version(mut self, version: u8) -> Self {
+        self.bytes[2] = version;
+        self
     }
 
     /// Writes a field that may hold low to high.
@@ -56,7 +62,7 @@ impl Sheet {
         self.put(4, proof.k.into(), 0, if unsafe_goal { 0 } else { (1 << 24) - 1 });
         self.put(1, proof.entries.len() as i64, 0, 128);
         for &(hypothesis, multiplier) in &proof.entries {
-            self.put(1, hypothesis.into(), 0, 119);
+            self.put(1, hypothesis.into(), 0, 128);
             self.put(4, multiplier.into(), 1, (1 << 24) - 1);
         }
     }
