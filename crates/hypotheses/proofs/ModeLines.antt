@@ -12,7 +12,7 @@ use Rattle.formats.specs.Versions.{keepsBlanks}
 use Rattle.models.specs.Index.{entry, componentPlace, modePlace, switchPlace, spanRows, GoodIndex}
 use Rattle.models.specs.Counts.{perComponent, KnownSwitches}
 use Rattle.papers.specs.Standing.{GoodModes}
-use Rattle.papers.specs.Blanks.{ownerIn, stillAt, staysAt, restsAt}
+use Rattle.papers.specs.Blanks.{ownerIn, stillAt, staysAt, restsAt, keepsAt}
 use Rattle.papers.proofs.BlankLaws.{plain-rests}
 use Rattle.rules.proofs.ListFacts.{joined-alike}
 pub use Rattle.papers.proofs.StandingLaws.{mode-within, switch-within}
@@ -91,6 +91,15 @@ unfolding variableLines
 plain-staying model index switches e =
     joined-alike (variableAt (staysAt index switches)) (variableAt (restsAt model index switches)) (countUp 0 (entry index 0))
     (λ v. ap (λ (b : Bool). variableLine b v) (plain-rests model index switches v e))
+
+-- the lists of a flow and of a jump are one list, by what is known of the variables
+pub kept-flow : (model index modes : List ℕ) → variableLines (keepsAt model index true modes) (entry index 0) ≡ stillLines model index modes
+unfolding keepsAt
+kept-flow model index modes = refl
+
+pub kept-jump : (model index switches : List ℕ) → variableLines (keepsAt model index false switches) (entry index 0) ≡ stayingLines model index switches
+unfolding keepsAt
+kept-jump model index switches = refl
 
 -- in a good index, conditions have few rows
 pub few-rows : (s index modes : List ℕ) (offset : ℕ) → GoodIndex s index → offset ≤ 5 → GoodModes s index modes offset → FewRows index modes offset

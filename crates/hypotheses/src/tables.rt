@@ -5,8 +5,7 @@ use models::layout::COMPONENTS_AT;
 use models::layout::COUNT_AT;
 use models::layout::Index;
 use models::layout::VARIABLES_AT;
-use papers::blanks::kept_in_flow;
-use papers::blanks::kept_in_jump;
+use papers::blanks::keeps;
 use papers::blanks::owner_stays;
 use papers::opening::version_of;
 use papers::standing::mode_place;
@@ -17,7 +16,7 @@ ghost use Prim.Native.Nat.{_+_, _*_, _≤_, _<_};
 ghost use lib.ListN.{length};
 ghost use Rattle.models.specs.Index.{entry, componentsIn, variablesIn, GoodIndex};
 ghost use Rattle.models.specs.Counts.{perComponent, KnownModes, KnownSwitches};
-ghost use Rattle.papers.specs.Blanks.{Owned, staysAt};
+ghost use Rattle.papers.specs.Blanks.{Owned, KnownIn, keepsAt, staysAt};
 ghost use Rattle.hypotheses.specs.Tables.{segment, endOf, Stacked, linesIn, Onto};
 ghost use Rattle.hypotheses.specs.Listing.{keptLines, modeLines, switchLine, switchLines, variableLine, variableLines, stayingLines, stillLines, FewRows, FewJumps, FewJump};
 
@@ -164,6 +163,30 @@ fn push_owned(index: &Index, switches: [u8; 4], table: &mut [u16], at: usize) ->
     to
 }
 
+// The two rows of every variable that keeps its value in a flow in these modes, or in a jump by these switches.
+fn push_variables(
+    model: &[u8],
+    index: &Index,
+    flow: bool,
+    numbers: [u8; 4],
+    table: &mut [u16],
+    at: usize,
+) -> usize
+    requires { ⌜ GoodIndex (now model) (now index) × ((length (now model) ≤ 32768) × KnownIn flow (now index) numbers) ⌝ }
+    requires { ⌜ (96 ≤ length (now table)) × ((at ≤ 15) × Stacked (now table) at) ⌝ }
+    ensures { λ r. ⌜ linesIn (now (table .exit)) r ≡ linesIn (now (table .entry)) at ++ (variableLines (keepsAt (now (model .entry)) (now (index .entry)) flow numbers) (variablesIn (now (index .entry)))) ⌝ }
+    ensures { λ r. ⌜ Onto (now (table .entry)) at 8 (now (table .exit)) r ⌝ }
+{
+    let n = index[VARIABLES_AT] as usize;
+    let mut to = at;
+    let mut v: usize = 0;
+    while v < n {
+        to = push_variable(keeps(model, index, flow, numbers, v), v, table, to);
+        v += 1;
+    }
+    to
+}
+
 // The two rows of every variable that keeps its value in a jump by these switches. Where no blank is kept, only owners are looked at.
 pub fn push_staying(
     model: &[u8],
@@ -180,14 +203,7 @@ pub fn push_staying(
     if !keeps_blanks(version_of(index)) {
         return push_owned(index, switches, table, at);
     }
-    let n = index[VARIABLES_AT] as usize;
-    let mut to = at;
-    let mut v: usize = 0;
-    while v < n {
-        to = push_variable(kept_in_jump(model, index, switches, v), v, table, to);
-        v += 1;
-    }
-    to
+    push_variables(model, index, false, switches, table, at)
 }
 
 // The two rows of every variable that keeps its value in a flow in these modes.
@@ -206,12 +222,5 @@ pub fn push_still(
     if !keeps_blanks(version_of(index)) {
         return at;
     }
-    let n = index[VARIABLES_AT] as usize;
-    let mut to = at;
-    let mut v: usize = 0;
-    while v < n {
-        to = push_variable(kept_in_flow(model, index, modes, v), v, table, to);
-        v += 1;
-    }
-    to
+    push_variables(model, index, true, modes, table, at)
 }

@@ -1,5 +1,5 @@
 -- Which variables keep their value in a step (01, Runs; 02, order 6), by the numbers of an index. Assumes nothing.
-use mathlib.Core.Bool.{Bool, _&&_, _||_}
+use mathlib.Core.Bool.{Bool, true, false, _&&_, _||_}
 use mathlib.Core.List.{List}
 use Prim.Native.Nat.{ℕ, _+_, _*_, _≤_, _<_}
 use lib.Dec.{eqb}
@@ -7,6 +7,7 @@ use lib.ListN.{getD}
 use Rattle.formats.specs.Versions.{keepsBlanks}
 use Rattle.formats.specs.Joint.{stays}
 use Rattle.models.specs.Index.{entry, versionIn, ownerPlace, componentPlace, modePlace, switchPlace, flowAt, jumpAt, spanRows}
+use Rattle.models.specs.Counts.{KnownModes, KnownSwitches}
 use Rattle.rules.specs.Runs.{unmentioned}
 
 -- a variable's owner
@@ -39,3 +40,12 @@ unfoldable pub restsAt : List ℕ → List ℕ → List ℕ → ℕ → Bool
 restsAt model index switches v =
     staysAt index switches v
     || landsAt model index (ownerIn index v) (getD switches (ownerIn index v) 0) v
+
+-- in a flow in these modes, or in a jump by these switches: the numbers are known, and the variable keeps its value
+unfoldable pub KnownIn : Bool → List ℕ → List ℕ → Type 0
+KnownIn true index modes = KnownModes index modes
+KnownIn false index switches = KnownSwitches index switches
+
+unfoldable pub keepsAt : List ℕ → List ℕ → Bool → List ℕ → ℕ → Bool
+keepsAt model index true modes v = stillAt model index modes v
+keepsAt model index false switches v = restsAt model index switches v

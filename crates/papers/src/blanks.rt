@@ -18,7 +18,7 @@ ghost use lib.ListN.{length};
 ghost use Rattle.models.specs.Index.{GoodIndex, GoodSpan, componentsIn, indexLength, spanRows, switchCountIn, variablesIn, versionIn};
 ghost use Rattle.models.specs.Counts.{KnownModes, KnownSwitches};
 ghost use Rattle.rules.specs.Runs as runs;
-ghost use Rattle.papers.specs.Blanks.{Owned, stillAt, staysAt, landsAt, restsAt};
+ghost use Rattle.papers.specs.Blanks.{Owned, stillAt, staysAt, landsAt, restsAt, KnownIn, keepsAt};
 
 // Whether no row that an index keeps at a place, with so many coefficients, has one other than 0 at this unknown.
 fn unmentioned(s: &[u8], index: &Index, place: usize, count: usize, i: usize) -> bool
@@ -41,7 +41,7 @@ fn unmentioned(s: &[u8], index: &Index, place: usize, count: usize, i: usize) ->
 }
 
 // Whether a variable keeps its value in a flow in these modes.
-pub fn kept_in_flow(model: &[u8], index: &Index, modes: [u8; 4], v: usize) -> bool
+fn kept_in_flow(model: &[u8], index: &Index, modes: [u8; 4], v: usize) -> bool
     requires { ⌜ GoodIndex (now model) (now index) × (length (now model) ≤ 32768) ⌝ }
     requires { ⌜ KnownModes (now index) modes × (v < variablesIn (now index)) ⌝ }
     ensures { λ r. ⌜ r ≡ stillAt (now (model .entry)) (now (index .entry)) modes v ⌝ }
@@ -78,7 +78,7 @@ fn blank_in_jump(model: &[u8], index: &Index, owner: usize, i: u8, v: usize) -> 
 }
 
 // Whether a variable keeps its value in a jump by these switches.
-pub fn kept_in_jump(model: &[u8], index: &Index, switches: [u8; 4], v: usize) -> bool
+fn kept_in_jump(model: &[u8], index: &Index, switches: [u8; 4], v: usize) -> bool
     requires { ⌜ GoodIndex (now model) (now index) × (length (now model) ≤ 32768) ⌝ }
     requires { ⌜ KnownSwitches (now index) switches × (v < variablesIn (now index)) ⌝ }
     ensures { λ r. ⌜ r ≡ restsAt (now (model .entry)) (now (index .entry)) switches v ⌝ }
@@ -89,4 +89,16 @@ pub fn kept_in_jump(model: &[u8], index: &Index, switches: [u8; 4], v: usize) ->
         return true;
     }
     blank_in_jump(model, index, owner, i, v)
+}
+
+// Whether a variable keeps its value: in a flow in these modes, or in a jump by these switches.
+pub fn keeps(model: &[u8], index: &Index, flow: bool, numbers: [u8; 4], v: usize) -> bool
+    requires { ⌜ GoodIndex (now model) (now index) × (length (now model) ≤ 32768) ⌝ }
+    requires { ⌜ KnownIn flow (now index) numbers × (v < variablesIn (now index)) ⌝ }
+    ensures { λ r. ⌜ r ≡ keepsAt (now (model .entry)) (now (index .entry)) flow numbers v ⌝ }
+{
+    if flow {
+        return kept_in_flow(model, index, numbers, v);
+    }
+    kept_in_jump(model, index, numbers, v)
 }

@@ -13,8 +13,7 @@ use models::layout::Index;
 use models::layout::UNSAFE_LENGTH;
 use models::layout::UNSAFE_ROWS_AT;
 use models::layout::VARIABLES_AT;
-use papers::blanks::kept_in_flow;
-use papers::blanks::kept_in_jump;
+use papers::blanks::keeps;
 use papers::blanks::owner_stays;
 use papers::opening::number_at;
 use papers::opening::version_of;
@@ -30,7 +29,7 @@ ghost use Rattle.farkas.specs.Lists.{every};
 ghost use Rattle.formats.specs.Joint.{stays, countUp};
 ghost use Rattle.models.specs.Index.{modelFrom, GoodIndex, componentsIn, conditionsIn, switchCountIn, variablesIn};
 ghost use Rattle.models.specs.Counts.{perComponent, KnownModes, KnownSwitches};
-ghost use Rattle.papers.specs.Blanks.{Owned, restsAt, stillAt, staysAt};
+ghost use Rattle.papers.specs.Blanks.{KnownIn, Owned, keepsAt, stillAt, staysAt};
 ghost use Rattle.rules.specs.Runs as runs;
 ghost use Rattle.steps.specs.Held.{Located, SmallValues, SmallState, SmallPoint, stateOf, stateIn, valuesAfter, withChanges, movedOn, unsafeAt, moveHolds, sameAt, keptAt};
 
@@ -121,44 +120,43 @@ fn same_value(v: usize, n: usize, state: &[i64]) -> bool
     state[n + v] == state[v]
 }
 
-// Whether a variable's value has changed though a flow in these modes keeps it. Rows are looked at only where it has changed.
-fn moved_in_flow(
+// Whether a variable's value has changed though a flow in these modes, or a jump by these switches, keeps it. Rows are looked at only where
+// it has changed.
+fn moved(
     model: &[u8],
     index: &Index,
-    modes: [u8; 4],
+    flow: bool,
+    numbers: [u8; 4],
     v: usize,
     n: usize,
     state: &[i64],
 ) -> bool
     requires { ⌜ GoodIndex (now model) (now index) × (length (now model) ≤ 32768) ⌝ }
-    requires { ⌜ KnownModes (now index) modes × (v < variablesIn (now index)) ⌝ }
+    requires { ⌜ KnownIn flow (now index) numbers × (v < variablesIn (now index)) ⌝ }
     requires { ⌜ (v < n) × (2 * n ≤ length (now state)) ⌝ }
-    ensures { λ r. ⌜ not r ≡ keptAt (stillAt (now (model .entry)) (now (index .entry)) modes) n (now (state .entry)) v ⌝ }
+    ensures { λ r. ⌜ not r ≡ keptAt (keepsAt (now (model .entry)) (now (index .entry)) flow numbers) n (now (state .entry)) v ⌝ }
 {
     if same_value(v, n, state) {
         return false;
     }
-    kept_in_flow(model, index, modes, v)
+    keeps(model, index, flow, numbers, v)
 }
 
-// The same of a jump by these switches.
-fn moved_in_jump(
-    model: &[u8],
-    index: &Index,
-    switches: [u8; 4],
-    v: usize,
-    n: usize,
-    state: &[i64],
-) -> bool
+// Whether the variables keep their values that a flow in these modes, or a jump by these switches, keeps.
+fn values_kept(model: &[u8], index: &Index, flow: bool, numbers: [u8; 4], state: &[i64]) -> bool
     requires { ⌜ GoodIndex (now model) (now index) × (length (now model) ≤ 32768) ⌝ }
-    requires { ⌜ KnownSwitches (now index) switches × (v < variablesIn (now index)) ⌝ }
-    requires { ⌜ (v < n) × (2 * n ≤ length (now state)) ⌝ }
-    ensures { λ r. ⌜ not r ≡ keptAt (restsAt (now (model .entry)) (now (index .entry)) switches) n (now (state .entry)) v ⌝ }
+    requires { ⌜ KnownIn flow (now index) numbers × (2 * variablesIn (now index) ≤ length (now state)) ⌝ }
+    ensures { λ r. ⌜ r ≡ every (keptAt (keepsAt (now (model .entry)) (now (index .entry)) flow numbers) (variablesIn (now (index .entry))) (now (state .entry))) (countUp 0 (variablesIn (now (index .entry)))) ⌝ }
 {
-    if same_value(v, n, state) {
-        return false;
+    let n = number_at(index, VARIABLES_AT);
+    let mut v: usize = 0;
+    while v < n {
+        if moved(model, index, flow, numbers, v, n, state) {
+            return false;
+        }
+        v += 1;
     }
-    kept_in_jump(model, index, switches, v)
+    true
 }
 
 // Whether the variables keep their values that no flow row mentions.
@@ -170,15 +168,7 @@ fn still_kept(model: &[u8], index: &Index, modes: [u8; 4], state: &[i64]) -> boo
     if !keeps_blanks(version_of(index)) {
         return true;
     }
-    let n = number_at(index, VARIABLES_AT);
-    let mut v: usize = 0;
-    while v < n {
-        if moved_in_flow(model, index, modes, v, n, state) {
-            return false;
-        }
-        v += 1;
-    }
-    true
+    values_kept(model, index, true, modes, state)
 }
 
 // Whether a flow of this time meets its rule. The changes of the values stand behind them then.
@@ -280,15 +270,7 @@ pub fn staying_kept(model: &[u8], index: &Index, switches: [u8; 4], state: &[i64
     if !keeps_blanks(version_of(index)) {
         return owned_kept(index, switches, state);
     }
-    let n = number_at(index, VARIABLES_AT);
-    let mut v: usize = 0;
-    while v < n {
-        if moved_in_jump(model, index, switches, v, n, state) {
-            return false;
-        }
-        v += 1;
-    }
-    true
+    values_kept(model, index, false, switches, state)
 }
 
 // The values after a step are those before the next.
