@@ -9,13 +9,14 @@ use lib.Dec.{T, ltb, eqb, leb, ltb→lt, eqb→eq}
 use lib.ListN.{length}
 use Rattle.farkas.specs.Lists.{All, none, more}
 use Rattle.farkas.specs.Sizes.{Bytes}
+use Rattle.formats.specs.Versions.{hasPaper}
 use Rattle.formats.specs.Reading.{got}
 use Rattle.formats.specs.Model.{Model, Component, Unsafe}
 use Rattle.formats.specs.Joint.{countUp, joinAll}
 use Rattle.formats.specs.declared.Limits.{Limits}
 use Rattle.formats.specs.ModelSheet.{readModel}
 use Rattle.formats.proofs.Members.{all-in, in-map, in-count}
-use Rattle.models.specs.Index.{entry, versionIn, ownerPlace, componentPlace, modePlace, unsafePlace, modeFrom, componentFrom, componentsFrom, unsafeFrom, modelFrom}
+use Rattle.models.specs.Index.{entry, versionIn, paperIn, ownerPlace, componentPlace, modePlace, unsafePlace, modeFrom, componentFrom, componentsFrom, unsafeFrom, modelFrom}
 use Rattle.rules.specs.Opening.{ModelOpened, opens, shut, openModel}
 use Rattle.rules.proofs.ListFacts.{joined-alike}
 use Rattle.rules.proofs.Opening.{Begins, begins}
@@ -24,7 +25,7 @@ use Rattle.rules.specs.Marking.{answer, withModel}
 use Rattle.papers.specs.Opening.{openedModel, ModelOpen}
 use Rattle.papers.proofs.OpenLaws.{model-refused}
 use Rattle.writing.specs.Changed.{changed, changedComponent, changedUnsafe}
-use Rattle.writing.specs.Writing.{half, writeComponent, writeUnsafe, writeBody, writeModel}
+use Rattle.writing.specs.Writing.{half, word, writeComponent, writeUnsafe, writeFields, paperBytes, writePaper, writeBody, writeModel}
 use Rattle.writing.proofs.ReadsLaws.{Paired, paired-none, paired-more}
 use Rattle.writing.proofs.Writable.{WritableMode, WritableComponent, WritableUnsafe, Writable, modeFits}
 use Rattle.writing.proofs.RoundTrip.{written-size}
@@ -32,6 +33,7 @@ use Rattle.writing.proofs.FromSheets.{writable, all-bytes}
 use Rattle.buffers.specs.Over.{over}
 use Rattle.buffers.specs.Written.{Written}
 use Rattle.buffers.proofs.OverLaws.{over-then, over-front}
+use Rattle.buffers.proofs.WritingLaws.{left-all, left-none}
 use Rattle.fair_models.specs.FairCopy.{fairCondition, fairModel, fairCopy, copyAnswer, fairAnswer, copyOver, bufferBy, bufferAfter}
 use Rattle.fair_models.proofs.CopyMeans.{copy-short}
 use Rattle.fair_copies.specs.Copyable.{Copyable, entries, componentBytes}
@@ -97,10 +99,24 @@ copyable limits model index b o =
     let w = writable limits model (modelFrom model index) (r .end) (all-bytes model b) (r .reads) in
     record { good = o .accepted .good; short = o .accepted .short; starts = start-small model index w; asked = asked-small model index w }
 
--- The body: counts, owners, components, unsafe conditions
-pub body-parts : (model index : List ℕ) → writeBody (fairModel (modelFrom model index)) ≡ entries index 0 3 ++ (entries index 3 (entry index 0) ++ (joinAll (componentBytes model index) (countUp 0 (entry index 1)) ++ itemsBytes model index (conditionItems index)))
-unfolding writeBody fairModel changed modelFrom componentsFrom ownerPlace countUp
-body-parts model index =
+-- The paper number, by whether the version has one
+pub paper-none : (version paper : ℕ) (out : List ℕ) (at : ℕ) → hasPaper version ≡ false → Written out at (writePaper version paper) out at
+unfolding writePaper paperBytes
+paper-none version paper out at e = subst (λ (b : Bool). Written out at (paperBytes b paper) out at) (sym e) (left-none (left-all out at []))
+
+pub paper-put : (version paper : ℕ) {out : List ℕ} {at : ℕ} {after : List ℕ} {next : ℕ} → hasPaper version ≡ true → Written out at (word paper) after next → Written out at (writePaper version paper) after next
+unfolding writePaper paperBytes
+paper-put version paper {out} {at} {after} {next} e w = subst (λ (b : Bool). Written out at (paperBytes b paper) after next) (sym e) w
+
+-- The body: its paper number, then its fields
+pub body-parts : (model index : List ℕ) → writeBody (fairModel (modelFrom model index)) ≡ writePaper (versionIn index) (paperIn index) ++ writeFields (fairModel (modelFrom model index))
+unfolding writeBody fairModel changed modelFrom
+body-parts model index = refl
+
+-- the fields: counts, owners, components, unsafe conditions
+pub fields-parts : (model index : List ℕ) → writeFields (fairModel (modelFrom model index)) ≡ entries index 0 3 ++ (entries index 3 (entry index 0) ++ (joinAll (componentBytes model index) (countUp 0 (entry index 1)) ++ itemsBytes model index (conditionItems index)))
+unfolding writeFields fairModel changed modelFrom componentsFrom ownerPlace countUp
+fields-parts model index =
     let v = versionIn index in
     let n = entry index 0 in
     let component : ℕ → Component = λ k. componentFrom model v n index (componentPlace k) in

@@ -5,7 +5,9 @@ use crate::parts::put_entries;
 use crate::parts::put_items;
 use buffers::put_byte;
 use buffers::put_half;
+use buffers::put_word;
 use fields::versions::HEADER_LENGTH;
+use fields::versions::has_paper;
 use formats::Limits;
 use models::layout::FIRST_OWNER;
 use models::layout::INDEX_LENGTH;
@@ -13,6 +15,7 @@ use models::layout::Index;
 use models::layout::VARIABLES_AT;
 use papers::opening::number_at;
 use papers::opening::open_model;
+use papers::opening::paper_of;
 use papers::opening::version_of;
 use rules::Answer;
 ghost use mathlib.Core.Bool.{cond};
@@ -21,8 +24,8 @@ ghost use Prim.Native.Nat.{_+_, _^_, _≤_, _<_};
 ghost use lib.Dec.{leb};
 ghost use lib.ListN.{length};
 ghost use Rattle.buffers.specs.Written.{Written};
-ghost use Rattle.models.specs.Index.{modelFrom};
-ghost use Rattle.writing.specs.Writing.{writeBody};
+ghost use Rattle.models.specs.Index.{modelFrom, versionIn, paperIn};
+ghost use Rattle.writing.specs.Writing.{writePaper, writeFields, writeBody};
 ghost use Rattle.fair_models.specs.FairCopy.{fairModel, fairCopy, copyAnswer, copyOver, fairAnswer, bufferAfter};
 ghost use Rattle.fair_copies.specs.Copyable.{Copyable, Room};
 
@@ -37,8 +40,8 @@ const KEPT_LENGTH: usize = 136;
 
 const MOST_ROWS: usize = 8;
 
-// The body of the copy. The place after it.
-fn put_body(
+// The fields of the copy's body behind its paper number. The place after them.
+fn put_fields(
     out: &mut [u8],
     at: usize,
     model: &[u8],
@@ -48,7 +51,7 @@ fn put_body(
 ) -> usize
     requires { ⌜ Copyable (now model) (now index) ⌝ }
     requires { ⌜ (at < 2 ^ 51) × Room (now kept) (now sorted) ⌝ }
-    ensures { λ r. ⌜ Written (now (out .entry)) at (writeBody (fairModel (modelFrom (now (model .entry)) (now (index .entry))))) (now (out .exit)) r ⌝ }
+    ensures { λ r. ⌜ Written (now (out .entry)) at (writeFields (fairModel (modelFrom (now (model .entry)) (now (index .entry))))) (now (out .exit)) r ⌝ }
     ensures { λ r. ⌜ r ≤ at + 472059 ⌝ }
 {
     let counts = put_entries(out, at, index, VARIABLES_AT, COUNTS);
@@ -69,6 +72,36 @@ fn put_body(
         kept,
         sorted,
     )
+}
+
+// The paper number, where the model's version has one. The place after it.
+fn put_paper(out: &mut [u8], at: usize, index: &Index) -> usize
+    requires { ⌜ at < 2 ^ 50 ⌝ }
+    ensures { λ r. ⌜ Written (now (out .entry)) at (writePaper (versionIn (now (index .entry))) (paperIn (now (index .entry)))) (now (out .exit)) r ⌝ }
+    ensures { λ r. ⌜ r ≤ at + 4 ⌝ }
+{
+    if !has_paper(version_of(index)) {
+        return at;
+    }
+    put_word(out, at, paper_of(index))
+}
+
+// The body of the copy. The place after it.
+fn put_body(
+    out: &mut [u8],
+    at: usize,
+    model: &[u8],
+    index: &Index,
+    kept: &mut [u32],
+    sorted: &mut [u8],
+) -> usize
+    requires { ⌜ Copyable (now model) (now index) ⌝ }
+    requires { ⌜ (at < 2 ^ 50) × Room (now kept) (now sorted) ⌝ }
+    ensures { λ r. ⌜ Written (now (out .entry)) at (writeBody (fairModel (modelFrom (now (model .entry)) (now (index .entry))))) (now (out .exit)) r ⌝ }
+    ensures { λ r. ⌜ r ≤ at + 472063 ⌝ }
+{
+    let fields = put_paper(out, at, index);
+    put_fields(out, fields, model, index, kept, sorted)
 }
 
 // How long the copy is: its body on an empty buffer, after the header.
@@ -107,7 +140,7 @@ fn put_copy(
 ) -> usize
     requires { ⌜ Copyable (now model) (now index) × Room (now kept) (now sorted) ⌝ }
     ensures { λ r. ⌜ Written (now (out .entry)) 0 (fairCopy (modelFrom (now (model .entry)) (now (index .entry)))) (now (out .exit)) r ⌝ }
-    ensures { λ r. ⌜ r ≤ 472063 ⌝ }
+    ensures { λ r. ⌜ r ≤ 472067 ⌝ }
 {
     let end = put_body(out, HEADER_LENGTH, model, index, kept, sorted);
     put_half(out, 0, (end - 2) as u32);

@@ -1,12 +1,14 @@
 // A sheet's header, tested before its body: its length, its version, its kind. And its end.
 use crate::Field;
 use crate::Next;
+use crate::fields::word;
 use crate::versions::HEADER_LENGTH;
+use crate::versions::has_paper;
 use crate::versions::kind_fits;
 use crate::versions::version_fits;
 ghost use mathlib.Core.Path.{_≡_};
 ghost use Rattle.formats.specs.Reading as reading;
-ghost use Rattle.formats.specs.Reading.{lengthRight};
+ghost use Rattle.formats.specs.Reading.{lengthRight, readPaper};
 ghost use Rattle.fields.specs.Answers.{gotField, gotAs};
 
 // Whether the sheet has from 4 to 32,768 bytes, and its first two say how many follow them.
@@ -38,6 +40,16 @@ pub fn header(s: &[u8], kind: u32) -> Field
         return Field::Refused(3, 3);
     }
     Field::Value(version, HEADER_LENGTH)
+}
+
+// The paper number of a sheet's body, and the place after it: 0 where the version has none.
+pub fn read_paper(s: &[u8], at: usize, version: u32) -> Field
+    ensures { λ r. ⌜ gotField r ≡ readPaper version (now (s .entry)) at ⌝ }
+{
+    if has_paper(version) {
+        return word(s, at);
+    }
+    Field::Value(0, at)
 }
 
 // The end of the sheet: no byte is left at this place.

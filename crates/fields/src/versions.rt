@@ -2,13 +2,13 @@
 // row is strict, and whether a variable that no row mentions keeps its value.
 ghost use mathlib.Core.Path.{_≡_};
 ghost use Prim.Native.Nat.{_*_, _≤_, _<_};
-ghost use Rattle.formats.specs.Versions.{versionFits, kindFits, rowBytes, strictAt, keepsBlanks};
+ghost use Rattle.formats.specs.Versions.{versionFits, pairOf, hasPaper, kindFits, rowBytes, strictAt, keepsBlanks};
 
 // So many bytes stand before a sheet's body: two of its length, one of its version, one of its kind.
 pub const HEADER_LENGTH: usize = 4;
 
 // The newest version.
-const NEWEST: u32 = 2;
+const NEWEST: u32 = 3;
 
 // Whether a sheet of this kind may have this version: a model any, another sheet any but 2.
 pub fn version_fits(kind: u32, version: u32) -> bool
@@ -24,6 +24,20 @@ pub fn version_fits(kind: u32, version: u32) -> bool
         return true;
     }
     version != 2
+}
+
+// The version of the second sheet of a model.
+pub fn pair_of(version: u32) -> u32
+    ensures { λ r. ⌜ r ≡ pairOf version ⌝ }
+{
+    if version <= 2 { 1 } else { version }
+}
+
+// Whether a sheet's body begins with a paper number.
+pub fn has_paper(version: u32) -> bool
+    ensures { λ r. ⌜ r ≡ hasPaper version ⌝ }
+{
+    3 <= version
 }
 
 // Whether a sheet may have this kind where one of the first kind is wanted.

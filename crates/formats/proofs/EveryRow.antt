@@ -103,9 +103,9 @@ module _ (s : List ℕ) (P : SheetRow → Type 0) (row : (version n : ℕ) → G
   unfolding readUnsafe
   unsafe-rows version n components = from-bind from-any (λ modes u. from-bind (condition-rows 8 version n) (λ rows w. from-give _ w))
 
-  pub body-rows : (version : ℕ) → GivesFrom s (ModelRows P) (readModelBody version)
+  pub body-rows : (version paper : ℕ) → GivesFrom s (ModelRows P) (readModelBody version paper)
   unfolding readModelBody
-  body-rows version =
+  body-rows version paper =
       from-bind from-any
       (λ n u.
       from-bind from-any
@@ -124,7 +124,9 @@ module _ (s : List ℕ) (P : SheetRow → Type 0) (row : (version n : ℕ) → G
       from-bind from-any
       (λ version u.
       from-bind from-any
-      (λ place u. from-bind (body-rows version) (λ m w. from-then finished (from-then _ (from-give m w)))))
+      (λ paper u.
+      from-bind from-any
+      (λ place u. from-bind (body-rows version paper) (λ m w. from-then finished (from-then _ (from-give m w))))))
       .holds 0 m next (sym (in-a-chain limits s) ∙ e)
 
   -- the regions of a certificate

@@ -16,3 +16,5 @@ pub mod EveryRow
 pub mod RowPlaces
 pub mod PlainRows
 pub mod Placed
+pub mod Onward
+pub mod Header

@@ -8,7 +8,7 @@ use borrow.Author.Tests.{le-leb, leb-true}
 use native.Mathlib.Omega.{arith}
 use lib.Dec.{T, leb, leb→le}
 use lib.ListN.{length}
-use Rattle.formats.specs.Reading.{Got, got, refused, Reader, andThen, _>>=_, _>>_, give, here, expect, header, finished}
+use Rattle.formats.specs.Reading.{Got, got, refused, Reader, andThen, _>>=_, _>>_, give, here, expect, header, readPaper, finished}
 use Rattle.formats.specs.Model.{Component, Model, readModelBody}
 use Rattle.formats.specs.Locations.{locationCount}
 use Rattle.formats.specs.Joint.{joints}
@@ -60,7 +60,11 @@ bind-same {A} r f h s p same = go (r s p)
 -- a model sheet in one chain
 abbrev pub chain : Limits → Reader Model
 chain limits =
-    header 1 >>= λ version. here >>= λ place. readModelBody version >>= λ m. finished >> (limitsTest limits (m .components) place >> give m)
+    header 1
+    >>= λ version. readPaper version
+    >>= λ paper. here
+    >>= λ place. readModelBody version paper
+    >>= λ m. finished >> (limitsTest limits (m .components) place >> give m)
 
 pub in-a-chain : (limits : Limits) (s : List ℕ) → readModel limits s ≡ chain limits s 0
 unfolding readModel readWhole
@@ -68,12 +72,15 @@ in-a-chain limits s =
     let rest : Whole → Reader Model = λ whole. limitsTest limits (whole .model .components) (whole .place) >> give (whole .model) in
     bind-bind (header 1) _ rest s 0
     ∙ bind-same (header 1) _ _ s 0
-    (λ version k.
+    (λ version l.
+    bind-bind (readPaper version) _ rest s l
+    ∙ bind-same (readPaper version) _ _ s l
+    (λ paper k.
     bind-bind here _ rest s k
     ∙ bind-same here _ _ s k
     (λ place j.
-    bind-bind (readModelBody version) _ rest s j
-    ∙ bind-same (readModelBody version) _ _ s j (λ m i. then-give finished (record { model = m; place = place }) rest s i)))
+    bind-bind (readModelBody version paper) _ rest s j
+    ∙ bind-same (readModelBody version paper) _ _ s j (λ m i. then-give finished (record { model = m; place = place }) rest s i))))
 
 -- the two tests
 tested-so : (b : Bool) (number place : ℕ) (s : List ℕ) (p : ℕ) {u : Unit {0}} {next : ℕ} → expect b number place s p ≡ got u next → b ≡ true

@@ -8,55 +8,72 @@ use native.Mathlib.Omega.{arith}
 use lib.Dec.{leb}
 use lib.ListN.{length}
 use borrow.Author.Tests.{leb-true}
-use Rattle.formats.specs.Reading.{Got, got, refused, Reader, andThen, _>>=_, _>>_, give, here, expect, field, u8, u16, u32, s32, passing, must, within, below, many, each, lengthRight, sized, header, finished, withinSigned}
+use Rattle.formats.specs.Versions.{versionFits, kindFits, hasPaper}
+use Rattle.formats.specs.Reading.{Got, got, refused, Reader, andThen, _>>=_, _>>_, give, here, expect, field, u8, u16, u32, s32, passing, must, within, below, many, each, lengthRight, sized, header, paperIf, readPaper, finished, withinSigned}
 use Rattle.formats.specs.Rows.{readStrict, readRow, readCondition}
 use Rattle.formats.specs.Model.{Component, Model, readMode, readSwitch, readComponent, readUnsafe, readModelBody}
 use Rattle.formats.specs.declared.Limits.{Limits}
 use Rattle.formats.specs.ModelSheet.{limitsTest, readModel}
 use Rattle.formats.proofs.ModelSheet.{in-a-chain}
+use Rattle.formats.proofs.Gives.{got-next, passes, tested}
+use Rattle.formats.proofs.FieldLaws.{field-read}
 use Rattle.formats.specs.Certificate.{readRegions, readEntry, readEntries, readProof}
 use Rattle.formats.specs.RunSheet.{readValues, readOpening, readFlow, readJump, readStepOf, readStep}
 
--- what a reading from p on comes to
-abbrev pub Fine : {A : Type 0} → List ℕ → ℕ → Got A → Type 0
-Fine s p (got a next) = (p ≤ next) × (next ≤ length s)
-Fine s p (refused number place) = (1 ≤ number) × (number ≤ 9) × (place ≤ length s)
+-- what a reading from p on comes to, where its refusals have numbers up to one
+abbrev pub FineTo : ℕ → {A : Type 0} → List ℕ → ℕ → Got A → Type 0
+FineTo most s p (got a next) = (p ≤ next) × (next ≤ length s)
+FineTo most s p (refused number place) = (1 ≤ number) × (number ≤ most) × (place ≤ length s)
 
 -- a reading from any place of a sheet, no earlier than some place
-pub record Placed {A : Type 0} (least : ℕ) (r : Reader A) : Type 0 where
-  pub fine : (s : List ℕ) (p : ℕ) → least ≤ p → p ≤ length s → Fine s p (r s p)
+pub record PlacedTo {A : Type 0} (most least : ℕ) (r : Reader A) : Type 0 where
+  pub fine : (s : List ℕ) (p : ℕ) → least ≤ p → p ≤ length s → FineTo most s p (r s p)
 
-later : {A : Type 0} (s : List ℕ) (p q : ℕ) (g : Got A) → p ≤ q → Fine s q g → Fine s p g
-later s p q (got a next) h w = (omega arith, w .1)
-later s p q (refused number place) h w = w
+-- the numbers of fields and of a model's limits: 1 to 9
+abbrev pub Fine : {A : Type 0} → List ℕ → ℕ → Got A → Type 0
+Fine s p g = FineTo 9 s p g
 
-then-fine : {A B : Type 0} (least : ℕ) (s : List ℕ) (p : ℕ) (g : Got A) (f : A → Reader B) → least ≤ p → Fine s p g → ((a : A) → Placed least (f a)) → Fine s p (andThen g f s)
+abbrev pub Placed : {A : Type 0} → ℕ → Reader A → Type 0
+Placed least r = PlacedTo 9 least r
+
+pub fine-up : {A : Type 0} (most more : ℕ) (s : List ℕ) (p : ℕ) (g : Got A) → most ≤ more → FineTo most s p g → FineTo more s p g
+fine-up most more s p (got a next) h w = w
+fine-up most more s p (refused number place) h w = (w .0, omega (arith, w .1), w .2)
+
+pub placed-up : {A : Type 0} {most more least : ℕ} {r : Reader A} → most ≤ more → PlacedTo most least r → PlacedTo more least r
+placed-up {most = most} {more = more} {r = r} h g = record { fine = λ s p l k. fine-up most more s p (r s p) h (g .fine s p l k) }
+
+later : {A : Type 0} (most : ℕ) (s : List ℕ) (p q : ℕ) (g : Got A) → p ≤ q → FineTo most s q g → FineTo most s p g
+later most s p q (got a next) h w = (omega arith, w .1)
+later most s p q (refused number place) h w = w
+
+then-fine : {A B : Type 0} (most least : ℕ) (s : List ℕ) (p : ℕ) (g : Got A) (f : A → Reader B) → least ≤ p → FineTo most s p g → ((a : A) → PlacedTo most least (f a)) → FineTo most s p (andThen g f s)
 unfolding andThen
-then-fine least s p (got a next) f h w k = later s p next (f a s next) (w .0) (k a .fine s next (omega arith) (w .1))
-then-fine least s p (refused number place) f h w k = w
+then-fine most least s p (got a next) f h w k = later most s p next (f a s next) (w .0) (k a .fine s next (omega arith) (w .1))
+then-fine most least s p (refused number place) f h w k = w
 
-pub placed-bind : {A B : Type 0} {least : ℕ} {r : Reader A} {f : A → Reader B} → Placed least r → ((a : A) → Placed least (f a)) → Placed least (r >>= f)
+pub placed-bind : {A B : Type 0} {most least : ℕ} {r : Reader A} {f : A → Reader B} → PlacedTo most least r → ((a : A) → PlacedTo most least (f a)) → PlacedTo most least (r >>= f)
 unfolding _>>=_
-placed-bind {least = least} {r = r} {f = f} g k = record { fine = λ s p h l. then-fine least s p (r s p) f h (g .fine s p h l) k }
+placed-bind {most = most} {least = least} {r = r} {f = f} g k = record { fine = λ s p h l. then-fine most least s p (r s p) f h (g .fine s p h l) k }
 
-pub placed-then : {A B : Type 0} {least : ℕ} {r : Reader A} {t : Reader B} → Placed least r → Placed least t → Placed least (r >> t)
+pub placed-then : {A B : Type 0} {most least : ℕ} {r : Reader A} {t : Reader B} → PlacedTo most least r → PlacedTo most least t → PlacedTo most least (r >> t)
 unfolding _>>_
-placed-then {least = least} {r = r} {t = t} g k = record { fine = λ s p h l. then-fine least s p (r s p) (λ a. t) h (g .fine s p h l) (λ a. k) }
+placed-then {most = most} {least = least} {r = r} {t = t} g k = record { fine = λ s p h l. then-fine most least s p (r s p) (λ a. t) h (g .fine s p h l) (λ a. k) }
 
 -- the place that is read here is a place no earlier for what follows
 pub placed-here : {B : Type 0} {least : ℕ} {f : ℕ → Reader B} → ((place : ℕ) → Placed place (f place)) → Placed least (here >>= f)
 unfolding _>>=_ here andThen
 placed-here k = record { fine = λ s p h l. k p .fine s p (omega arith) l }
 
-pub placed-give : {A : Type 0} {least : ℕ} (a : A) → Placed least (give a)
+pub placed-give : {A : Type 0} {most least : ℕ} (a : A) → PlacedTo most least (give a)
 unfolding give
 placed-give a = record { fine = λ s p h l. (omega arith, l) }
 
-pub placed-expect : {least : ℕ} (ok : Bool) (number place : ℕ) → 1 ≤ number → number ≤ 9 → place ≤ least → Placed least (expect ok number place)
+pub placed-expect : {most least : ℕ} (ok : Bool) (number place : ℕ) → 1 ≤ number → number ≤ most → place ≤ least → PlacedTo most least (expect ok number place)
 unfolding expect
-placed-expect {least} ok number place i j k = record { fine = λ s p h l. go ok s p h l }
+placed-expect {most} {least} ok number place i j k = record { fine = λ s p h l. go ok s p h l }
   where
-    go : (b : Bool) (s : List ℕ) (p : ℕ) → least ≤ p → p ≤ length s → Fine {A = Unit {0}} s p (cond b (got tt p) (refused number place))
+    go : (b : Bool) (s : List ℕ) (p : ℕ) → least ≤ p → p ≤ length s → FineTo most {A = Unit {0}} s p (cond b (got tt p) (refused number place))
     go true s p h l = (omega arith, l)
     go false s p h l = (i, j, omega arith)
 
@@ -68,18 +85,18 @@ placed-field {least} size = record { fine = λ s p h l. go (leb (p + size) (leng
     go true s p v e l = (omega arith, leb-true (p + size) (length s) e)
     go false s p v e l = (omega arith, omega arith, l)
 
-passing-fine : {A : Type 0} (test : A → Bool) (number : ℕ) (s : List ℕ) (p : ℕ) (g : Got A) → 1 ≤ number → number ≤ 9 → p ≤ length s → Fine s p g → Fine s p (passing test number p g)
+passing-fine : {A : Type 0} (most : ℕ) (test : A → Bool) (number : ℕ) (s : List ℕ) (p : ℕ) (g : Got A) → 1 ≤ number → number ≤ most → p ≤ length s → FineTo most s p g → FineTo most s p (passing test number p g)
 unfolding passing
-passing-fine test number s p (got a next) i j l w = go (test a)
+passing-fine most test number s p (got a next) i j l w = go (test a)
   where
-    go : (b : Bool) → Fine s p (cond b (got a next) (refused number p))
+    go : (b : Bool) → FineTo most s p (cond b (got a next) (refused number p))
     go true = w
     go false = (i, j, l)
-passing-fine test number s p (refused n place) i j l w = w
+passing-fine most test number s p (refused n place) i j l w = w
 
-pub placed-must : {A : Type 0} {least : ℕ} {r : Reader A} (test : A → Bool) (number : ℕ) → 1 ≤ number → number ≤ 9 → Placed least r → Placed least (must test number r)
+pub placed-must : {A : Type 0} {most least : ℕ} {r : Reader A} (test : A → Bool) (number : ℕ) → 1 ≤ number → number ≤ most → PlacedTo most least r → PlacedTo most least (must test number r)
 unfolding must
-placed-must {r = r} test number i j g = record { fine = λ s p h l. passing-fine test number s p (r s p) i j l (g .fine s p h l) }
+placed-must {most = most} {r = r} test number i j g = record { fine = λ s p h l. passing-fine most test number s p (r s p) i j l (g .fine s p h l) }
 
 pub placed-within : {least : ℕ} (low high : ℕ) {r : Reader ℕ} → Placed least r → Placed least (within low high r)
 unfolding within
@@ -130,6 +147,27 @@ placed-header kind =
     (placed-then placed-u16
     (placed-bind (placed-must _ 2 (omega arith) (omega arith) placed-u8)
     (λ version. placed-then (placed-must _ 3 (omega arith) (omega arith) placed-u8) (placed-give version))))
+
+-- what follows a header begins after its four bytes
+header-ends : (kind : ℕ) (s : List ℕ) (p v next : ℕ) → header kind s p ≡ got v next → 4 ≤ next
+unfolding header _>>=_ _>>_ u16 u8 must give
+header-ends kind s p v next e =
+    let a = passes (sized s p) _ s v next e in
+    let b = passes (field 2 s (a .place)) _ s v next (a .second) in
+    let c = passes (passing (versionFits kind) 2 (b .place) (field 1 s (b .place))) _ s v next (b .second) in
+    let d = passes (passing (kindFits kind) 3 (c .place) (field 1 s (c .place))) _ s v next (c .second) in
+    let i = field-read 2 s (a .place) (b .value) (b .place) (b .first) .after in
+    let j = field-read 1 s (b .place) (c .value) (c .place) (tested (versionFits kind) 2 (b .place) (field 1 s (b .place)) (c .value) (c .place) (c .first) .read) .after in
+    let k = field-read 1 s (c .place) (d .value) (d .place) (tested (kindFits kind) 3 (c .place) (field 1 s (c .place)) (d .value) (d .place) (d .first) .read) .after in
+    omega (arith, i, j, k, got-next (d .second))
+
+pub placed-headed : {B : Type 0} {most least : ℕ} (kind : ℕ) {f : ℕ → Reader B} → 9 ≤ most → ((version : ℕ) → PlacedTo most 4 (f version)) → PlacedTo most least (header kind >>= f)
+unfolding _>>=_ andThen
+placed-headed {B} {most} {least} kind {f} up k = record { fine = λ s p h l. go s p (header kind s p) refl (placed-up up (placed-header {least = least} kind) .fine s p h l) }
+  where
+    go : (s : List ℕ) (p : ℕ) (g : Got ℕ) → header kind s p ≡ g → FineTo most s p g → FineTo most s p (andThen g f s)
+    go s p (got v next) e w = later most s p next (f v s next) (w .0) (k v .fine s next (header-ends kind s p v next e) (w .1))
+    go s p (refused number place) e w = w
 
 pub placed-finished : {least : ℕ} → Placed least finished
 unfolding finished
@@ -187,9 +225,17 @@ placed-unsafe version n components =
     placed-bind (placed-each _ components (λ c. placed-must _ 5 (omega arith) (omega arith) placed-u8))
     (λ modes. placed-bind (placed-condition 8 version n) (λ rows. placed-give _))
 
-placed-body : {least : ℕ} (version : ℕ) → Placed least (readModelBody version)
+pub placed-paper : {least : ℕ} (version : ℕ) → Placed least (readPaper version)
+unfolding readPaper paperIf
+placed-paper version = go (hasPaper version)
+  where
+    go : {least : ℕ} (b : Bool) → Placed least (paperIf b)
+    go true = placed-u32
+    go false = placed-give 0
+
+placed-body : {least : ℕ} (version paper : ℕ) → Placed least (readModelBody version paper)
 unfolding readModelBody
-placed-body version =
+placed-body version paper =
     placed-bind (placed-within 1 8 placed-u8)
     (λ n.
     placed-bind (placed-within 1 4 placed-u8)
@@ -208,14 +254,16 @@ model-fine limits s =
     subst (Fine s 0) (sym (in-a-chain limits s))
     (placed-bind {least = 0} (placed-header 1)
     (λ version.
+    placed-bind (placed-paper version)
+    (λ paper.
     placed-here
     (λ place.
-    placed-bind (placed-body version)
+    placed-bind (placed-body version paper)
     (λ m.
     placed-then placed-finished
     (placed-then
     (placed-then (placed-expect _ 7 place (omega arith) (omega arith) (omega arith)) (placed-expect _ 8 place (omega arith) (omega arith) (omega arith)))
-    (placed-give m)))))
+    (placed-give m))))))
     .fine s 0 (omega arith) (omega arith))
 
 -- a certificate's fields

@@ -76,7 +76,7 @@ ComponentWithin s = ComponentRows (EndsWithin s)
 abbrev pub ModelWithin : List ℕ → Model → Type 0
 ModelWithin s = ModelRows (EndsWithin s)
 
-pub body-within : (s : List ℕ) (version : ℕ) → GivesFrom s (ModelWithin s) (readModelBody version)
+pub body-within : (s : List ℕ) (version paper : ℕ) → GivesFrom s (ModelWithin s) (readModelBody version paper)
 body-within s = body-rows s (EndsWithin s) (row-within s)
 
 pub rows-within : (limits : Limits) (s : List ℕ) (m : Model) (next : ℕ) → readModel limits s ≡ got m next → ModelWithin s m

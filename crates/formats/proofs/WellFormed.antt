@@ -1,12 +1,12 @@
 -- What holds of every model and every region that a sheet gives: rows of the right width, numbers in their ranges. Assumes nothing.
 use mathlib.Core.Path.{_≡_, refl, sym, ap, _∙_, subst}
-use mathlib.Core.Bool.{Bool, false, cond}
+use mathlib.Core.Bool.{Bool, true, false, cond}
 use mathlib.Core.List.{List, [], _∷_}
 use Prim.Native.Nat.{ℕ, zero, suc, _*_, _-_, _^_, _≤_, _<_}
 use lib.Dec.{T, eqb, eqb→eq}
 use lib.ListN.{length}
-use Rattle.formats.specs.Versions.{versionFits, kindFits, strictAt}
-use Rattle.formats.specs.Reading.{got, sized, header, finished, u8, u16, u32, must}
+use Rattle.formats.specs.Versions.{versionFits, kindFits, hasPaper, strictAt}
+use Rattle.formats.specs.Reading.{got, sized, header, paperIf, readPaper, finished, u8, u16, u32, must}
 use Rattle.formats.specs.Rows.{SheetRow, Condition, readStrict, readRow, readCondition}
 use Rattle.formats.specs.Model.{Mode, Switch, Component, Model, readMode, readSwitch, readComponent, readUnsafe, readModelBody}
 use Rattle.formats.specs.Locations.{locationCount}
@@ -145,9 +145,9 @@ unfolding readUnsafe
 unsafe-gives version n components =
     gives-bind gives-any (λ modes u. gives-bind (condition-gives 8 version n) (λ rows w. gives-give _ (w .1)))
 
-pub body-gives : (version : ℕ) → T (versionFits 1 version) → Gives WellFormed (readModelBody version)
+pub body-gives : (version paper : ℕ) → T (versionFits 1 version) → Gives WellFormed (readModelBody version paper)
 unfolding readModelBody
-body-gives version fits =
+body-gives version paper fits =
     gives-bind (gives-within 1 8 u8)
     (λ n i.
     gives-bind (gives-within 1 4 u8)
@@ -174,6 +174,19 @@ body-gives version fits =
       conditions = subst (λ (x : ℕ). x ≤ 16) (sym (u .0)) (k .1);
     })))))))
 
+-- the version and the paper number are those that were read before it
+pub body-headed : (version paper : ℕ) → Gives (λ m. (m .version ≡ version) × (m .paper ≡ paper)) (readModelBody version paper)
+unfolding readModelBody
+body-headed version paper =
+    gives-bind gives-any
+    (λ n u.
+    gives-bind gives-any
+    (λ c u.
+    gives-bind gives-any
+    (λ conditions u.
+    gives-bind gives-any
+    (λ owners u. gives-bind gives-any (λ components u. gives-bind gives-any (λ unsafe u. gives-give _ (refl, refl)))))))
+
 -- a header gives a version that sheets of its kind may have
 pub header-gives : (kind : ℕ) → Gives (λ version. T (versionFits kind version)) (header kind)
 unfolding header
@@ -183,11 +196,22 @@ header-gives kind =
     (gives-bind (gives-must (versionFits kind) 2 (gives-any {r = u8}))
     (λ version u. gives-then (must (kindFits kind) 3 u8) (gives-give version (u .0)))))
 
+-- where a version has no paper number, it counts as 0
+pub paper-gives : (version : ℕ) → Gives (λ paper. hasPaper version ≡ false → paper ≡ 0) (readPaper version)
+unfolding readPaper paperIf
+paper-gives version = go (hasPaper version)
+  where
+    go : (b : Bool) → Gives (λ paper. b ≡ false → paper ≡ 0) (paperIf b)
+    go true = gives-weaken (λ paper u e. absurd (subst T e tt)) gives-any
+    go false = gives-give 0 (λ e. refl)
+
 -- a model that a sheet gives is well formed
 pub well-formed : (limits : Limits) (s : List ℕ) (m : Model) (next : ℕ) → readModel limits s ≡ got m next → WellFormed m
 well-formed limits s m next e =
     gives-bind (header-gives 1)
-    (λ version u. gives-bind gives-any (λ place v. gives-bind (body-gives version u) (λ m w. gives-then finished (gives-then _ (gives-give m w)))))
+    (λ version u.
+    gives-bind gives-any
+    (λ paper n. gives-bind gives-any (λ place v. gives-bind (body-gives version paper u) (λ m w. gives-then finished (gives-then _ (gives-give m w))))))
     .holds s 0 m next (sym (in-a-chain limits s) ∙ e)
 
 -- the regions of a certificate: one per location, rows as wide as the model has variables

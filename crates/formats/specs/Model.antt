@@ -33,6 +33,7 @@ pub record Unsafe : Type 0 where
 
 pub record Model : Type 0 where
   pub version : ℕ
+  pub paper : ℕ
   pub variables : ℕ
   pub owners : List ℕ
   pub components : List Component
@@ -76,14 +77,14 @@ readUnsafe version n components = do
   rows ← readCondition version 8 n
   give (record { modes = modes; rows = rows })
 
--- "u8 variables n, 1..8; u8 components c, 1..4; u8 unsafe conditions, 0..16. n bytes: each variable's owner, 0..c−1. Per component ..
+-- after the version and the paper number: "u8 variables n, 1..8; u8 components c, 1..4; u8 unsafe conditions, 0..16. n bytes: each variable's owner, 0..c−1. Per component ..
 -- Per unsafe condition .."
-unfoldable pub readModelBody : ℕ → Reader Model
-readModelBody version = do
+unfoldable pub readModelBody : ℕ → ℕ → Reader Model
+readModelBody version paper = do
   n ← within 1 8 u8
   c ← within 1 4 u8
   conditions ← within 0 16 u8
   owners ← many n (below c u8)
   components ← many c (readComponent version n)
   unsafe ← many conditions (readUnsafe version n components)
-  give (record { version = version; variables = n; owners = owners; components = components; unsafe = unsafe })
+  give (record { version = version; paper = paper; variables = n; owners = owners; components = components; unsafe = unsafe })

@@ -6,7 +6,7 @@ use Prim.Native.Nat.{ℕ, _≤_}
 use lib.Dec.{leb}
 use lib.ListN.{length}
 use Rattle.formats.specs.declared.Limits.{Limits}
-use Rattle.formats.specs.Reading.{Got, Reader, _>>=_, _>>_, give, here, expect, header, finished}
+use Rattle.formats.specs.Reading.{Got, Reader, _>>=_, _>>_, give, here, expect, header, readPaper, finished}
 use Rattle.formats.specs.Model.{Component, Model, readModelBody}
 use Rattle.formats.specs.Locations.{locationCount}
 use Rattle.formats.specs.Joint.{joints}
@@ -35,8 +35,9 @@ pub record Whole : Type 0 where
 unfoldable pub readWhole : Reader Whole
 readWhole = do
   version ← header 1
+  paper ← readPaper version
   place ← here
-  m ← readModelBody version
+  m ← readModelBody version paper
   finished
   give (record { model = m; place = place })
 

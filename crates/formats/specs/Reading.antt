@@ -1,13 +1,13 @@
 -- How a sheet is read (01, Sheet, and the order of 01's table): fields left to right, each a value and the next place, or a refusal,
 -- a number and a place. A sheet is its list of bytes. Assumes nothing.
-use mathlib.Core.Bool.{Bool, cond, _&&_}
+use mathlib.Core.Bool.{Bool, true, false, cond, _&&_}
 use mathlib.Core.List.{List, [], _∷_}
 use Prim.Native.Nat.{ℕ, zero, suc, _+_}
 use lib.Dec.{leb, ltb, eqb}
 use lib.IntN.{ℤ}
 use lib.ListN.{length, take, drop}
 use lib.Signed.{leZ}
-use Rattle.formats.specs.Versions.{versionFits, kindFits}
+use Rattle.formats.specs.Versions.{versionFits, kindFits, hasPaper}
 -- "all big-endian": the number that bytes give; "s32 is two's complement": a number as a signed one
 unfoldable pub use Rattle.farkas.specs.Words.{bigEndian, signed}
 
@@ -99,6 +99,14 @@ header kind = do
   version ← must (versionFits kind) 2 u8
   must (kindFits kind) 3 u8
   give version
+
+-- "begin their body with a u32 paper number" (02, order 7); where a version has none, nothing is read, and it counts as 0
+unfoldable pub paperIf : Bool → Reader ℕ
+paperIf true = u32
+paperIf false = give 0
+
+unfoldable pub readPaper : ℕ → Reader ℕ
+readPaper version = paperIf (hasPaper version)
 
 -- 4, "bytes left": "that of bytes left the first of them"
 unfoldable pub finished : Reader (Unit {0})

@@ -10,7 +10,7 @@ use lib.ListN.{length, take}
 use Rattle.fields.specs.declared.Next.{Next}
 use Rattle.fields.specs.declared.Next.the-variants as next
 use Rattle.formats.specs.Versions.{versionFits, kindFits}
-use Rattle.formats.specs.Reading.{Got, got, refused, Reader, andThen, _>>=_, _>>_, give, here, expect, bigEndian, u8, u16, must, lengthRight, sized, header, finished}
+use Rattle.formats.specs.Reading.{Got, got, refused, Reader, andThen, _>>=_, _>>_, give, here, expect, bigEndian, u8, u16, must, lengthRight, sized, header, readPaper, finished}
 use Rattle.formats.specs.Model.{Component, Model, readModelBody}
 use Rattle.formats.specs.Locations.{locationCount}
 use Rattle.formats.specs.Joint.{joints}
@@ -19,19 +19,21 @@ use Rattle.formats.specs.ModelSheet.{limitsTest, readModel}
 use Rattle.formats.proofs.ModelSheet.{in-a-chain}
 use Rattle.models.specs.Index.{modelFrom, GoodIndex}
 use Rattle.fields.specs.Answers.{gotAs}
+use Rattle.model_sheets.specs.Opening.{Opening, readOpening}
 use Rattle.formats.proofs.Gives.{passes, tested, got-value, bind-got, then-got, and-left, and-right}
 use Rattle.fields.proofs.Skipping.{bind-refused}
+use Rattle.fields.proofs.ChainLaws.{bind-assoc, bind-same, give-bind}
 use Rattle.formats.proofs.WellFormed.{body-gives}
 use Rattle.formats.proofs.RowPlaces.{body-within}
 use Rattle.models.proofs.GoodIndexLaws.{body-few, good-index}
 
 -- a body that was read into an index makes it a good one
-pub body-good : (version : ℕ) (s index : List ℕ) (at end : ℕ) → T (versionFits 1 version) → readModelBody version s at ≡ got (modelFrom s index) end → GoodIndex s index
-body-good version s index at end fits e =
+pub body-good : (version paper : ℕ) (s index : List ℕ) (at end : ℕ) → T (versionFits 1 version) → readModelBody version paper s at ≡ got (modelFrom s index) end → GoodIndex s index
+body-good version paper s index at end fits e =
     good-index s index
-    (body-gives version fits .holds s at (modelFrom s index) end e)
-    (body-within s version .holds at (modelFrom s index) end e)
-    (body-few version .holds s at (modelFrom s index) end e)
+    (body-gives version paper fits .holds s at (modelFrom s index) end e)
+    (body-within s version paper .holds at (modelFrom s index) end e)
+    (body-few version paper .holds s at (modelFrom s index) end e)
 
 -- the header
 pub record HeaderRead (kind : ℕ) (s : List ℕ) (version : ℕ) : Type 0 where
@@ -93,20 +95,36 @@ module _ (limits : Limits) (components : List Component) (body : ℕ) (s : List 
 
 -- the parts of the sheet
 module _ (limits : Limits) (s : List ℕ) where
-  pub sheet-first : (number place : ℕ) → header 1 s 0 ≡ refused number place → readModel limits s ≡ refused number place
-  sheet-first number place e = in-a-chain limits s ∙ bind-refused (header 1) _ s 0 e
+  rest : Opening → Reader Model
+  rest o = here >>= λ place. readModelBody (o .version) (o .paper) >>= λ m. finished >> (limitsTest limits (m .components) place >> give m)
 
-  module _ (version body : ℕ) (one : header 1 s 0 ≡ got version body) where
-    pub sheet-second : (number place : ℕ) → readModelBody version s body ≡ refused number place → readModel limits s ≡ refused number place
-    sheet-second number place e = in-a-chain limits s ∙ bind-got (header 1) _ s 0 one (here-then _ s body (bind-refused (readModelBody version) _ s body e))
+  in-parts : readModel limits s ≡ (readOpening >>= rest) s 0
+  unfolding readOpening rest
+  in-parts =
+      in-a-chain limits s
+      ∙ sym
+      (bind-assoc (header 1) _ rest s 0
+      ∙ bind-same (header 1) _ _ s 0
+      (λ version l.
+      bind-assoc (readPaper version) _ rest s l
+      ∙ bind-same (readPaper version) _ _ s l (λ paper k. give-bind (record { version = version; paper = paper }) rest s k)))
 
-    module _ (m : Model) (end : ℕ) (two : readModelBody version s body ≡ got m end) where
+  pub sheet-first : (number place : ℕ) → readOpening s 0 ≡ refused number place → readModel limits s ≡ refused number place
+  sheet-first number place e = in-parts ∙ bind-refused readOpening rest s 0 e
+
+  module _ (o : Opening) (body : ℕ) (one : readOpening s 0 ≡ got o body) where
+    opened : {g : Got Model} → (readModelBody (o .version) (o .paper) >>= λ m. finished >> (limitsTest limits (m .components) body >> give m)) s body ≡ g → readModel limits s ≡ g
+    unfolding rest
+    opened e = in-parts ∙ bind-got readOpening rest s 0 one (here-then _ s body e)
+
+    pub sheet-second : (number place : ℕ) → readModelBody (o .version) (o .paper) s body ≡ refused number place → readModel limits s ≡ refused number place
+    sheet-second number place e = opened (bind-refused (readModelBody (o .version) (o .paper)) _ s body e)
+
+    module _ (m : Model) (end : ℕ) (two : readModelBody (o .version) (o .paper) s body ≡ got m end) where
       pub sheet-third : (number place : ℕ) → finished s end ≡ refused number place → readModel limits s ≡ refused number place
-      sheet-third number place e =
-          in-a-chain limits s
-          ∙ bind-got (header 1) _ s 0 one (here-then _ s body (bind-got (readModelBody version) _ s body two (then-refused finished _ s end e)))
+      sheet-third number place e = opened (bind-got (readModelBody (o .version) (o .paper)) _ s body two (then-refused finished _ s end e))
 
       pub sheet-limits : (next : ℕ) → finished s end ≡ got tt next → (x : Next) → gotAs tt x ≡ limitsTest limits (m .components) body s next → gotAs m x ≡ readModel limits s
       sheet-limits next three x e =
           limits-then m (limitsTest limits (m .components) body) s next x e
-          ∙ sym (in-a-chain limits s ∙ bind-got (header 1) _ s 0 one (here-then _ s body (bind-got (readModelBody version) _ s body two (then-got finished _ s end three refl))))
+          ∙ sym (opened (bind-got (readModelBody (o .version) (o .paper)) _ s body two (then-got finished _ s end three refl)))

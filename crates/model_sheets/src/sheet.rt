@@ -1,8 +1,9 @@
-// A model sheet, whole: its header, its body, no bytes left, then the limits on locations and joint switches.
+// A model sheet, whole: its header, its paper number, its body, no bytes left, then the limits on locations and joint switches.
 use fields::Field;
 use fields::Next;
 use fields::header::finished;
 use fields::header::header;
+use fields::header::read_paper;
 use formats::Limits;
 use joint_switches::joints::location_count;
 use joint_switches::totals::event_totals;
@@ -12,15 +13,52 @@ use models::layout::FIRST_TOTAL;
 use models::layout::Index;
 use models::layout::JOINTS_AT;
 use models::layout::LOCATIONS_AT;
+use models::layout::PAPER_AT;
 use models::layout::VERSION_AT;
 ghost use mathlib.Core.Path.{_≡_};
-ghost use Prim.Native.Nat.{_≤_};
+ghost use Prim.Native.Nat.{_≤_, _<_};
 ghost use lib.Dec.{T};
 ghost use lib.ListN.{length};
 ghost use Rattle.formats.specs.ModelSheet.{limitsFit, limitsTest, readModel};
 ghost use Rattle.models.specs.Index.{GoodIndex, componentsFrom, modelFrom, Kept, indexLength};
 ghost use Rattle.fields.specs.Answers.{gotAs};
 ghost use Rattle.model_sheets.specs.Limits.{Small, Standing, OnlyCounts, CountedAfter};
+ghost use Rattle.model_sheets.specs.Opening.{readOpening, openingFrom};
+
+// Keeps the version and the paper number, in two halves, in an index.
+fn keep_opening(version: u32, paper: u32, index: &mut [u16])
+    requires { ⌜ (indexLength ≤ length (now index)) × (version < 256) ⌝ }
+    ensures { λ _. ⌜ openingFrom (now (index .exit)) ≡ record { version = version; paper = paper } ⌝ }
+    ensures { λ _. ⌜ Kept 0 indexLength (now (index .entry)) (now (index .exit)) ⌝ }
+{
+    index[VERSION_AT] = version as u16;
+    index[PAPER_AT] = (paper / 65536) as u16;
+    index[PAPER_AT + 1] = (paper % 65536) as u16;
+}
+
+// The header and the paper number, kept in an index: the place after them, which is n's byte. After a refusal the index is free.
+fn opening_into(s: &[u8], index: &mut Index) -> Next
+    ensures { λ r. ⌜ gotAs (openingFrom (now (index .exit))) r ≡ readOpening (now (s .entry)) 0 ⌝ }
+    ensures { λ _. ⌜ Kept 0 indexLength (now (index .entry)) (now (index .exit)) ⌝ }
+{
+    match header(s, 1) {
+        Field::Refused(number, place) => Next::Refused(number, place),
+        Field::Value(version, at) => match read_paper(s, at, version) {
+            Field::Refused(number, place) => Next::Refused(number, place),
+            Field::Value(paper, body) => {
+                keep_opening(version, paper, index);
+                Next::At(body)
+            }
+        },
+    }
+}
+
+// A number of an index as a wider one.
+fn widened(x: u16) -> u32
+    ensures { λ r. ⌜ r ≡ x ⌝ }
+{
+    x as u32
+}
 
 // Keeps the counts in an index.
 fn keep_counts(totals: [u32; 16], joints: u32, locations: u32, index: &mut [u16])
@@ -37,8 +75,7 @@ fn keep_counts(totals: [u32; 16], joints: u32, locations: u32, index: &mut [u16]
     index[LOCATIONS_AT] = locations as u16;
 }
 
-// Whether the model is within the stated limits: 7 and 8, at the place of its body, which is n's. If it is, the counts are kept in its
-// index.
+// Whether the model is within the stated limits: 7 and 8, at the place of n's byte. If it is, the counts are kept in its index.
 fn within_limits(s: &[u8], index: &mut Index, body: usize, next: usize, limits: Limits) -> Next
     requires { ⌜ GoodIndex (now s) (now index) ⌝ }
     requires { ⌜ T (limitsFit limits) ⌝ }
@@ -65,10 +102,10 @@ pub fn model_into(s: &[u8], index: &mut Index, limits: Limits) -> Next
     ensures { λ _. ⌜ Kept 0 indexLength (now (index .entry)) (now (index .exit)) ⌝ }
     ensures { λ r. ⌜ CountedAfter (now (s .entry)) (now (index .exit)) r ⌝ }
 {
-    match header(s, 1) {
-        Field::Refused(number, place) => Next::Refused(number, place),
-        Field::Value(version, body) => {
-            index[VERSION_AT] = version as u16;
+    match opening_into(s, index) {
+        Next::Refused(number, place) => Next::Refused(number, place),
+        Next::At(body) => {
+            let version = widened(index[VERSION_AT]);
             match body_into(s, body, version, index) {
                 Next::Refused(number, place) => Next::Refused(number, place),
                 Next::At(end) => match finished(s, end) {

@@ -1,5 +1,5 @@
 -- The body, read part by part into an index: how the answers of the parts make the answer of the whole. Assumes nothing.
-use mathlib.Core.Path.{_≡_, refl, sym, ap, _∙_, subst}
+use mathlib.Core.Path.{_≡_, refl, sym, ap, ap₂, _∙_, subst}
 use mathlib.Core.List.{List, map}
 use Prim.Native.Nat.{ℕ, _+_, _*_, _≤_, _<_}
 use native.Mathlib.Omega.{arith}
@@ -9,7 +9,7 @@ use Rattle.fields.specs.declared.Next.{Next}
 use Rattle.formats.specs.Reading.{got, refused, Reader, _>>=_, give, u8, within, below, many}
 use Rattle.formats.specs.Model.{Component, Unsafe, Model, readComponent, readUnsafe, readModelBody}
 use Rattle.formats.specs.Joint.{countUp}
-use Rattle.models.specs.Index.{entry, ownerPlace, componentPlace, unsafePlace, modePlace, switchPlace, modeFrom, switchFrom, componentFrom, unsafeFrom, componentsFrom, modelFrom, Totals, readTotals, totalsFrom, BodyParts, readParts, partsFrom, Kept}
+use Rattle.models.specs.Index.{entry, ownerPlace, componentPlace, unsafePlace, modePlace, switchPlace, modeFrom, switchFrom, componentFrom, unsafeFrom, componentsFrom, modelFrom, paperIn, Totals, readTotals, totalsFrom, BodyParts, readParts, partsFrom, Kept}
 use Rattle.fields.specs.Answers.{gotAs}
 use Rattle.formats.proofs.FieldLaws.{range-read}
 use Rattle.formats.proofs.Gives.{passes, bind-got, got-value, gives-many}
@@ -85,14 +85,14 @@ module _ (version n c conditions : ℕ) (s : List ℕ) (at : ℕ) where
       ∙ sym (bind-got (many c (readComponent version n)) _ s at one refl)
 
 -- the whole body
-module _ (version : ℕ) (s : List ℕ) (at : ℕ) where
+module _ (version paper : ℕ) (s : List ℕ) (at : ℕ) where
   after : Totals → Reader Model
   after t =
       many (t .variables) (below (t .components) u8) >>= λ owners.
       readParts version (t .variables) (t .components) (t .conditions) >>= λ p.
-      give (record { version = version; variables = t .variables; owners = owners; components = p .components; unsafe = p .unsafe })
+      give (record { version = version; paper = paper; variables = t .variables; owners = owners; components = p .components; unsafe = p .unsafe })
 
-  body-parts : readModelBody version s at ≡ (readTotals >>= after) s at
+  body-parts : readModelBody version paper s at ≡ (readTotals >>= after) s at
   unfolding readModelBody readTotals readParts after
   body-parts =
       sym
@@ -108,24 +108,24 @@ module _ (version : ℕ) (s : List ℕ) (at : ℕ) where
       give-bind (record { variables = n; components = c; conditions = u }) after s k
       ∙ bind-same (many n (below c u8)) _ _ s k
       (λ o l.
-      bind-assoc (many c (readComponent version n)) _ (λ p. give (record { version = version; variables = n; owners = o; components = p .components; unsafe = p .unsafe })) s l
+      bind-assoc (many c (readComponent version n)) _ (λ p. give (record { version = version; paper = paper; variables = n; owners = o; components = p .components; unsafe = p .unsafe })) s l
       ∙ bind-same (many c (readComponent version n)) _ _ s l
       (λ cs i.
-      bind-assoc (many u (readUnsafe version n cs)) _ (λ p. give (record { version = version; variables = n; owners = o; components = p .components; unsafe = p .unsafe })) s i
-      ∙ bind-same (many u (readUnsafe version n cs)) _ _ s i (λ us j. give-bind (record { components = cs; unsafe = us }) (λ p. give (record { version = version; variables = n; owners = o; components = p .components; unsafe = p .unsafe })) s j)))))))
+      bind-assoc (many u (readUnsafe version n cs)) _ (λ p. give (record { version = version; paper = paper; variables = n; owners = o; components = p .components; unsafe = p .unsafe })) s i
+      ∙ bind-same (many u (readUnsafe version n cs)) _ _ s i (λ us j. give-bind (record { components = cs; unsafe = us }) (λ p. give (record { version = version; paper = paper; variables = n; owners = o; components = p .components; unsafe = p .unsafe })) s j)))))))
 
-  pub body-first : (number place : ℕ) → readTotals s at ≡ refused number place → readModelBody version s at ≡ refused number place
+  pub body-first : (number place : ℕ) → readTotals s at ≡ refused number place → readModelBody version paper s at ≡ refused number place
   body-first number place e = body-parts ∙ bind-refused readTotals after s at e
 
   module _ (t : Totals) (second : ℕ) (one : readTotals s at ≡ got t second) where
-    pub body-second : (number place : ℕ) → many (t .variables) (below (t .components) u8) s second ≡ refused number place → readModelBody version s at ≡ refused number place
+    pub body-second : (number place : ℕ) → many (t .variables) (below (t .components) u8) s second ≡ refused number place → readModelBody version paper s at ≡ refused number place
     unfolding after
     body-second number place e = body-parts ∙ bind-got readTotals after s at one (bind-refused (many (t .variables) (below (t .components) u8)) _ s second e)
 
-    pub body-read : (owners : List ℕ) (third : ℕ) → many (t .variables) (below (t .components) u8) s second ≡ got owners third → (p : BodyParts) (x : Next) → gotAs p x ≡ readParts version (t .variables) (t .components) (t .conditions) s third → gotAs (record { version = version; variables = t .variables; owners = owners; components = p .components; unsafe = p .unsafe }) x ≡ readModelBody version s at
+    pub body-read : (owners : List ℕ) (third : ℕ) → many (t .variables) (below (t .components) u8) s second ≡ got owners third → (p : BodyParts) (x : Next) → gotAs p x ≡ readParts version (t .variables) (t .components) (t .conditions) s third → gotAs (record { version = version; paper = paper; variables = t .variables; owners = owners; components = p .components; unsafe = p .unsafe }) x ≡ readModelBody version paper s at
     unfolding after
     body-read owners third two p x e =
-        last-got (readParts version (t .variables) (t .components) (t .conditions)) (λ v. record { version = version; variables = t .variables; owners = owners; components = v .components; unsafe = v .unsafe }) s third p x e
+        last-got (readParts version (t .variables) (t .components) (t .conditions)) (λ v. record { version = version; paper = paper; variables = t .variables; owners = owners; components = v .components; unsafe = v .unsafe }) s third p x e
         ∙ sym (body-parts ∙ bind-got readTotals after s at one (bind-got (many (t .variables) (below (t .components) u8)) _ s second two refl))
 
 -- components that were read have small counts
@@ -149,9 +149,9 @@ components-kept s version n c xs ys few small w =
     (λ k h. component-same s version n xs ys (16 + 219 * k) (small k h .0) (small k h .1) (λ i p q. w .kept i (λ u v. omega arith)))
 
 -- the whole model, where version, counts and owners were kept before
-pub model-whole : (version : ℕ) (s : List ℕ) (x y z : List ℕ) (owners : List ℕ) → version ≡ entry x 11 → owners ≡ map (λ v. entry y (ownerPlace v)) (countUp 0 (entry x 0)) → Kept 3 11 x y → Kept 16 988 y z → entry x 0 ≤ 8 → modelFrom s z ≡ record { version = version; variables = entry x 0; owners = owners; components = partsFrom s version (entry x 0) (entry x 1) (entry x 2) z .components; unsafe = partsFrom s version (entry x 0) (entry x 1) (entry x 2) z .unsafe }
+pub model-whole : (version paper : ℕ) (s : List ℕ) (x y z : List ℕ) (owners : List ℕ) → version ≡ entry x 11 → paper ≡ paperIn x → owners ≡ map (λ v. entry y (ownerPlace v)) (countUp 0 (entry x 0)) → Kept 3 11 x y → Kept 16 988 y z → entry x 0 ≤ 8 → modelFrom s z ≡ record { version = version; paper = paper; variables = entry x 0; owners = owners; components = partsFrom s version (entry x 0) (entry x 1) (entry x 2) z .components; unsafe = partsFrom s version (entry x 0) (entry x 1) (entry x 2) z .unsafe }
 unfolding modelFrom componentsFrom partsFrom ownerPlace upTo
-model-whole version s x y z owners h e k l most =
+model-whole version paper s x y z owners h j e k l most =
     let v : entry z 11 ≡ version = l .kept 11 (λ p q. omega arith) ∙ k .kept 11 (λ p q. omega arith) ∙ sym h in
     let n : entry z 0 ≡ entry x 0 = l .kept 0 (λ p q. omega arith) ∙ k .kept 0 (λ p q. omega arith) in
     let c : entry z 1 ≡ entry x 1 = l .kept 1 (λ p q. omega arith) ∙ k .kept 1 (λ p q. omega arith) in
@@ -167,4 +167,7 @@ model-whole version s x y z owners h e k l most =
     ∙ ap (λ (m : ℕ). map (λ i. unsafeFrom s version m (entry z 1) z (unsafePlace i)) (countUp 0 (entry z 2))) n
     ∙ ap (λ (m : ℕ). map (λ i. unsafeFrom s version (entry x 0) m z (unsafePlace i)) (countUp 0 (entry z 2))) c
     ∙ ap (λ (m : ℕ). map (λ i. unsafeFrom s version (entry x 0) (entry x 1) z (unsafePlace i)) (countUp 0 m)) u in
-    λ i. record { version = v i; variables = n i; owners = os i; components = cs i; unsafe = us i }
+    let high : entry z 12 ≡ entry x 12 = l .kept 12 (λ p q. omega arith) ∙ k .kept 12 (λ p q. omega arith) in
+    let low : entry z 13 ≡ entry x 13 = l .kept 13 (λ p q. omega arith) ∙ k .kept 13 (λ p q. omega arith) in
+    let p : entry z 12 * 65536 + entry z 13 ≡ paper = ap₂ (λ (a b : ℕ). a * 65536 + b) high low ∙ sym j in
+    λ i. record { version = v i; paper = p i; variables = n i; owners = os i; components = cs i; unsafe = us i }

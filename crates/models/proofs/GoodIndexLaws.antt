@@ -209,9 +209,9 @@ unsafe-few : (version n : ℕ) (components : List Component) → Gives (λ u. le
 unfolding readUnsafe
 unsafe-few version n components = gives-bind gives-any (λ modes u. gives-bind (condition-gives 8 version n) (λ rows w. gives-give _ (w .0)))
 
-pub body-few : (version : ℕ) → Gives FewRows (readModelBody version)
+pub body-few : (version paper : ℕ) → Gives FewRows (readModelBody version paper)
 unfolding readModelBody
-body-few version =
+body-few version paper =
     gives-bind gives-any
     (λ n u.
     gives-bind gives-any
@@ -228,7 +228,7 @@ body-few version =
 pub few-rows : (limits : Limits) (s : List ℕ) (m : Model) (next : ℕ) → readModel limits s ≡ got m next → FewRows m
 few-rows limits s m next e =
     gives-bind gives-any
-    (λ version u. gives-bind gives-any (λ place u. gives-bind (body-few version) (λ m w. gives-then finished (gives-then _ (gives-give m w)))))
+    (λ version u. gives-bind gives-any (λ paper u. gives-bind gives-any (λ place u. gives-bind (body-few version paper) (λ m w. gives-then finished (gives-then _ (gives-give m w))))))
     .holds s 0 m next (sym (in-a-chain limits s) ∙ e)
 
 -- from the model to the index

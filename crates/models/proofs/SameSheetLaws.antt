@@ -1,5 +1,5 @@
 -- Indices that say the same of a sheet: what is counted beside it changes nothing of the model that they give back. Assumes nothing.
-use mathlib.Core.Path.{_≡_, refl, ap, _∙_}
+use mathlib.Core.Path.{_≡_, refl, ap, ap₂, _∙_}
 use mathlib.Core.List.{List, map}
 use Prim.Native.Nat.{ℕ, _+_, _*_, _≤_}
 use native.Mathlib.Omega.{arith}
@@ -32,7 +32,8 @@ model-same {s} {xs} {ys} g w =
     ∙ ap (λ (m : ℕ). map (λ i. unsafeFrom s (entry xs 11) (entry xs 0) (entry xs 1) ys (892 + 6 * i)) (countUp 0 m)) u
     ∙ up-to-same (λ i. unsafeFrom s (entry xs 11) (entry xs 0) (entry xs 1) ys (892 + 6 * i)) (λ i. unsafeFrom s (entry xs 11) (entry xs 0) (entry xs 1) xs (892 + 6 * i)) (entry xs 2)
     (λ v h. unsafe-same s (entry xs 11) (entry xs 0) (entry xs 1) xs ys (892 + 6 * v) (g .few) (λ i p q. w .body i (omega arith) (omega (arith, g .conditions)))) in
-    λ i. record { version = version i; variables = n i; owners = os i; components = cs i; unsafe = us i }
+    let paper : entry ys 12 * 65536 + entry ys 13 ≡ entry xs 12 * 65536 + entry xs 13 = ap₂ (λ (a b : ℕ). a * 65536 + b) (w .front 12 (omega arith)) (w .front 13 (omega arith)) in
+    λ i. record { version = version i; paper = paper i; variables = n i; owners = os i; components = cs i; unsafe = us i }
 
 pub components-same : {s xs ys : List ℕ} → GoodIndex s xs → SameSheet xs ys → componentsFrom s ys ≡ componentsFrom s xs
 unfolding modelFrom
@@ -45,7 +46,7 @@ same-none xs = record { front = λ i h. refl; body = λ i h l. refl }
 pub same-then : {xs ys zs : List ℕ} → SameSheet xs ys → SameSheet ys zs → SameSheet xs zs
 same-then v w = record { front = λ i h. w .front i h ∙ v .front i h; body = λ i h l. w .body i h l ∙ v .body i h l }
 
-pub same-kept : {from until : ℕ} {xs ys : List ℕ} → (12 ≤ from) × (until ≤ 16) → Kept from until xs ys → SameSheet xs ys
+pub same-kept : {from until : ℕ} {xs ys : List ℕ} → (14 ≤ from) × (until ≤ 16) → Kept from until xs ys → SameSheet xs ys
 same-kept h w = record { front = λ i l. w .kept i (λ p q. omega arith); body = λ i l m. w .kept i (λ p q. omega arith) }
 
 pub same-after : {until : ℕ} {xs ys : List ℕ} → Kept 988 until xs ys → SameSheet xs ys

@@ -45,6 +45,13 @@ versionAt = 11
 abbrev pub versionIn : List ℕ → ℕ
 versionIn index = entry index versionAt
 
+-- then its paper number, in two halves; 0 and 0 where the version has none
+abbrev pub paperAt : ℕ
+paperAt = 12
+
+abbrev pub paperIn : List ℕ → ℕ
+paperIn index = entry index paperAt * 65536 + entry index (paperAt + 1)
+
 -- then, once they are counted, how many joint switches and locations there are
 abbrev pub jointsAt : ℕ
 jointsAt = 14
@@ -226,6 +233,7 @@ unfoldable pub modelFrom : List ℕ → List ℕ → Model
 modelFrom s index =
     record {
       version = versionIn index;
+      paper = paperIn index;
       variables = entry index 0;
       owners = map (λ v. entry index (ownerPlace v)) (countUp 0 (entry index 0));
       components = componentsFrom s index;
@@ -271,7 +279,7 @@ pub record Kept (from until : ℕ) (before after : List ℕ) : Type 0 where
 
 -- two indices say the same of a sheet: all but what is counted is equal
 pub record SameSheet (before after : List ℕ) : Type 0 where
-  pub front : (i : ℕ) → i ≤ versionAt → entry after i ≡ entry before i
+  pub front : (i : ℕ) → i ≤ paperAt + 1 → entry after i ≡ entry before i
   pub body : (i : ℕ) → firstBlock ≤ i → i < firstTotal → entry after i ≡ entry before i
 
 -- a sheet of a right length, and an index with all its numbers

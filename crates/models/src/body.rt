@@ -12,7 +12,7 @@ ghost use mathlib.Core.Path.{_≡_};
 ghost use Prim.Native.Nat.{_≤_};
 ghost use lib.ListN.{length};
 ghost use Rattle.formats.specs.Model.{readModelBody};
-ghost use Rattle.models.specs.Index.{Sized, entry, readTotals, totalsFrom, readParts, partsFrom, modelFrom, Kept, componentsIn, firstBlock, firstTotal, indexLength, variablesIn, versionIn, firstOwner};
+ghost use Rattle.models.specs.Index.{Sized, entry, readTotals, totalsFrom, readParts, partsFrom, modelFrom, paperIn, Kept, componentsIn, firstBlock, firstTotal, indexLength, variablesIn, versionIn, firstOwner};
 ghost use Rattle.fields.specs.Answers.{gotAs};
 
 // How many variables, components and unsafe conditions there are, kept at the first three numbers of the index.
@@ -60,12 +60,12 @@ fn parts_into(
     }
 }
 
-// The body from this place on; the index has the version already. After a refusal the numbers of the index are free; what a longer array
+// The body from this place on; the index has the version and the paper number already. After a refusal the numbers of the index are free; what a longer array
 // holds past them stays.
 pub fn body_into(s: &[u8], at: usize, version: u32, index: &mut [u16]) -> Next
     requires { ⌜ Sized (now s) (now index) ⌝ }
     requires { ⌜ version ≡ versionIn (now index) ⌝ }
-    ensures { λ r. ⌜ gotAs (modelFrom (now (s .entry)) (now (index .exit))) r ≡ readModelBody version (now (s .entry)) at ⌝ }
+    ensures { λ r. ⌜ gotAs (modelFrom (now (s .entry)) (now (index .exit))) r ≡ readModelBody version (paperIn (now (index .entry))) (now (s .entry)) at ⌝ }
     ensures { λ _. ⌜ Kept 0 firstTotal (now (index .entry)) (now (index .exit)) ⌝ }
 {
     match totals_into(s, at, index) {

@@ -18,6 +18,9 @@ pub const FIRST_OWNER: usize = 3;
 // Then the sheet's version.
 pub const VERSION_AT: usize = 11;
 
+// Then its paper number, in two halves.
+pub const PAPER_AT: usize = 12;
+
 // Then, once they are counted, how many joint switches and locations there are.
 pub const JOINTS_AT: usize = 14;
 

@@ -21,7 +21,8 @@ use Rattle.formats.specs.Certificate.{readRegions}
 use Rattle.second_sheets.specs.CertificateAnswers.{regionsFrom, regionsFor, GoodRegions}
 use Rattle.formats.proofs.Gives.{passes, and-left, and-right}
 use Rattle.model_sheets.proofs.SheetLaws.{header-read, sheet-first}
-use Rattle.formats.proofs.Placed.{Fine, placed-regions, model-fine}
+use Rattle.model_sheets.proofs.OpeningLaws.{opening-first}
+use Rattle.formats.proofs.Placed.{FineTo, Fine, placed-regions, model-fine}
 use Rattle.models.proofs.GoodIndexLaws.{index-good}
 use Rattle.second_sheets.proofs.CertificateLaws.{regions-of, good-regions}
 use Rattle.papers.specs.Paper.{GoodPaper, Accepted}
@@ -81,11 +82,11 @@ right-short s e =
     let c = eqb (bigEndian (take 2 s) + 2) (length s) in
     leb→le (length s) 32768 (and-right a b (and-left (a && b) c (subst T (sym e) tt)))
 
-pub refused-placed : {A : Type 0} (s : List ℕ) (g : Got A) (number place : ℕ) → Fine s 0 g → (lengthRight s ≡ false → g ≡ refused 1 0) → g ≡ refused number place → place ≤ 32768
-refused-placed s g number place w unsized e = go (lengthRight s) refl
+pub refused-placed : {A : Type 0} (most : ℕ) (s : List ℕ) (g : Got A) (number place : ℕ) → FineTo most s 0 g → (lengthRight s ≡ false → g ≡ refused 1 0) → g ≡ refused number place → place ≤ 32768
+refused-placed most s g number place w unsized e = go (lengthRight s) refl
   where
     go : (b : Bool) → lengthRight s ≡ b → place ≤ 32768
-    go true q = omega (arith, right-short s q, subst (λ x. Fine s 0 x) e w .2)
+    go true q = omega (arith, right-short s q, subst (λ x. FineTo most s 0 x) e w .2)
     go false q =
         let r : refused 1 0 ≡ refused number place = sym (unsized q) ∙ e in
         let z : 0 ≡ place = cc in
@@ -93,4 +94,4 @@ refused-placed s g number place w unsized e = go (lengthRight s) refl
 
 pub model-placed : (limits : Limits) (s : List ℕ) (number place : ℕ) → readModel limits s ≡ refused number place → place ≤ 32768
 model-placed limits s number place e =
-    refused-placed s (readModel limits s) number place (model-fine limits s) (λ q. sheet-first limits s 1 0 (header-unsized s 1 q)) e
+    refused-placed 9 s (readModel limits s) number place (model-fine limits s) (λ q. sheet-first limits s 1 0 (opening-first s 1 0 (header-unsized s 1 q))) e

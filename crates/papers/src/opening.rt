@@ -5,19 +5,22 @@ use crate::answers::on_second;
 use fields::Field;
 use fields::Next;
 use fields::header::header;
+use fields::header::read_paper;
+use fields::versions::pair_of;
 use formats::Limits;
 use model_sheets::limits::limits_fit;
 use model_sheets::sheet::model_into;
 use models::layout::Index;
 use models::layout::LOCATIONS_AT;
+use models::layout::PAPER_AT;
 use models::layout::VERSION_AT;
 use rules::Answer;
 ghost use mathlib.Core.List.{List};
 ghost use mathlib.Core.Path.{_≡_};
-ghost use Prim.Native.Nat.{ℕ, _<_};
+ghost use Prim.Native.Nat.{ℕ, _+_, _*_, _<_};
 ghost use Rattle.fields.specs.Answers.{gotField};
 ghost use Rattle.formats.specs.Locations.{locationCount};
-ghost use Rattle.models.specs.Index.{entry, Kept, indexLength, componentsFrom, modelFrom, versionIn};
+ghost use Rattle.models.specs.Index.{entry, Kept, indexLength, componentsFrom, modelFrom, versionIn, paperIn};
 ghost use Rattle.papers.specs.Opening.{openedModel, ModelOpen, opened, Open};
 ghost use Rattle.papers.specs.Paper.{Accepted};
 ghost use Rattle.rules.specs.Opening.{openSecond};
@@ -44,11 +47,28 @@ pub fn open_model(model: &[u8], index: &mut Index, limits: Limits) -> Answer
     }
 }
 
-// How a second sheet of this kind opens, beside a model with this index: its version and the place of its body.
+// How a second sheet of this kind opens, beside a model with this index: its version, and the place where its body goes on behind its paper
+// number. 18 where its version does not go with the model's, at place 2, and where its paper number is another one, at that number.
 pub fn open_second(index: &Index, second: &[u8], kind: u32) -> Field
     ensures { λ r. ⌜ ((model : List ℕ) → gotField r ≡ openSecond kind (modelFrom model (now (index .entry))) (now (second .entry)) 0) ⌝ }
 {
-    header(second, kind)
+    match header(second, kind) {
+        Field::Refused(number, place) => Field::Refused(number, place),
+        Field::Value(version, at) => {
+            if version != pair_of(version_of(index)) {
+                return Field::Refused(18, 2);
+            }
+            match read_paper(second, at, version) {
+                Field::Refused(number, place) => Field::Refused(number, place),
+                Field::Value(paper, body) => {
+                    if paper != paper_of(index) {
+                        return Field::Refused(18, at);
+                    }
+                    Field::Value(version, body)
+                }
+            }
+        }
+    }
 }
 
 // The model is opened, then the second sheet: number 0 and the place of its body where both are good, else the answer that refuses the
@@ -94,6 +114,20 @@ pub fn version_of(index: &Index) -> u32
     ensures { λ r. ⌜ r ≡ versionIn (now (index .entry)) ⌝ }
 {
     widened(index[VERSION_AT])
+}
+
+// A number by its halves.
+fn joined(high: u16, low: u16) -> u32
+    ensures { λ r. ⌜ r ≡ high * 65536 + low ⌝ }
+{
+    high as u32 * 65536 + low as u32
+}
+
+// The paper number of the model's sheet, 0 where its version has none.
+pub fn paper_of(index: &Index) -> u32
+    ensures { λ r. ⌜ r ≡ paperIn (now (index .entry)) ⌝ }
+{
+    joined(index[PAPER_AT], index[PAPER_AT + 1])
 }
 
 // A number of an index, as places have it.

@@ -16,7 +16,7 @@ use Rattle.formats.specs.declared.Limits.{Limits}
 use Rattle.formats.specs.ModelSheet.{limitsFit, readModel}
 use Rattle.formats.specs.Certificate.{readRegions, readProof}
 use Rattle.formats.proofs.Gives.{passes, got-value, each-got, bind-got, then-got}
-use Rattle.formats.proofs.Placed.{Fine, placed-finished}
+use Rattle.formats.proofs.Placed.{FineTo, Fine, placed-finished}
 use Rattle.rules.specs.declared.Answer.{Answer}
 use Rattle.rules.specs.Obligations.{Obligation, zeroOnly, obligations}
 use Rattle.rules.proofs.Opening.{read-opens, with-model}
@@ -139,7 +139,7 @@ record RegionsRead (m : Model) (s : List ℕ) (g : Got (List Condition)) : Type 
   within : place ≤ length s
   rest : closeCertificate (length (obligations m regions)) s (markProofs (obligations m regions) s place 0) .number ≡ 0
 
-regions-read : (m : Model) (s : List ℕ) (g : Got (List Condition)) → Fine s 0 g → markRegions m s g .number ≡ 0 → RegionsRead m s g
+regions-read : (m : Model) (s : List ℕ) (g : Got (List Condition)) → FineTo 18 s 0 g → markRegions m s g .number ≡ 0 → RegionsRead m s g
 unfolding markRegions answer
 regions-read m s (refused n at) fine h = absurd (omega (arith, fine .0))
 regions-read m s (got regions place) fine h = record { regions = regions; place = place; read = refl; within = fine .1; rest = h }

@@ -6,6 +6,7 @@ pub mod Blanks
 pub mod Safety
 pub mod ObligationTotal
 pub mod Opening
+pub mod Pairing
 pub mod Calls
 pub mod EveryHypothesis
 pub mod Nearest
@@ -28,6 +29,10 @@ pub mod Twelve
 pub mod PairPaper
 pub mod ManyBlanks
 pub mod BlankPaper
+pub mod NumberPaper
+pub mod Belonging
+pub mod Renumbered
+pub mod AnyNumber
 pub mod NotConstant
 pub mod RoleLengths
 pub mod FewHypotheses

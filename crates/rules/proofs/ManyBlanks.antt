@@ -34,6 +34,7 @@ abbrev five : ℕ → Model
 five version =
     record {
       version = version;
+      paper = 0;
       variables = 5;
       owners = 0 ∷ 1 ∷ 0 ∷ 0 ∷ 0 ∷ [];
       components =

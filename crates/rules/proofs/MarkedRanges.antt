@@ -24,7 +24,7 @@ use Rattle.formats.specs.ModelSheet.{readModel}
 use Rattle.formats.specs.Certificate.{readRegions}
 use Rattle.formats.specs.RunSheet.{Step, Opening, readValues, readOpening}
 use Rattle.formats.proofs.Gives.{Gives, passes, gives-bind, gives-then, gives-give, gives-any, gives-within}
-use Rattle.formats.proofs.Placed.{Fine, placed-then, placed-within, placed-u16, placed-u32, placed-finished, placed-regions, placed-proof, placed-opening, placed-step, model-fine}
+use Rattle.formats.proofs.Placed.{FineTo, Fine, placed-up, placed-then, placed-within, placed-u16, placed-u32, placed-finished, placed-regions, placed-proof, placed-opening, placed-step, model-fine}
 use Rattle.formats.proofs.Members.{all-members}
 use Rattle.formats.proofs.RowPlaces.{EndsWithin, RowsWithin, ModelWithin, rows-within, regions-within}
 use Rattle.rules.specs.declared.Answer.{Answer}
@@ -41,7 +41,7 @@ use Rattle.rules.proofs.EveryHypothesis.{Serves, every-obligation}
 
 -- the fields of an answer on these two sheets, all but done, whose bound is each call's own
 pub record AnswerRange (model second : List ℕ) (a : Answer) : Type 0 where
-  pub number : a .number ≤ 15
+  pub number : a .number ≤ 18
   pub sheet : a .sheet ≤ 2
   pub inModel : a .sheet ≡ 0 → a .place ≤ length model
   pub inSecond : a .sheet ≡ 1 → a .place ≤ length second
@@ -100,8 +100,8 @@ close-certificate model second total (passed u place done) w =
     go (refused number at) x = let l = refused-score-fits done total in omega arith
 
 -- the second sheet up to its regions
-pub regions-fine : (m : Model) (s : List ℕ) → Fine s 0 ((openSecond 2 m >> readRegions m) s 0)
-regions-fine m s = placed-then {least = 0} (placed-second 2 m) (placed-regions m) .fine s 0 (omega arith) (omega arith)
+pub regions-fine : (m : Model) (s : List ℕ) → FineTo 18 s 0 ((openSecond 2 m >> readRegions m) s 0)
+regions-fine m s = placed-then {least = 0} (placed-second 2 m) (placed-up (omega arith) (placed-regions m)) .fine s 0 (omega arith) (omega arith)
 
 -- proofs done: none, or, once the regions are read, at most one for each obligation
 pub data ProofsDone (limits : Limits) (model second : List ℕ) (done : ℕ) : Type 0 where
@@ -111,7 +111,7 @@ pub data ProofsDone (limits : Limits) (model second : List ℕ) (done : ℕ) : T
 abbrev CertificateRange : Limits → List ℕ → List ℕ → Answer → Type 0
 CertificateRange limits model second a = AnswerRange model second a × ProofsDone limits model second (a .done)
 
-regions-marked : (limits : Limits) (model second : List ℕ) (m : Model) (modelEnd : ℕ) (g : Got (List Condition)) → readModel limits model ≡ got m modelEnd → (openSecond 2 m >> readRegions m) second 0 ≡ g → Fine second 0 g → CertificateRange limits model second (markRegions m second g)
+regions-marked : (limits : Limits) (model second : List ℕ) (m : Model) (modelEnd : ℕ) (g : Got (List Condition)) → readModel limits model ≡ got m modelEnd → (openSecond 2 m >> readRegions m) second 0 ≡ g → FineTo 18 second 0 g → CertificateRange limits model second (markRegions m second g)
 unfolding markRegions answer
 regions-marked limits model second m modelEnd (got regions place) e d w =
     let all : List Obligation = obligations m regions in
@@ -134,8 +134,8 @@ pub certificate-done : (limits : Limits) (model second : List ℕ) → ProofsDon
 certificate-done limits model second = certificate-ranges limits model second .1
 
 -- a run sheet up to its opening
-pub opening-fine : (m : Model) (s : List ℕ) → Fine s 0 ((openSecond 3 m >> readOpening m) s 0)
-opening-fine m s = placed-then {least = 0} (placed-second 3 m) (placed-opening m) .fine s 0 (omega arith) (omega arith)
+pub opening-fine : (m : Model) (s : List ℕ) → FineTo 18 s 0 ((openSecond 3 m >> readOpening m) s 0)
+opening-fine m s = placed-then {least = 0} (placed-second 3 m) (placed-up (omega arith) (placed-opening m)) .fine s 0 (omega arith) (omega arith)
 
 pub opening-gives : (m : Model) → Gives (λ o. (1 ≤ o .q) × (o .steps ≤ 4095)) (readOpening m)
 unfolding readOpening
@@ -145,8 +145,8 @@ opening-gives m =
     gives-bind (gives-within 0 4095 u16)
     (λ steps j. gives-bind gives-any (λ place u. gives-bind gives-any (λ location u. gives-bind gives-any (λ values u. gives-give _ (i .0, j .1))))))
 
-got-fine : {A : Type 0} (s : List ℕ) (p : ℕ) (g : Got A) (a : A) (next : ℕ) → Fine s p g → g ≡ got a next → next ≤ length s
-got-fine s p g a next w e = subst (λ x. Fine s p x) e w .1
+got-fine : {A : Type 0} (most : ℕ) (s : List ℕ) (p : ℕ) (g : Got A) (a : A) (next : ℕ) → FineTo most s p g → g ≡ got a next → next ≤ length s
+got-fine most s p g a next w e = subst (λ x. FineTo most s p x) e w .1
 
 -- the place of its location stands within the sheet
 opening-rest : (m : Model) (q steps place : ℕ) → Gives {A = Opening} (λ o. o .place ≡ place) (below (locationCount (m .components)) u8 >>= λ location. readValues (m .variables) >>= λ values. give (record { q = q; steps = steps; place = place; location = location; values = values }))
@@ -156,9 +156,9 @@ pub opening-place : (m : Model) (s : List ℕ) (p : ℕ) (o : Opening) (next : �
 unfolding readOpening _>>=_ andThen here
 opening-place m s p o next h e =
     let w = passes (within 1 (2 ^ 24 - 1) u32 s p) _ s o next e in
-    let i = got-fine s p _ _ _ (placed-within {least = 0} 1 (2 ^ 24 - 1) placed-u32 .fine s p (omega arith) h) (w .first) in
+    let i = got-fine 9 s p _ _ _ (placed-within {least = 0} 1 (2 ^ 24 - 1) placed-u32 .fine s p (omega arith) h) (w .first) in
     let v = passes (within 0 4095 u16 s (w .place)) _ s o next (w .second) in
-    let j = got-fine s (w .place) _ _ _ (placed-within {least = 0} 0 4095 placed-u16 .fine s (w .place) (omega arith) i) (v .first) in
+    let j = got-fine 9 s (w .place) _ _ _ (placed-within {least = 0} 0 4095 placed-u16 .fine s (w .place) (omega arith) i) (v .first) in
     let k = opening-rest m (w .value) (v .value) (v .place) .holds s (v .place) o next (v .second) in
     omega arith
 
@@ -202,7 +202,7 @@ pub data StepsDone (limits : Limits) (model second : List ℕ) (done : ℕ) : Ty
 abbrev RunRange : Limits → List ℕ → List ℕ → Answer → Type 0
 RunRange limits model second a = AnswerRange model second a × StepsDone limits model second (a .done)
 
-opening-marked : (limits : Limits) (model second : List ℕ) (m : Model) (modelEnd : ℕ) (g : Got Opening) → readModel limits model ≡ got m modelEnd → (openSecond 3 m >> readOpening m) second 0 ≡ g → Fine second 0 g → RunRange limits model second (markOpening m second g)
+opening-marked : (limits : Limits) (model second : List ℕ) (m : Model) (modelEnd : ℕ) (g : Got Opening) → readModel limits model ≡ got m modelEnd → (openSecond 3 m >> readOpening m) second 0 ≡ g → FineTo 18 second 0 g → RunRange limits model second (markOpening m second g)
 unfolding markOpening answer _>>_
 opening-marked limits model second m modelEnd (got o place) e d w = go (startAllowed m (o .q) (firstState o))
   where
@@ -212,7 +212,7 @@ opening-marked limits model second m modelEnd (got o place) e d w = go (startAll
         (h .0, of-opening e d (h .1))
     go false =
         let v = passes (openSecond 3 m second 0) _ second o place d in
-        let i = got-fine second 0 _ _ _ (placed-second {least = 0} 3 m .fine second 0 (omega arith) (omega arith)) (v .first) in
+        let i = got-fine 18 second 0 _ _ _ (placed-second {least = 0} 3 m .fine second 0 (omega arith) (omega arith)) (v .first) in
         let j = opening-place m second (v .place) o place i (v .second) in
         (omega arith, before-steps refl)
 opening-marked limits model second m modelEnd (refused number at) e d w = (omega arith, before-steps refl)
@@ -306,9 +306,9 @@ module _ (model second : List ℕ) where
 -- what is found stands within its sheet, and so does the place of a refusal
 abbrev FoundWell : List ℕ → List ℕ → Found → Type 0
 FoundWell model second (found h) = RowStands model second h
-FoundWell model second (unfound number sheet place) = (number ≤ 9) × (sheet ≤ 2) × (place ≤ length (sheetOf model second sheet))
+FoundWell model second (unfound number sheet place) = (number ≤ 18) × (sheet ≤ 2) × (place ≤ length (sheetOf model second sheet))
 
-in-sheet : (model second : List ℕ) (number sheet place : ℕ) → number ≤ 9 → sheet ≤ 2 → place ≤ length (sheetOf model second sheet) → AnswerRange model second (answer number sheet place 0 0)
+in-sheet : (model second : List ℕ) (number sheet place : ℕ) → number ≤ 18 → sheet ≤ 2 → place ≤ length (sheetOf model second sheet) → AnswerRange model second (answer number sheet place 0 0)
 unfolding answer sheetOf
 in-sheet model second number zero place i j k = omega arith
 in-sheet model second number (suc zero) place i j k = omega arith
@@ -333,7 +333,7 @@ module _ (limits : Limits) (model second : List ℕ) (o h : ℕ) where
       go true = all-at _ (record { sheet = omega arith; ends = omega arith }) (all-at noObligation none w o) h
       go false = omega arith
 
-  after-well : (m : Model) (g : Got (List Condition)) → ModelWithin model m → (openSecond 2 m >> readRegions m) second 0 ≡ g → Fine second 0 g → FoundWell model second (findAfter m o h g)
+  after-well : (m : Model) (g : Got (List Condition)) → ModelWithin model m → (openSecond 2 m >> readRegions m) second 0 ≡ g → FineTo 18 second 0 g → FoundWell model second (findAfter m o h g)
   unfolding findAfter sheetOf _>>_
   after-well m (got regions next) w e x =
       let v = passes (openSecond 2 m second 0) _ second regions next e in

@@ -3,13 +3,14 @@ use mathlib.Core.Path.{_≡_, refl, sym, ap₂, subst}
 use mathlib.Core.Bool.{Bool, true, false}
 use mathlib.Core.List.{List}
 use Prim.Native.Nat.{ℕ, _≤_}
+use native.Mathlib.Omega.{arith}
 use lib.Dec.{T}
 use lib.ListN.{length}
 use Rattle.formats.specs.Reading.{Got, got, refused}
 use Rattle.formats.specs.Model.{Model}
 use Rattle.formats.specs.declared.Limits.{Limits}
 use Rattle.formats.specs.ModelSheet.{limitsFit, readModel}
-use Rattle.formats.proofs.Placed.{Fine, Placed, placed-header, model-fine}
+use Rattle.formats.proofs.Placed.{Fine, PlacedTo, placed-up, placed-then, placed-give, placed-expect, placed-must, placed-headed, placed-paper, model-fine}
 use Rattle.rules.specs.declared.Answer.{Answer}
 use Rattle.rules.specs.Opening.{ModelOpened, opens, shut, openAs, openModel, openSecond}
 use Rattle.rules.specs.Marking.{answer, withModel}
@@ -60,6 +61,10 @@ with-model P limits model f unfits refusal value = go (begins limits model)
     go (Begins.begun m end t e o) = subst (λ x. P (withModel x f)) (sym o) (value m end t e)
 
 -- the second sheet: where its body begins, and the place of a refusal, are in the sheet, and a refusal has a number
-pub placed-second : {least : ℕ} (kind : ℕ) (m : Model) → Placed least (openSecond kind m)
+pub placed-second : {least : ℕ} (kind : ℕ) (m : Model) → PlacedTo 18 least (openSecond kind m)
 unfolding openSecond
-placed-second kind m = placed-header kind
+placed-second kind m =
+    placed-headed kind (omega arith)
+    (λ version.
+    placed-then (placed-expect _ 18 2 (omega arith) (omega arith) (omega arith))
+    (placed-then (placed-must _ 18 (omega arith) (omega arith) (placed-up (omega arith) (placed-paper version))) (placed-give version)))

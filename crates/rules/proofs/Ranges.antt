@@ -16,7 +16,7 @@ use mir.Facts.{and-yes}
 use Rattle.farkas.specs.Farkas.{Entry, Proof}
 use Rattle.farkas.specs.Lists.{All}
 use Rattle.formats.specs.Versions.{versionFits, kindFits}
-use Rattle.formats.specs.Reading.{got, Reader, u8, u16, u32, s32, must, within, withinSigned, each, header, here, finished, sized}
+use Rattle.formats.specs.Reading.{got, Reader, u8, u16, u32, s32, must, within, withinSigned, each, header, readPaper, here, finished, sized}
 use Rattle.formats.specs.Rows.{Condition, readCondition}
 use Rattle.formats.specs.Model.{Mode, Switch, Component, Unsafe, Model, hasEvent, readMode, readSwitch, readComponent, readUnsafe, readModelBody}
 use Rattle.formats.specs.Locations.{locationCount}
@@ -71,11 +71,11 @@ pub record UnsafeRanges (n : ℕ) (components : List Component) (u : Unsafe) : T
   pub modes : Both (λ c v. (v < length (c .modes)) ⊎ (v ≡ 255)) components (u .modes)
   pub rows : Rows 8 n (u .rows)
 
--- a version of 1 or 2; "u8 variables n, 1..8; u8 components c, 1..4; u8 unsafe conditions, 0..16. n bytes: each variable's owner, 0..c−1";
+-- a version of 1 to 3; "u8 variables n, 1..8; u8 components c, 1..4; u8 unsafe conditions, 0..16. n bytes: each variable's owner, 0..c−1";
 -- the limits of locations and joint switches
 pub record ModelRanges (limits : Limits) (m : Model) : Type 0 where
   pub oldest : 1 ≤ m .version
-  pub newest : m .version ≤ 2
+  pub newest : m .version ≤ 3
   pub least : 1 ≤ m .variables
   pub most : m .variables ≤ 8
   pub owned : length (m .owners) ≡ m .variables
@@ -209,9 +209,9 @@ unsafe-ranges version n components =
     (λ modes u. gives-bind (rows-give 8 version n) (λ rows w. gives-give _ (record { modes = u; rows = w })))
 
 -- what the body gives; the version and the two limits are tested around it
-body-ranges : (version : ℕ) → Gives (λ m. (m .version ≡ version) × ((limits : Limits) → (1 ≤ version) × (version ≤ 2) → locationCount (m .components) ≤ limits .locations → length (joints (m .components)) ≤ limits .joints → ModelRanges limits m)) (readModelBody version)
+body-ranges : (version paper : ℕ) → Gives (λ m. (m .version ≡ version) × ((limits : Limits) → (1 ≤ version) × (version ≤ 3) → locationCount (m .components) ≤ limits .locations → length (joints (m .components)) ≤ limits .joints → ModelRanges limits m)) (readModelBody version paper)
 unfolding readModelBody
-body-ranges version =
+body-ranges version paper =
     gives-bind (gives-within 1 8 u8)
     (λ n i.
     gives-bind (gives-within 1 4 u8)
@@ -244,7 +244,7 @@ body-ranges version =
           },
     )))))))
 
-header-gives : (kind : ℕ) → Gives (λ version. (1 ≤ version) × (version ≤ 2)) (header kind)
+header-gives : (kind : ℕ) → Gives (λ version. (1 ≤ version) × (version ≤ 3)) (header kind)
 unfolding header
 header-gives kind =
     gives-then sized (gives-then u16
@@ -258,8 +258,10 @@ model-ranges limits s m next e =
     let ranges : Gives (λ m. locationCount (m .components) ≤ limits .locations → length (joints (m .components)) ≤ limits .joints → ModelRanges limits m) (chain limits) =
     gives-bind (header-gives 1)
     (λ version v.
+    gives-bind {r = readPaper version} gives-any
+    (λ paper u.
     gives-bind {r = here} gives-any
-    (λ place u. gives-bind (body-ranges version) (λ m w. gives-then finished (gives-then _ (gives-give m (w .1 limits v)))))) in
+    (λ place u. gives-bind (body-ranges version paper) (λ m w. gives-then finished (gives-then _ (gives-give m (w .1 limits v))))))) in
     ranges .holds s 0 m next (sym (in-a-chain limits s) ∙ e) (few .locations) (few .joined)
 
 -- proofs

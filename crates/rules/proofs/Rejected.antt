@@ -123,6 +123,7 @@ unfoldable pub rowless : ℕ → Model
 rowless version =
     record {
       version = version;
+      paper = 0;
       variables = 1;
       owners = 0 ∷ [];
       components =

@@ -15,7 +15,7 @@ use Rattle.formats.specs.declared.Limits.{Limits}
 use Rattle.formats.specs.ModelSheet.{limitsFit, readModel}
 use Rattle.formats.specs.RunSheet.{Step, Opening, readOpening, readStep}
 use Rattle.formats.proofs.Gives.{got-value, got-next, passes, Tested, tested, gives-then}
-use Rattle.formats.proofs.Placed.{Fine, placed-finished}
+use Rattle.formats.proofs.Placed.{FineTo, Fine, placed-finished}
 use Rattle.rules.specs.Opening.{openSecond}
 use Rattle.rules.specs.declared.Answer.{Answer}
 use Rattle.rules.specs.Runs.{State, startAllowed, stepAllowed, stepsAllowed, after, Run, visited, endOf, isUnsafe}
@@ -175,7 +175,7 @@ run-closed m q second total (passed v place done) w e =
         record { end = v; place = place; done = done; next = next; steps = refl; finish = d; unsafe = verdict (isUnsafe m q v) h }
     go (refused number at) d x h = absurd (omega arith)
 
-opening-holds : (limits : Limits) (model second : List ℕ) (m : Model) (modelEnd : ℕ) (g : Got Opening) → T (limitsFit limits) → readModel limits model ≡ got m modelEnd → (openSecond 3 m >> readOpening m) second 0 ≡ g → Fine second 0 g → markOpening m second g .number ≡ 0 → RunHolds limits model second
+opening-holds : (limits : Limits) (model second : List ℕ) (m : Model) (modelEnd : ℕ) (g : Got Opening) → T (limitsFit limits) → readModel limits model ≡ got m modelEnd → (openSecond 3 m >> readOpening m) second 0 ≡ g → FineTo 18 second 0 g → markOpening m second g .number ≡ 0 → RunHolds limits model second
 unfolding markOpening answer
 opening-holds limits model second m modelEnd (got o place) t e d w h = go (startAllowed m (o .q) (firstState o)) refl h
   where

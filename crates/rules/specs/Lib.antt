@@ -13,3 +13,5 @@ pub mod ReadAs
 pub mod Papers
 pub mod PairPaper
 pub mod BlankPaper
+pub mod NumberPaper
+pub mod Belonging

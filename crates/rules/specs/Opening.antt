@@ -4,9 +4,10 @@ use mathlib.Core.Path.{_≡_}
 use mathlib.Core.Bool.{Bool, true, false}
 use mathlib.Core.List.{List}
 use Prim.Native.Nat.{ℕ}
-use lib.Dec.{T}
+use lib.Dec.{T, eqb}
 use Rattle.formats.specs.declared.Limits.{Limits}
-use Rattle.formats.specs.Reading.{Got, got, refused, Reader, header}
+use Rattle.formats.specs.Versions.{pairOf}
+use Rattle.formats.specs.Reading.{Got, got, refused, Reader, _>>=_, _>>_, give, expect, must, header, readPaper}
 use Rattle.formats.specs.Model.{Model}
 use Rattle.formats.specs.ModelSheet.{limitsFit, Whole, readWhole, Few, readModel}
 
@@ -25,10 +26,15 @@ openAs true (got m next) = opens m
 unfoldable pub openModel : Limits → List ℕ → ModelOpened
 openModel limits s = openAs (limitsFit limits) (readModel limits s)
 
--- how the second sheet of a paper opens, once its model is read: its header, and the version is handed on. What a second sheet has to share
--- with its model is tested here too: nothing in versions 1 and 2
+-- how the second sheet of a paper opens, once its model is read: its header, then what it has to share with its model (02, order 7). 18,
+-- "versions that don't pair (place 2 of the second sheet, right after 3) or paper numbers that differ (place 4, once that field is read)".
+-- The version is handed on
 unfoldable pub openSecond : ℕ → Model → Reader ℕ
-openSecond kind m = header kind
+openSecond kind m = do
+  version ← header kind
+  expect (eqb version (pairOf (m .version))) 18 2
+  must (λ paper. eqb paper (m .paper)) 18 (readPaper version)
+  give version
 
 -- limits that fit, and that the model is within, where the sheet is a model: "A paper within both desks' limits gets the same answer at
 -- both"

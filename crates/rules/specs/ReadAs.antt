@@ -14,6 +14,7 @@ unfoldable pub readAs : ℕ → Model → Model
 readAs version m =
     record {
       version = version;
+      paper = m .paper;
       variables = m .variables;
       owners = m .owners;
       components = m .components;

@@ -35,7 +35,7 @@ module _ (f g : Condition → Condition) where
   unfolding changed
   changed-twice m =
       ap₂ {C = Model}
-      (λ (components : List Component) (unsafe : List Unsafe). record { version = m .version; variables = m .variables; owners = m .owners; components = components; unsafe = unsafe })
+      (λ (components : List Component) (unsafe : List Unsafe). record { version = m .version; paper = m .paper; variables = m .variables; owners = m .owners; components = components; unsafe = unsafe })
       (map-map (changedComponent f) (changedComponent g) (m .components) ∙ map-same _ _ component-twice (m .components))
       (map-map (changedUnsafe f) (changedUnsafe g) (m .unsafe) ∙ map-same _ _ unsafe-twice (m .unsafe))
 

@@ -14,7 +14,7 @@ use Rattle.formats.specs.Versions.{rowBytes}
 use Rattle.formats.specs.Rows.{SheetRow, Condition}
 use Rattle.formats.specs.Model.{Mode, Switch, Component, Unsafe, Model}
 use Rattle.formats.specs.Joint.{joinAll}
-use Rattle.writing.specs.Writing.{word, half, writeNumber, writeMark, writeRow, writeCondition, writeMode, writeSwitch, writeComponent, writeUnsafe, writeBody, writeModel}
+use Rattle.writing.specs.Writing.{word, half, writeNumber, writeMark, writeRow, writeCondition, writeMode, writeSwitch, writeComponent, writeUnsafe, writeFields, writePaper, writeBody, writeModel}
 use Rattle.writing.specs.Changed.{changedMode, changedSwitch, changedComponent, changedUnsafe, changed}
 use Rattle.writing.proofs.ReadsLaws.{paired-map}
 use Rattle.writing.proofs.Writable.{FitsRow, WritableCondition, WritableMode, WritableSwitch, WritableComponent, WritableUnsafe, Writable}
@@ -133,6 +133,7 @@ module _ (f : Condition → Condition) (short : Shortens f) where
       let unsafe : length (map (changedUnsafe f) (m .unsafe)) ≡ length (m .unsafe) = length-map (m .unsafe) (changedUnsafe f) in
       record {
         version = w .version;
+        paper = w .paper;
         least = w .least;
         most = w .most;
         owned = w .owned;
@@ -180,13 +181,14 @@ module _ (f : Condition → Condition) (short : Shortens f) where
       then-no-more (as-many (u .modes) (u .modes) refl) (condition-no-more version 8 n (u .rows) (w .rows))
 
   body-no-more : (m : Model) → Writable m → NoMore (writeBody (changed f m)) (writeBody m)
-  unfolding writeBody changed
+  unfolding writeBody writeFields changed
   body-no-more m w =
-      then-no-more (as-many (_ ∷ _ ∷ _ ∷ []) (_ ∷ _ ∷ _ ∷ []) refl)
+      then-no-more (as-many (writePaper (m .version) (m .paper)) (writePaper (m .version) (m .paper)) refl)
+      (then-no-more (as-many (_ ∷ _ ∷ _ ∷ []) (_ ∷ _ ∷ _ ∷ []) refl)
       (then-no-more (as-many (m .owners) (m .owners) refl)
       (then-no-more
       (joined-no-more (writeComponent (m .version)) (changedComponent f) (component-no-more (m .version) (m .variables)) (w .components))
-      (joined-no-more (writeUnsafe (m .version)) (changedUnsafe f) (unsafe-no-more (m .version) (m .variables) (m .components)) (w .unsafe))))
+      (joined-no-more (writeUnsafe (m .version)) (changedUnsafe f) (unsafe-no-more (m .version) (m .variables) (m .components)) (w .unsafe)))))
 
   -- the whole takes no more bytes
   pub changed-length : (m : Model) → Writable m → length (writeModel (changed f m)) ≤ length (writeModel m)

@@ -10,8 +10,8 @@ use lib.IntN.{pos, negsuc}
 use lib.ListN.{length, take, drop, length-take, length-drop}
 use Rattle.farkas.specs.Lists.{All, none, more}
 use Rattle.farkas.specs.Sizes.{Bytes}
-use Rattle.formats.specs.Versions.{versionFits, strictAt}
-use Rattle.formats.specs.Reading.{got, Reader, _>>=_, _>>_, give, bigEndian, signed, field, u8, u16, u32, s32, must, many, each, finished}
+use Rattle.formats.specs.Versions.{versionFits, hasPaper, strictAt}
+use Rattle.formats.specs.Reading.{got, Reader, _>>=_, _>>_, give, bigEndian, signed, field, u8, u16, u32, s32, must, many, each, paperIf, readPaper, finished}
 use Rattle.formats.specs.Rows.{readStrict, readRow, readCondition}
 use Rattle.formats.specs.Model.{Component, Model, readMode, readSwitch, readComponent, readUnsafe, readModelBody}
 use Rattle.formats.specs.declared.Limits.{Limits}
@@ -19,11 +19,11 @@ use Rattle.formats.specs.ModelSheet.{readModel}
 use Rattle.formats.proofs.Gives.{Gives, got-value, passes, tested, gives-within, gives-below, gives-must, gives-many, gives-any}
 use Rattle.formats.proofs.FieldLaws.{field-read}
 use Rattle.formats.proofs.EveryRow.{GivesFrom}
-use Rattle.formats.proofs.WellFormed.{header-gives}
+use Rattle.formats.proofs.WellFormed.{header-gives, paper-gives}
 use Rattle.formats.proofs.ModelSheet.{in-a-chain}
 use Rattle.writing.specs.Writing.{twos}
 use Rattle.writing.proofs.ReadsLaws.{Paired, paired-none, paired-more}
-use Rattle.writing.proofs.Writable.{Fits, MarkFits, FitsRow, WritableCondition, initialMost, WritableMode, labelFits, WritableSwitch, WritableComponent, modeFits, WritableUnsafe, Writable}
+use Rattle.writing.proofs.Writable.{Fits, MarkFits, FitsRow, WritableCondition, initialMost, WritableMode, labelFits, WritableSwitch, WritableComponent, modeFits, WritableUnsafe, PaperFits, Writable}
 
 -- a sheet's bytes, said of each in its turn
 pub all-bytes : (s : List ℕ) → Bytes s → All (λ b. b < 256) s
@@ -203,9 +203,22 @@ module _ (s : List ℕ) (bytes : All (λ b. b < 256) s) where
       from-bind s (from-each s (λ c. from-so s (from-must s (modeFits c) 5 (from-any s gives-any)) (λ v w. w .0)) components)
       (λ modes i. from-bind s (condition-writable version 8 n) (λ rows j. from-give s _ (record { modes = i; rows = j })))
 
-  body-writable : (version : ℕ) → T (versionFits 1 version) → GivesFrom s Writable (readModelBody version)
+  paper-fits : (version : ℕ) → GivesFrom s (PaperFits version) (readPaper version)
+  unfolding readPaper paperIf u32
+  paper-fits version = record {
+    holds = λ p paper next e. record {
+      small = small (hasPaper version) .holds p paper next e;
+      none = paper-gives version .holds s p paper next e;
+    };
+  }
+    where
+      small : (b : Bool) → GivesFrom s (λ paper. paper < 2 ^ 32) (paperIf b)
+      small true = field-small 4
+      small false = from-give s 0 (omega arith)
+
+  body-writable : (version paper : ℕ) → T (versionFits 1 version) → PaperFits version paper → GivesFrom s Writable (readModelBody version paper)
   unfolding readModelBody
-  body-writable version fits =
+  body-writable version paper fits number =
       from-bind s (from-any s (gives-within 1 8 u8))
       (λ n i.
       from-bind s (from-any s (gives-within 1 4 u8))
@@ -221,6 +234,7 @@ module _ (s : List ℕ) (bytes : All (λ b. b < 256) s) where
       from-give s _
       (record {
         version = fits;
+        paper = number;
         least = i .0;
         most = i .1;
         owned = o .0;
@@ -237,6 +251,8 @@ pub writable : (limits : Limits) (s : List ℕ) (m : Model) (next : ℕ) → All
 writable limits s m next bytes e =
     from-bind s (from-any s (header-gives 1))
     (λ version u.
+    from-bind s (paper-fits s bytes version)
+    (λ paper n.
     from-bind s (from-any s gives-any)
-    (λ place v. from-bind s (body-writable s bytes version u) (λ m w. from-then s finished (from-then s _ (from-give s m w)))))
+    (λ place v. from-bind s (body-writable s bytes version paper u n) (λ m w. from-then s finished (from-then s _ (from-give s m w))))))
     .holds 0 m next (sym (in-a-chain limits s) ∙ e)

@@ -1,7 +1,7 @@
 -- The parts of a model, from numbers to the whole body, read back from what is written: the same but for where rows stand.
 -- Assumes nothing.
-use mathlib.Core.Path.{_≡_, sym, ap, _∙_, subst}
-use mathlib.Core.Bool.{Bool, false, _||_}
+use mathlib.Core.Path.{_≡_, refl, sym, ap, _∙_, subst}
+use mathlib.Core.Bool.{Bool, true, false, _||_}
 use mathlib.Core.List.{List, [], _∷_, map, map-id}
 use Prim.Native.Nat.{ℕ, _+_, _*_, _/_, _%_, _^_, _<_}
 use native.Mathlib.Nat.{div-add-mod'}
@@ -10,14 +10,14 @@ use lib.Dec.{T, ltb, eqb}
 use lib.IntN.{ℤ}
 use lib.ListN.{length}
 use Rattle.farkas.specs.Lists.{All, none, more}
-use Rattle.formats.specs.Versions.{strictAt}
-use Rattle.formats.specs.Reading.{got, bigEndian, signed, field, u8, u16, u32, s32, must}
+use Rattle.formats.specs.Versions.{hasPaper, strictAt}
+use Rattle.formats.specs.Reading.{got, bigEndian, signed, field, u8, u16, u32, s32, must, paperIf, readPaper}
 use Rattle.formats.specs.Rows.{SheetRow, Condition, sheetRow, readStrict, readRow, readCondition}
 use Rattle.formats.specs.Model.{Mode, Switch, Component, Unsafe, Model, readMode, readSwitch, readComponent, readUnsafe, readModelBody}
-use Rattle.writing.specs.Writing.{word, half, twos, writeNumber, writeMark, writeRow, writeCondition, writeMode, writeSwitch, writeComponent, writeUnsafe, writeBody}
+use Rattle.writing.specs.Writing.{word, half, twos, writeNumber, writeMark, writeRow, writeCondition, writeMode, writeSwitch, writeComponent, writeUnsafe, writeFields, paperBytes, writePaper}
 use Rattle.writing.specs.Changed.{changedMode, changedSwitch, changedComponent, changedUnsafe, changed, unplaced, bareRows, bare}
 use Rattle.writing.proofs.ReadsLaws.{Reads, Paired, paired-none, paired-more, reads-then, reads-last, reads-give, reads-here, reads-field, reads-must, reads-tested, reads-within, reads-below, reads-many, reads-bytes, paired-map, paired-back, reads-each}
-use Rattle.writing.proofs.Writable.{Fits, MarkFits, FitsRow, WritableCondition, initialMost, WritableMode, labelFits, WritableSwitch, WritableComponent, modeFits, WritableUnsafe, Writable}
+use Rattle.writing.proofs.Writable.{Fits, MarkFits, FitsRow, WritableCondition, initialMost, WritableMode, labelFits, WritableSwitch, WritableComponent, modeFits, WritableUnsafe, PaperFits, Writable}
 use Rattle.writing.proofs.ChangedJoints.{modes-kept}
 
 -- what holds of each element by what held of it
@@ -156,10 +156,19 @@ reads-unsafe version n components others u e w =
     (λ modes i.
     reads-last (reads-condition version 8 n (u .rows) (w .rows)) (λ rows j. reads-give _ (λ x. record { modes = i x; rows = j x })))
 
--- a model's body
-pub reads-body : (m : Model) → Writable m → Reads (readModelBody (m .version)) (writeBody m) (λ x. bare x ≡ bare m)
-unfolding readModelBody writeBody bare changed
-reads-body m w =
+-- a paper number
+pub reads-paper : (version paper : ℕ) → PaperFits version paper → Reads (readPaper version) (writePaper version paper) (λ x. x ≡ paper)
+unfolding readPaper writePaper paperIf paperBytes
+reads-paper version paper w = go (hasPaper version) (w .none)
+  where
+    go : (b : Bool) → (b ≡ false → paper ≡ 0) → Reads (paperIf b) (paperBytes b paper) (λ x. x ≡ paper)
+    go true e = reads-word paper (w .small)
+    go false e = reads-give 0 (sym (e refl))
+
+-- a model's body behind it
+pub reads-fields : (m : Model) → Writable m → Reads (readModelBody (m .version) (m .paper)) (writeFields m) (λ x. bare x ≡ bare m)
+unfolding readModelBody writeFields bare changed
+reads-fields m w =
     reads-then (reads-within 1 8 (m .variables) (w .least) (w .most))
     (λ n i.
     reads-then (reads-within 1 4 (length (m .components)) (w .some) (w .few))
@@ -179,4 +188,4 @@ reads-body m w =
     (λ u h. reads-unsafe (m .version) n (m .components) components u x (subst (λ (q : ℕ). WritableUnsafe (m .version) q (m .components) u) (sym i) h))
     (w .unsafe)))
     (λ unsafe y.
-    reads-give _ (λ z. record { version = m .version; variables = i z; owners = o z; components = x z; unsafe = y z })))))))
+    reads-give _ (λ z. record { version = m .version; paper = m .paper; variables = i z; owners = o z; components = x z; unsafe = y z })))))))

@@ -1,14 +1,14 @@
 -- A model that can be written reads back, whole, from what is written: the same but for where its rows stand. Assumes nothing.
 use mathlib.Core.Path.{_≡_, refl, sym, ap, ap₂, _∙_, subst}
 use mathlib.Core.Bool.{Bool, true, cond, _&&_}
-use mathlib.Core.List.{List, [], _∷_, _++_, append-nil}
+use mathlib.Core.List.{List, [], _∷_, _++_, append-nil, append-assoc}
 use Prim.Native.Nat.{ℕ, _+_, _≤_, _<_}
 use native.Mathlib.Omega.{arith}
 use lib.Dec.{T}
-use lib.ListN.{length, take}
+use lib.ListN.{length, take, length-append}
 use borrow.Author.Tests.{le-leb, eq-eqb}
 use Rattle.formats.specs.Versions.{versionFits, kindFits}
-use Rattle.formats.specs.Reading.{got, refused, Reader, _>>=_, _>>_, give, here, bigEndian, u8, u16, must, lengthRight, sized, header, finished}
+use Rattle.formats.specs.Reading.{got, refused, Reader, _>>=_, _>>_, give, here, bigEndian, u8, u16, must, lengthRight, sized, header, readPaper, finished}
 use Rattle.formats.specs.Model.{Model, readModelBody}
 use Rattle.formats.specs.Locations.{locationCount}
 use Rattle.formats.specs.Joint.{JointSwitch, joints}
@@ -16,10 +16,10 @@ use Rattle.formats.specs.declared.Limits.{Limits}
 use Rattle.formats.specs.ModelSheet.{Few, readWhole, readModel}
 use Rattle.formats.proofs.Gives.{bind-got, then-got}
 use Rattle.formats.proofs.ModelSheet.{few-reads}
-use Rattle.writing.specs.Writing.{half, writeBody, writeModel}
+use Rattle.writing.specs.Writing.{half, writeFields, writePaper, writeBody, writeModel}
 use Rattle.writing.specs.Changed.{changed, bareRows, bare}
 use Rattle.writing.proofs.ReadsLaws.{Reads, reads-then, reads-next, reads-give, reads-tested}
-use Rattle.writing.proofs.PartsBack.{half-back, reads-half, reads-body}
+use Rattle.writing.proofs.PartsBack.{half-back, reads-half, reads-paper, reads-fields}
 use Rattle.writing.proofs.ChangedJoints.{changed-locations, changed-joints}
 use Rattle.writing.proofs.Writable.{Writable}
 
@@ -54,23 +54,41 @@ sized-header : (s : List ℕ) {v p : ℕ} → lengthRight s ≡ true → afterSi
 unfolding header sized
 sized-header s right e = then-got sized afterSized s 0 (ap (λ b. cond b (got tt 0) (refused 1 0)) right) e
 
--- the body, behind the header: the model that is read, and where its reading ends
+-- the paper number and the body, behind the header: the model that is read, and where its reading ends
 module _ (m : Model) (w : Writable m) where
   before : List ℕ
   before = front (2 + length (writeBody m)) (m .version)
 
+  abbrev number : List ℕ
+  number = writePaper (m .version) (m .paper)
+
+  -- n's byte
+  abbrev place : ℕ
+  place = 4 + length number
+
   again : Model
-  again = reads-body m w .value before []
+  again = reads-fields m w .value (before ++ number) []
 
   again-same : bare again ≡ bare m
   unfolding again
-  again-same = reads-body m w .right before []
+  again-same = reads-fields m w .right (before ++ number) []
 
-  body-back : readModelBody (m .version) (writeModel m) 4 ≡ got again (4 + length (writeBody m))
-  unfolding writeModel half before again
+  paper-back : readPaper (m .version) (writeModel m) 4 ≡ got (m .paper) place
+  unfolding writeModel writeBody half before
+  paper-back =
+      let r = reads-paper (m .version) (m .paper) (w .paper) in
+      r .reads before (writeFields m) ∙ ap (λ (v : ℕ). got v place) (r .right before (writeFields m))
+
+  body-back : readModelBody (m .version) (m .paper) (writeModel m) place ≡ got again (4 + length (writeBody m))
+  unfolding writeModel writeBody half before again
   body-back =
-      ap (λ (b : List ℕ). readModelBody (m .version) (before ++ b) 4) (sym (append-nil (writeBody m)))
-      ∙ reads-body m w .reads before []
+      let behind = before ++ number in
+      let there : length behind ≡ place = length-append before number in
+      let whole : writeModel m ≡ behind ++ (writeFields m ++ []) = ap (λ (b : List ℕ). before ++ (number ++ b)) (sym (append-nil (writeFields m))) ∙ sym (append-assoc before number (writeFields m ++ [])) in
+      let end : length behind + length (writeFields m) ≡ 4 + length (writeBody m) = omega (arith, there, length-append number (writeFields m)) in
+      ap₂ (λ (s : List ℕ) (p : ℕ). readModelBody (m .version) (m .paper) s p) whole (sym there)
+      ∙ reads-fields m w .reads behind []
+      ∙ ap (λ (p : ℕ). got again p) end
 
   end-back : finished (writeModel m) (4 + length (writeBody m)) ≡ got tt (4 + length (writeBody m))
   unfolding finished
@@ -95,13 +113,14 @@ module _ (m : Model) (w : Writable m) (small : length (writeModel m) ≤ 32768) 
       let r = reads-front (2 + length (writeBody m)) (m .version) size-fits (w .version) in
       sized-header (writeModel m) written-right (r .reads [] (writeBody m) ∙ ap (λ (v : ℕ). got v 4) (r .right [] (writeBody m)))
 
-  whole-back : readWhole (writeModel m) 0 ≡ got (record { model = again m w; place = 4 }) (4 + length (writeBody m))
+  whole-back : readWhole (writeModel m) 0 ≡ got (record { model = again m w; place = place m w }) (4 + length (writeBody m))
   unfolding readWhole here give
   whole-back =
       bind-got (header 1) _ (writeModel m) 0 header-back
-      (bind-got here _ (writeModel m) 4 refl
-      (bind-got (readModelBody (m .version)) _ (writeModel m) 4 (body-back m w)
-      (then-got finished _ (writeModel m) (4 + length (writeBody m)) (end-back m w) refl)))
+      (bind-got (readPaper (m .version)) _ (writeModel m) 4 (paper-back m w)
+      (bind-got here _ (writeModel m) (place m w) refl
+      (bind-got (readModelBody (m .version) (m .paper)) _ (writeModel m) (place m w) (body-back m w)
+      (then-got finished _ (writeModel m) (4 + length (writeBody m)) (end-back m w) refl))))
 
 -- models that are the same but for where rows stand have as many locations and joint switches
 module _ (x m : Model) (e : bare x ≡ bare m) where
@@ -136,6 +155,6 @@ pub reads-back : (limits : Limits) (m : Model) → Writable m → length (writeM
 reads-back limits m w small few = record {
   again = again m w;
   end = 4 + length (writeBody m);
-  reads = few-reads limits (writeModel m) (record { model = again m w; place = 4 }) _ (whole-back m w small) (few-same (again m w) m (again-same m w) limits few);
+  reads = few-reads limits (writeModel m) (record { model = again m w; place = place m w }) _ (whole-back m w small) (few-same (again m w) m (again-same m w) limits few);
   same = again-same m w;
 }

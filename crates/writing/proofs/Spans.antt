@@ -7,13 +7,14 @@ use Prim.Native.Nat.{ℕ, zero, suc, _+_, _*_, _%_, _≤_}
 use native.Mathlib.Omega.{arith}
 use lib.Dec.{eqb}
 use lib.ListN.{length, length-append}
-use Rattle.formats.specs.Reading.{Got, got, refused, Reader, _>>=_, _>>_, give, here, field, u8, u16, u32, s32, must, within, below, many, each, lengthRight, sized, header}
+use Rattle.formats.specs.Versions.{hasPaper}
+use Rattle.formats.specs.Reading.{Got, got, refused, Reader, _>>=_, _>>_, give, here, field, u8, u16, u32, s32, must, within, below, many, each, lengthRight, sized, header, paperIf, readPaper}
 use Rattle.formats.specs.Rows.{readStrict, readRow, readCondition}
 use Rattle.formats.specs.Model.{Component, readMode, readSwitch, readComponent, readUnsafe, readModelBody}
 use Rattle.formats.specs.Joint.{joinAll}
 use Rattle.formats.proofs.Gives.{got-next, got-value, passes, tested}
 use Rattle.formats.proofs.FieldLaws.{field-read}
-use Rattle.writing.specs.Writing.{word, half, writeNumber, writeMark, writeRow, writeCondition, writeMode, writeSwitch, writeComponent, writeUnsafe, writeBody}
+use Rattle.writing.specs.Writing.{word, half, writeNumber, writeMark, writeRow, writeCondition, writeMode, writeSwitch, writeComponent, writeUnsafe, writeFields, paperBytes, writePaper}
 
 -- what is known of a reading from a place within the sheet: how many bytes it passed, that they were there, and what holds of its value
 -- and of their number
@@ -200,9 +201,17 @@ spans-unsafe version n components =
     (λ modes i a.
     spans-bind (spans-condition version 8 n) (λ rows j b. spans-give _ (omega (arith, length-append modes (writeCondition version rows)))))
 
-pub spans-body : (version : ℕ) → Spans (As writeBody) (readModelBody version)
-unfolding readModelBody writeBody
-spans-body version =
+pub spans-paper : (version : ℕ) → Spans (As (writePaper version)) (readPaper version)
+unfolding readPaper writePaper paperIf paperBytes u32 word
+spans-paper version = go (hasPaper version)
+  where
+    go : (b : Bool) → Spans (As (paperBytes b)) (paperIf b)
+    go true = spans-field 4
+    go false = spans-give 0 refl
+
+pub spans-fields : (version paper : ℕ) → Spans (As writeFields) (readModelBody version paper)
+unfolding readModelBody writeFields
+spans-fields version paper =
     spans-bind (spans-within 1 8)
     (λ n i a.
     spans-bind (spans-within 1 4)

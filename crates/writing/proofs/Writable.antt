@@ -7,7 +7,7 @@ use lib.Dec.{T, ltb, eqb}
 use lib.IntN.{ℤ}
 use lib.ListN.{length}
 use Rattle.farkas.specs.Lists.{All}
-use Rattle.formats.specs.Versions.{versionFits}
+use Rattle.formats.specs.Versions.{versionFits, hasPaper}
 use Rattle.formats.specs.Reading.{signed}
 use Rattle.formats.specs.Rows.{SheetRow, Condition}
 use Rattle.formats.specs.Model.{Mode, Switch, Component, Unsafe, Model, hasEvent}
@@ -77,9 +77,15 @@ pub record WritableUnsafe (version n : ℕ) (components : List Component) (u : U
   pub modes : Paired (λ c v. T (modeFits c v)) components (u .modes)
   pub rows : WritableCondition version 8 n (u .rows)
 
+-- a paper number of 32 bits, 0 where the version has none
+pub record PaperFits (version paper : ℕ) : Type 0 where
+  pub small : paper < 2 ^ 32
+  pub none : hasPaper version ≡ false → paper ≡ 0
+
 -- a whole model
 pub record Writable (m : Model) : Type 0 where
   pub version : T (versionFits 1 (m .version))
+  pub paper : PaperFits (m .version) (m .paper)
   pub least : 1 ≤ m .variables
   pub most : m .variables ≤ 8
   pub owned : length (m .owners) ≡ m .variables

@@ -23,6 +23,7 @@ unfoldable pub changed : (Condition → Condition) → Model → Model
 changed f m =
     record {
       version = m .version;
+      paper = m .paper;
       variables = m .variables;
       owners = m .owners;
       components = map (changedComponent f) (m .components);

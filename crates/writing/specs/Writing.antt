@@ -1,10 +1,11 @@
 -- A model as bytes: the writer of a model sheet, by the model's version (01, Sheet and Model, read the other way round; 02, order 4).
 -- Assumes nothing.
-use mathlib.Core.Bool.{Bool}
+use mathlib.Core.Bool.{Bool, true, false}
 use mathlib.Core.List.{List, [], _∷_, _++_}
 use Prim.Native.Nat.{ℕ, suc, _+_, _-_, _^_}
 use lib.IntN.{ℤ, pos, negsuc}
 use lib.ListN.{length}
+use Rattle.formats.specs.Versions.{hasPaper}
 use Rattle.formats.specs.Rows.{SheetRow, Condition}
 use Rattle.formats.specs.Model.{Mode, Switch, Component, Unsafe, Model}
 use Rattle.formats.specs.Joint.{joinAll}
@@ -56,13 +57,24 @@ writeUnsafe version u = u .modes ++ writeCondition version (u .rows)
 
 -- "u8 variables n, 1..8; u8 components c, 1..4; u8 unsafe conditions, 0..16. n bytes: each variable's owner, 0..c−1. Per component ..
 -- Per unsafe condition .."
-unfoldable pub writeBody : Model → List ℕ
-writeBody m =
+unfoldable pub writeFields : Model → List ℕ
+writeFields m =
     (m .variables ∷ [])
     ++ ((length (m .components) ∷ [])
     ++ ((length (m .unsafe) ∷ [])
     ++ (m .owners
     ++ (joinAll (writeComponent (m .version)) (m .components) ++ joinAll (writeUnsafe (m .version)) (m .unsafe)))))
+
+-- "begin their body with a u32 paper number" (02, order 7); nothing where a version has none
+unfoldable pub paperBytes : Bool → ℕ → List ℕ
+paperBytes true paper = word paper
+paperBytes false paper = []
+
+unfoldable pub writePaper : ℕ → ℕ → List ℕ
+writePaper version paper = paperBytes (hasPaper version) paper
+
+unfoldable pub writeBody : Model → List ℕ
+writeBody m = writePaper (m .version) (m .paper) ++ writeFields m
 
 -- "u16 L, the bytes that follow it; u8 version ..; u8 kind (1 model ..)", then the body
 unfoldable pub writeModel : Model → List ℕ

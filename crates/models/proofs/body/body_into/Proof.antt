@@ -1,18 +1,23 @@
 -- Counts, owners, components and unsafe conditions in a chain; each keeps the numbers of those before it. Assumes nothing.
-use mathlib.Core.Path.{_≡_, refl, sym, ap, _∙_}
+use mathlib.Core.Path.{_≡_, refl, sym, ap, ap₂, _∙_}
 use native.Mathlib.Omega.{arith}
 use borrow.Author.Needs.{needs}
 use denote.Ref.{now}
 use Rattle.formats.specs.Reading.{got, u8, many, below}
-use Rattle.models.specs.Index.{entry, ownerPlace, readTotals, totalsFrom, partsFrom}
+use Rattle.models.specs.Index.{entry, ownerPlace, paperIn, Kept, readTotals, totalsFrom, partsFrom}
 use Rattle.fields.specs.Answers.{gotAs}
 use Rattle.fields.proofs.ChainLaws.{told-at, told-refused}
 use Rattle.formats.specs.Joint.{countUp}
-use mathlib.Core.List.{map}
+use mathlib.Core.List.{List, map}
+use Prim.Native.Nat.{ℕ, _+_, _*_}
 use Rattle.models.proofs.BodyLaws.{totals-small, body-first, body-second, body-read, model-whole}
 use Rattle.models.proofs.body.body_into.Statement.{statement}
 use Rattle.models.proofs.body.body_into.Tie as tie
 use Rattle.models.proofs.IndexLaws.{kept-then, kept-wider}
+
+-- the paper number is kept
+paper-same : {x y : List ℕ} → Kept 0 3 x y → paperIn x ≡ paperIn y
+paper-same w = ap₂ (λ (a b : ℕ). a * 65536 + b) (sym (w .kept 12 (λ p q. omega arith))) (sym (w .kept 13 (λ p q. omega arith)))
 
 totals-into-requires : tie.Need-totals-into-requires
 totals-into-requires c κs = search needs
@@ -101,7 +106,7 @@ returns c =
     let a = c .before .before .before .before .before .before .before .before .before .args in
     let s = now (a .s) in
     let x = c .before .before .before .before .before .totals-into .last .1 .1 .0 in
-    (sym (body-first (a .version) s (a .at) (c .before .number .given .0 .0) (c .before .number .given .0 .1 .0) (told-refused (totalsFrom x) (readTotals s (a .at)) (c .before .before .before .before .before .totals-into .ensures .0) (c .before .number .given .1))), kept-wider (omega arith) (omega arith) (c .before .before .before .before .before .totals-into .ensures .1))
+    (sym (body-first (a .version) (paperIn (now (a .index))) s (a .at) (c .before .number .given .0 .0) (c .before .number .given .0 .1 .0) (told-refused (totalsFrom x) (readTotals s (a .at)) (c .before .before .before .before .before .totals-into .ensures .0) (c .before .number .given .1))), kept-wider (omega arith) (omega arith) (c .before .before .before .before .before .totals-into .ensures .1))
 
 same-length-2 : tie.Need-same-length-2
 same-length-2 c = search needs
@@ -119,7 +124,7 @@ returns-2 c =
     let y = c .before .before .before .before .before .owners-into .last .1 .1 .1 .1 .0 in
     let k₁ = c .before .before .before .before .before .owners-into .ensures .1 in
     let os = map (λ v. entry y (ownerPlace v)) (countUp 0 (entry x 0)) in
-    (sym (body-second (a .version) s (a .at) t second one (c .before .number2 .given .0 .0) (c .before .number2 .given .0 .1 .0) (told-refused os (many (entry x 0) (below (entry x 1) u8) s second) (c .before .before .before .before .before .owners-into .ensures .0) (c .before .number2 .given .1))), kept-then (kept-wider (omega arith) (omega arith) (c .before .before .before .before .before .before .before .before .before .before .before .before .before .before .before .totals-into .ensures .1)) (kept-wider (omega arith) (omega arith) (k₁)))
+    (sym (body-second (a .version) (paperIn (now (a .index))) s (a .at) t second one (c .before .number2 .given .0 .0) (c .before .number2 .given .0 .1 .0) (told-refused os (many (entry x 0) (below (entry x 1) u8) s second) (c .before .before .before .before .before .owners-into .ensures .0) (c .before .number2 .given .1))), kept-then (kept-wider (omega arith) (omega arith) (c .before .before .before .before .before .before .before .before .before .before .before .before .before .before .before .totals-into .ensures .1)) (kept-wider (omega arith) (omega arith) (k₁)))
 
 same-length-3 : tie.Need-same-length-3
 same-length-3 c = search needs
@@ -141,8 +146,9 @@ returns-3 c =
     let third = c .before .before .before .before .before .third .given .0 .0 in
     let two = told-at os (many (entry x 0) (below (entry x 1) u8) s second) (c .before .before .before .before .before .before .before .before .before .owners-into .ensures .0) (c .before .before .before .before .before .third .given .1) in
     let p = partsFrom s (a .version) (entry x 0) (entry x 1) (entry x 2) z in
-    let e = body-read (a .version) s (a .at) t second one os third two p (c .before .before .parts-into .result) (c .before .before .parts-into .ensures .0) in
-    (ap (λ w. gotAs w (c .before .before .parts-into .result)) (model-whole (a .version) s x y z os (c .before .before .before .before .before .before .before .before .before .before .before .before .before .before .before .before .before .before .before .before .before .before .before .pre .1 ∙ sym (c .before .before .before .before .before .before .before .before .before .before .before .before .before .before .before .before .before .before .before .totals-into .ensures .1 .kept 11 (λ p q. omega arith))) refl k₁ (c .before .before .parts-into .ensures .1) (small .most)) ∙ e, kept-then (kept-wider (omega arith) (omega arith) (c .before .before .before .before .before .before .before .before .before .before .before .before .before .before .before .before .before .before .before .totals-into .ensures .1)) (kept-then (kept-wider (omega arith) (omega arith) (k₁)) (kept-wider (omega arith) (omega arith) (c .before .before .parts-into .ensures .1))))
+    let first = c .before .before .before .before .before .before .before .before .before .before .before .before .before .before .before .before .before .before .before .totals-into .ensures .1 in
+    let e = body-read (a .version) (paperIn (now (a .index))) s (a .at) t second one os third two p (c .before .before .parts-into .result) (c .before .before .parts-into .ensures .0) in
+    (ap (λ w. gotAs w (c .before .before .parts-into .result)) (model-whole (a .version) (paperIn (now (a .index))) s x y z os (c .before .before .before .before .before .before .before .before .before .before .before .before .before .before .before .before .before .before .before .before .before .before .before .pre .1 ∙ sym (c .before .before .before .before .before .before .before .before .before .before .before .before .before .before .before .before .before .before .before .totals-into .ensures .1 .kept 11 (λ p q. omega arith))) (paper-same first) refl k₁ (c .before .before .parts-into .ensures .1) (small .most)) ∙ e, kept-then (kept-wider (omega arith) (omega arith) (c .before .before .before .before .before .before .before .before .before .before .before .before .before .before .before .before .before .before .before .totals-into .ensures .1)) (kept-then (kept-wider (omega arith) (omega arith) (k₁)) (kept-wider (omega arith) (omega arith) (c .before .before .parts-into .ensures .1))))
 
 pub body-into-spec : {M : Type 1} → statement M
 body-into-spec =
