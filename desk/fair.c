@@ -1,8 +1,8 @@
 #include "fair.h"
 
 #include "marker.h"
-#include "model.h"
 #include "status.h"
+#include "version.h"
 #include "words.h"
 
 #include <inttypes.h>
@@ -43,11 +43,15 @@ int write_fair_copy(const struct paper *paper, const char *name)
     return ACCEPTED;
 }
 
-/* The same rows may mean other runs in another version. */
-static void print_versions_if_different(const struct sheet *model, const struct sheet *other)
+/* The versions, which may give the same rows other runs, or the paper numbers. The copies have them too. */
+static void print_heads_if_different(const struct sheet *model, const struct sheet *other)
 {
-    if (model_version(model) != model_version(other))
-        printf("Versions: %u and %u.\n", model_version(model), model_version(other));
+    uint32_t number = sheet_paper_number(model);
+    uint32_t other_number = sheet_paper_number(other);
+    if (sheet_version(model) != sheet_version(other))
+        printf("Versions: %u and %u.\n", sheet_version(model), sheet_version(other));
+    else if (number != other_number)
+        printf("Paper numbers: %" PRIu32 " and %" PRIu32 ".\n", number, other_number);
 }
 
 int compare_fair_copies(const struct paper *paper)
@@ -58,7 +62,7 @@ int compare_fair_copies(const struct paper *paper)
         return REFUSED;
     if (first.length != second.length || memcmp(first.bytes, second.bytes, first.length) != 0) {
         printf("Different: %s and %s have different fair copies.\n", paper->model.name, other.model.name);
-        print_versions_if_different(&paper->model, &other.model);
+        print_heads_if_different(&paper->model, &other.model);
         return DIFFERENT;
     }
     printf("Same: %s and %s have the same fair copy.\n", paper->model.name, other.model.name);

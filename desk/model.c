@@ -1,27 +1,24 @@
 #include "model.h"
 
-/* Document 01, Sheet and Model: the version, the first fields, and the fields before a component's modes. */
-enum { VERSION_AT = 2, VARIABLES_AT = 4, COMPONENTS_AT = 5, OWNERS_AT = 7 };
-enum { MODES_IN = 2, SWITCHES_IN = 3, COMPONENT_HEAD = 4, CONDITIONS_OF_MODE = 3 };
+#include "version.h"
 
-uint8_t model_version(const struct sheet *model)
-{
-    return sheet_byte(model, VERSION_AT);
-}
+/* Document 01, Model: the first fields, counted from n, and the fields before a component's modes. */
+enum { VARIABLES_IN = 0, COMPONENTS_IN = 1, OWNERS_IN = 3 };
+enum { MODES_IN = 2, SWITCHES_IN = 3, COMPONENT_HEAD = 4, CONDITIONS_OF_MODE = 3 };
 
 size_t model_variables(const struct sheet *model)
 {
-    return sheet_byte(model, VARIABLES_AT);
+    return sheet_byte(model, sheet_fields_at(model) + VARIABLES_IN);
 }
 
 size_t model_components(const struct sheet *model)
 {
-    return sheet_byte(model, COMPONENTS_AT);
+    return sheet_byte(model, sheet_fields_at(model) + COMPONENTS_IN);
 }
 
 size_t model_owner(const struct sheet *model, size_t variable)
 {
-    return sheet_byte(model, OWNERS_AT + variable);
+    return sheet_byte(model, sheet_fields_at(model) + OWNERS_IN + variable);
 }
 
 /* Where a condition ends that begins at an offset, and whose rows have so many coefficients. */
@@ -54,7 +51,7 @@ void model_modes(const struct sheet *model, uint32_t location, uint32_t modes[MO
 {
     uint32_t counts[MOST_COMPONENTS] = {1, 1, 1, 1};
     size_t components = model_components(model);
-    size_t at = OWNERS_AT + model_variables(model);
+    size_t at = sheet_fields_at(model) + OWNERS_IN + model_variables(model);
     for (size_t k = 0; k < components; k++) {
         counts[k] = sheet_byte(model, at + MODES_IN);
         at = component_end(model, at);

@@ -1,5 +1,4 @@
-/* What stands where in a model sheet. The model must be one that the marker does not refuse; only model_version and model_joints take
-   any. */
+/* What stands where in a model sheet. The model must be one that the marker does not refuse; only model_joints takes any. */
 #ifndef DESK_MODEL_H
 #define DESK_MODEL_H
 
@@ -10,7 +9,6 @@
 /* The greatest counts of document 01, and the switch number of a component that stays. */
 enum { MOST_VARIABLES = 8, MOST_COMPONENTS = 4, STAYS = 255 };
 
-uint8_t model_version(const struct sheet *model);
 size_t model_variables(const struct sheet *model);
 size_t model_components(const struct sheet *model);
 

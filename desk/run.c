@@ -1,6 +1,7 @@
 #include "run.h"
 
 #include "model.h"
+#include "version.h"
 #include "words.h"
 
 #include <inttypes.h>
@@ -9,13 +10,13 @@
 /* The numbers of these refusals. */
 enum { START_REFUSED = 12, STEP_REFUSED = 13, END_REFUSED = 14 };
 
-/* Document 01, Run sheet: the fields before the steps. */
-enum { Q_AT = 4, LOCATION_AT = 10, VALUES_AT = 11 };
+/* Document 01, Run sheet: the fields before the steps, counted from q. */
+enum { Q_IN = 0, LOCATION_IN = 6, VALUES_IN = 7 };
 
 /* A whole number over the run's q. */
 static void print_fraction(const struct sheet *run, int64_t whole)
 {
-    uint32_t q = sheet_unsigned(run, Q_AT);
+    uint32_t q = sheet_unsigned(run, sheet_fields_at(run) + Q_IN);
     printf("%" PRId64, whole);
     if (q != 1)
         printf("/%" PRIu32, q);
@@ -31,12 +32,18 @@ static void print_values(const struct sheet *model, const struct sheet *run, siz
     printf(".\n");
 }
 
+/* The first location, before the values. */
+static void print_first_location(const struct sheet *model, const struct sheet *run)
+{
+    print_location(model, sheet_byte(run, sheet_fields_at(run) + LOCATION_IN));
+    printf(", ");
+}
+
 static void print_start(const struct sheet *model, const struct sheet *run)
 {
     printf("Start: ");
-    print_location(model, sheet_byte(run, LOCATION_AT));
-    printf(", ");
-    print_values(model, run, VALUES_AT);
+    print_first_location(model, run);
+    print_values(model, run, sheet_fields_at(run) + VALUES_IN);
 }
 
 /* What a flow says after its first byte. Returns the offset of its new values. */
@@ -72,10 +79,8 @@ static void print_step(const struct sheet *model, const struct sheet *run, size_
 static void print_end(const struct sheet *model, const struct sheet *run, uint32_t steps)
 {
     printf("Last state, which is not unsafe: ");
-    if (steps == 0) {
-        print_location(model, sheet_byte(run, LOCATION_AT));
-        printf(", ");
-    }
+    if (steps == 0)
+        print_first_location(model, run);
     print_values(model, run, run->length - 4 * model_variables(model));
 }
 

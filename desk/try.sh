@@ -115,6 +115,11 @@ proof() {
     for hypothesis in "${@:2}"; do printf '%02x 00 00 00 01 ' "$hypothesis"; done
 }
 
+# numbered FROM TO NUMBER: a sheet as one of version 3 with this paper number; its kind and the rest of its body stay
+numbered() {
+    sheet "$2" 03 $(od -A n -t x1 -v -j 3 -N 1 "$1") $(numbers "$3") $(od -A n -t x1 -v -j 4 "$1")
+}
+
 # bytes FILE: what it holds
 bytes() {
     echo "$1:"
@@ -338,7 +343,7 @@ try desk --row 0 129 most.model most.certificate
 echo '# Versions that no model or no second sheet has; a model of version 2 that is refused for other things'
 edit blanks.model none.model 2 00
 try desk none.model blanks.certificate
-edit blanks.model later.model 2 03
+edit blanks.model later.model 2 04
 try desk later.model blanks.run
 try desk --joints later.model
 edit blanks.certificate later.certificate 2 02
@@ -362,10 +367,155 @@ try desk --same blanks.model blanks.copy
 try desk --same blanks.model free.model
 try desk --same free.model later.model
 
+# Sheets of the examples and of this script as sheets of version 3 with the paper number 7, by the same names in another folder.
+head -c 65 examples/tank.model >cut-end.model
+edit blanks.certificate left-over.certificate 88 00
+mkdir seven
+for name in {tank,unsafe-tank,still,plant,unsafe-plant}.model {tank,still,plant}.certificate {tank,unsafe-plant}.run; do
+    numbered "examples/$name" "seven/$name" 7
+done
+for name in {blanks,unsafe-blanks,modes,other,cut-end}.model {blanks,modes,jump,left-over}.certificate \
+    {blanks,blank-flow,blank-jump,start,other-start}.run tank.copy; do
+    numbered "$name" "seven/$name" 7
+done
+sheet seven/half.run 03 03 $(numbers 7 2) 00 02 00 $(numbers 0 8) 00 $(numbers 2 4 8) 01 00 ff 00 $(numbers 4 8)
+edit seven/half.run seven/late.run 44 00 00 00 09
+
+echo '# Version 3: accepted, with one paper number in both sheets; the least and the greatest number'
+try desk seven/tank.model seven/tank.certificate
+try desk seven/still.model seven/still.certificate
+try desk seven/blanks.model seven/blanks.certificate
+try desk seven/unsafe-blanks.model seven/blanks.run
+try desk seven/unsafe-blanks.model seven/half.run
+try desk --practice seven/tank.model seven/tank.certificate
+for number in 0 4294967295; do
+    numbered examples/tank.model number.model $number
+    numbered examples/tank.certificate number.certificate $number
+    try desk number.model number.certificate
+done
+
+echo '# Version 3: a model cut, proofs refused, against an unsafe condition and after jumps, and a byte left'
+try desk seven/cut-end.model seven/tank.certificate
+try desk seven/unsafe-tank.model seven/tank.certificate
+try desk seven/plant.model seven/jump.certificate
+try desk seven/plant.model seven/plant.certificate
+try desk seven/blanks.model seven/left-over.certificate
+
+echo '# Version 3: runs refused, the start, flows and jumps, the end with and without steps'
+try desk seven/tank.model seven/start.run
+try desk seven/unsafe-plant.model seven/other-start.run
+try desk seven/unsafe-plant.model seven/unsafe-plant.run
+try desk seven/blanks.model seven/blank-flow.run
+try desk seven/blanks.model seven/blank-jump.run
+try desk seven/blanks.model seven/late.run
+try desk seven/blanks.model seven/half.run
+try desk seven/tank.model seven/tank.run
+
+echo '# Rows in version 3: initial, region, flow, unsafe, jump, of a component that stays, of blanks; no such row'
+try desk --row 0 3 seven/plant.model seven/plant.certificate
+try desk --row 87 3 seven/plant.model seven/plant.certificate
+try desk --row 3 14 seven/plant.model seven/plant.certificate
+try desk --row 30 9 seven/plant.model seven/plant.certificate
+try desk --row 4 1 seven/blanks.model seven/blanks.certificate
+try desk --row 4 3 seven/blanks.model seven/blanks.certificate
+try desk --row 4 4 seven/blanks.model seven/blanks.certificate
+try desk --row 87 18 seven/plant.model seven/plant.certificate
+try desk --row 1 2 seven/modes.model seven/modes.certificate
+try desk --row 5 0 seven/blanks.model seven/blanks.certificate
+
+echo '# Paper numbers that differ, in each of their bytes; before all that follows them'
+for number in 8 263 65543 16777223; do
+    numbered examples/tank.certificate number.certificate $number
+    try desk seven/tank.model number.certificate
+done
+numbered examples/tank.run number.run 4294967295
+try desk seven/tank.model number.run
+try desk number.model seven/tank.run
+try desk --row 0 0 seven/tank.model number.certificate
+sheet short.certificate 03 02 $(numbers 8)
+try desk seven/tank.model short.certificate
+try desk --practice seven/tank.model short.certificate
+try desk --row 9 9 seven/tank.model short.certificate
+
+echo '# Versions that do not go together, before all of the body; a version that no second sheet has, and another kind, come first'
+try desk examples/tank.model seven/tank.certificate
+try desk examples/still.model seven/tank.certificate
+try desk seven/tank.model examples/tank.certificate
+try desk examples/tank.model seven/tank.run
+try desk blanks.model seven/blanks.run
+try desk seven/blanks.model blanks.run
+try desk --row 0 0 examples/tank.model seven/tank.certificate
+try desk --row 9 9 seven/tank.model examples/tank.certificate
+sheet bare.certificate 03 02
+try desk examples/tank.model bare.certificate
+sheet old.certificate 01 02
+try desk seven/tank.model old.certificate
+try desk seven/blanks.model later.certificate
+edit seven/tank.certificate latest.certificate 2 04
+try desk seven/tank.model latest.certificate
+try desk examples/tank.model latest.certificate
+try desk seven/tank.model examples/tank.model
+try desk examples/tank.model seven/tank.model
+
+echo '# Paper numbers that are cut, and a body that ends with its paper number'
+sheet bare.model 03 01
+try desk bare.model seven/tank.certificate
+sheet cut.model 03 01 00 00 07
+try desk cut.model seven/tank.run
+try desk --row 0 0 cut.model seven/tank.certificate
+try desk --joints cut.model
+try desk --fair cut.model new.copy
+found new.copy tank.copy
+try desk --same seven/tank.model cut.model
+try desk seven/tank.model bare.certificate
+sheet cut.run 03 03 00 00 08
+try desk seven/tank.model cut.run
+sheet short.model 03 01 $(numbers 7)
+try desk short.model seven/tank.certificate
+sheet short.certificate 03 02 $(numbers 7)
+try desk seven/tank.model short.certificate
+sheet short.run 03 03 $(numbers 7)
+try desk seven/tank.model short.run
+
+echo '# The first field after the paper number: n out of its range, and of models over a limit; the count of regions; q'
+edit seven/tank.model none.model 8 00
+try desk none.model seven/tank.certificate
+try desk --limits 7 22 seven/plant.model seven/plant.certificate
+try desk --limits 8 21 seven/plant.model seven/plant.certificate
+try desk --limits 8 22 seven/plant.model seven/plant.certificate
+try desk --limits 7 22 --joints seven/plant.model
+try desk --limits 8 21 --fair seven/plant.model new.copy
+found new.copy tank.copy
+try desk --limits 8 21 --row 0 3 seven/plant.model seven/plant.certificate
+edit seven/tank.certificate two.certificate 8 02
+try desk seven/tank.model two.certificate
+edit seven/tank.run zero.run 8 00 00 00 00
+try desk seven/tank.model zero.run
+
+echo '# Joint switches in version 3; a fair copy has the paper number of its model, so that runs of the model are runs of it'
+try desk --joints seven/plant.model
+try desk --fair seven/tank.model copy-of-seven
+bytes copy-of-seven
+found copy-of-seven seven/tank.copy
+try desk --fair seven/other.model other-copy-of-seven
+found other-copy-of-seven seven/tank.copy
+try desk --fair seven/unsafe-blanks.model blanks-copy-of-seven
+try desk blanks-copy-of-seven seven/blanks.run
+try desk blanks-copy-of-seven blanks.run
+try desk --same seven/tank.model seven/other.model
+numbered other.model number.model 8
+try desk --same seven/tank.model number.model
+try desk --same seven/tank.model seven/unsafe-tank.model
+try desk --same seven/tank.model examples/tank.model
+
 echo '# Sheets of any length'
 head -c 32768 /dev/zero >zeros
 edit zeros longest.model 0 7f fe 01 01
 try desk longest.model examples/tank.certificate
+edit zeros longest.model 0 7f fe 03 01
+try desk longest.model seven/tank.certificate
+edit zeros longest.run 0 7f fe 03 03 00 00 00 07
+try desk seven/tank.model longest.run
 head -c 40000 /dev/zero >zeros
 edit zeros overlong.model 0 9c 3e 01 01
 try desk overlong.model examples/tank.certificate
@@ -387,6 +537,7 @@ try desk --same empty empty
 
 echo '# Null pointers in place of each sheet, of the table, of the buffer and of a typed text'
 try null examples/plant.model examples/plant.certificate examples/unsafe-plant.run examples/tank.model
+try null seven/plant.model seven/plant.certificate seven/unsafe-plant.run seven/tank.model
 
 # Models without rows: a component of each of the numbers of modes, and no switches; or one mode in each of four components, with so many
 # switches each that move together, and in the last component as many that move alone as the second number says. Certificates without
@@ -423,6 +574,11 @@ try desk 72.model 64.certificate
 try desk 4096.model 1.certificate
 try desk 4097.model 1.certificate
 try desk --joints 4097.model
+for name in {64,72,4096,4097}.model {64,1}.certificate; do numbered $name seven/$name 7; done
+try desk seven/64.model seven/64.certificate
+try desk seven/72.model seven/64.certificate
+try desk seven/4096.model seven/1.certificate
+try desk seven/4097.model seven/1.certificate
 
 echo '# The practice desk: on both sides of its limits, accepted, refused, rows, joint switches and fair copies'
 try desk --practice 16.model 16.certificate

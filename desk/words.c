@@ -1,13 +1,17 @@
 #include "words.h"
 
+#include "version.h"
+
 #include <inttypes.h>
 #include <stdio.h>
 
-/* The numbers of a header that does not fit and of a model over a limit, and the sheets of a place: the model and the call itself. */
-enum { OTHER_VERSION = 2, OTHER_KIND = 3, OVER_LOCATIONS = 7, OVER_JOINTS = 8 };
+/* The numbers of a header that does not fit, of a model over a limit and of a second sheet that is not the model's, and the sheets of a
+   place: the model and the call itself. */
+enum { OTHER_VERSION = 2, OTHER_KIND = 3, OVER_LOCATIONS = 7, OVER_JOINTS = 8, OTHER_PAPER = 18 };
 enum { IN_MODEL = 0, IN_CALL = 2 };
 
-/* By the number of the answer. That of a version is said by the sheet, those of a model over a limit with the limit. */
+/* By the number of the answer. That of a version is said by the sheet, those of a model over a limit with the limit, that of sheets that do
+   not belong together with what differs. */
 static const char *const meanings[] = {
     "accepted",
     "the sheet has under 4 or over 32,768 bytes, or its first two bytes do not say how many follow",
@@ -29,7 +33,7 @@ static const char *const meanings[] = {
 /* Which versions the sheet may have instead. */
 static void print_other_version(uint32_t sheet)
 {
-    fputs(sheet == IN_MODEL ? "the model's version is neither 1 nor 2" : "the second sheet's version is not 1", stdout);
+    fputs(sheet == IN_MODEL ? "the model's version is not 1, 2 or 3" : "the second sheet's version is neither 1 nor 3", stdout);
 }
 
 /* The limit that a model is over. */
@@ -42,14 +46,28 @@ static void print_over(uint32_t number, const struct limits *limits)
         print_joints(limits->joints);
 }
 
-void print_meaning(const struct silfoddra_answer *answer, const struct limits *limits)
+/* Why the second sheet is not the model's: the place is that of its version or of its paper number. */
+static void print_other_paper(uint32_t place, const struct sheet *model, const struct sheet *second)
+{
+    printf("the sheets do not belong together: ");
+    if (place == VERSION_AT)
+        printf("a model of version %u takes a second sheet of version %u, and this one has version %u", sheet_version(model),
+               second_version(model), sheet_version(second));
+    else
+        printf("the model's paper number is %" PRIu32 ", and the second sheet's is %" PRIu32, sheet_paper_number(model),
+               sheet_paper_number(second));
+}
+
+void print_meaning(const struct silfoddra_answer *answer, const struct paper *paper)
 {
     uint32_t number = answer->number;
     printf("Refused (%" PRIu32 "): ", number);
     if (number == OTHER_VERSION)
         print_other_version(answer->sheet);
     else if (number == OVER_LOCATIONS || number == OVER_JOINTS)
-        print_over(number, limits);
+        print_over(number, &paper->limits);
+    else if (number == OTHER_PAPER)
+        print_other_paper(answer->place, &paper->model, &paper->second);
     else
         fputs(number < sizeof meanings / sizeof *meanings ? meanings[number] : "an unknown number", stdout);
     printf(".\n");
@@ -61,7 +79,7 @@ void print_refusal(const struct silfoddra_answer *answer, const struct paper *pa
         print_limits_refusal(answer->number, &paper->limits);
         return;
     }
-    print_meaning(answer, paper == NULL ? NULL : &paper->limits);
+    print_meaning(answer, paper);
     if (answer->sheet == IN_CALL)
         printf("Place: the numbers given to the desk.\n");
     else
@@ -75,9 +93,13 @@ int is_version_known(const struct silfoddra_answer *answer)
 
 void print_version(const struct sheet *model)
 {
-    uint8_t version = model_version(model);
-    if (version != 1)
-        printf("Model of version %u: a variable keeps its value where no row of its component says how it may change.\n", version);
+    uint8_t version = sheet_version(model);
+    if (version == 1)
+        return;
+    printf("Model of version %u", version);
+    if (sheet_has_paper_number(model))
+        printf(", paper number %" PRIu32, sheet_paper_number(model));
+    printf(": a variable keeps its value where no row of its component says how it may change.\n");
 }
 
 void print_location(const struct sheet *model, uint32_t location)

@@ -7,16 +7,16 @@
 #include "paper.h"
 #include "sheet.h"
 
-/* Why a paper or a text is refused. The limits are looked at only where the model is over one of them. */
-void print_meaning(const struct silfoddra_answer *answer, const struct limits *limits);
+/* Why a paper or a text is refused. The paper is null for a typed row. */
+void print_meaning(const struct silfoddra_answer *answer, const struct paper *paper);
 
-/* The same, and the place. The paper is null for a typed row. */
+/* The same, and the place. */
 void print_refusal(const struct silfoddra_answer *answer, const struct paper *paper);
 
 /* Whether a refused paper's model has a version: not where the limits or the model's header are refused. */
 int is_version_known(const struct silfoddra_answer *answer);
 
-/* The model's version and what it means, unless it is 1. */
+/* The model's version, its paper number if it has one, and what the version means, unless it is 1. */
 void print_version(const struct sheet *model);
 
 /* The rest is said of a model that the marker does not refuse. */

@@ -1,6 +1,6 @@
 /* The marker of papers about hybrid automata, for C. Link with the archive that `rt staticlib entries` writes.
-   Document 01 defines the sheets and the answer, document 02 models of version 2, typed rows, fair copies and the limits of a desk; what
-   each call answers is proved for all bytes and all limits. */
+   Document 01 defines the sheets and the answer, document 02 versions 2 and 3 of sheets, typed rows, fair copies and the limits of a desk;
+   what each call answers is proved for all bytes and all limits. */
 #ifndef SILFODDRA_MARKER_H
 #define SILFODDRA_MARKER_H
 
@@ -14,7 +14,7 @@ extern "C" {
 /* What every call hands back. */
 struct silfoddra_answer {
     /* 0 if the paper is accepted, else why it is refused:
-        1 a sheet under 4 or over 32,768 bytes, or its L wrong     2 version: not 1 or 2 in a model, not 1 elsewhere
+        1 a sheet under 4 or over 32,768 bytes, or its L wrong     2 version: not 1, 2 or 3 in a model, not 1 or 3 elsewhere
         3 kind                                                      4 the body cut in a field, or bytes left
         5 a field, argument or limit outside its range              6 a label from 1 that is not in its alphabet
         7 more locations than the caller's limit                    8 more joint switches than the caller's limit
@@ -22,11 +22,14 @@ struct silfoddra_answer {
        11 bound fails                                              12 the run's start not allowed
        13 a step not allowed                                       14 the run's end not unsafe
        15 the table or buffer too short (joint list, fair copy)    16 a text that is no row (typed rows only, as 17)
-       17 a product of variables, a letter beyond n, or a result outside s32 */
+       17 a product of variables, a letter beyond n, or a result outside s32
+       18 a second sheet that is not the model's: a version that does not go with the model's, or another paper number */
     uint32_t number;
     /* Where the place is: 0 in the model, 1 in the second sheet, 2 the call itself. */
     uint32_t sheet;
     /* A byte offset into that sheet, counted from 0: of the field, proof or step that is refused, or of the first byte left.
+       For 7 and 8 it is n's byte: 4, or 8 in a model of version 3. For 12 it is the location byte: 10, or 14 in a run sheet of version 3.
+       For 18 it is 2, the version, or 4, the paper number.
        On acceptance the length of the second sheet, or of the model where there is no other. At sheet 2 as the call says. */
     uint32_t place;
     /* How many proofs or steps passed, in order, before marking stopped; 0 where none was reached. In the joint list the records, in the
@@ -70,7 +73,7 @@ struct silfoddra_row {
         0 an initial row, on x      1 a region row, on x            2 an invariant row, on x
         3 an unsafe row, on x       4 an invariant row, on x'       5 a flow row, on the rates
         6 -d <= 0                   7 a jump row, on x and x'       8 of a variable that stays: x' - x <= 0, then x - x' <= 0
-       A variable stays in a jump if its owner does not move; in a model of version 2 also where it is a blank, in a jump or a flow. */
+       A variable stays in a jump if its owner does not move; in a model of version 2 or 3 also where it is a blank, in a jump or a flow. */
     uint32_t role;
     /* The component whose row it is, for roles 0, 2, 4, 5 and 7; the variable that stays, for role 8; 0 for roles 1, 3 and 6. */
     uint32_t owner;
@@ -79,10 +82,19 @@ struct silfoddra_row {
 /* The calls take sheets as they were handed in: the bytes, of any length, and how many there are. A null pointer with length 0 is an
    empty sheet; with any other length the pointer must not be null. The bytes are only read, and nothing of them is kept. */
 
-/* A model has version 1 or 2; certificates and run sheets have version 1, whichever their model has. The model's version decides what a
-   blank means, in every call. A variable is a blank in a flow if all flow rows of its owner's present mode have coefficient 0 at it, and in
-   a jump that moves its owner if all rows of the owner's switch have coefficient 0 at its value after the jump. Rows of other components do
-   not count, and where the owner's mode has no flow rows, or its switch no rows, the variable is a blank. In version 2 a blank keeps its value; in version 1 it need not. */
+/* A model has version 1, 2 or 3, a certificate or a run sheet version 1 or 3. A model of version 1 or 2 takes a second sheet of version 1,
+   a model of version 3 one of version 3.
+   The body of a sheet of version 3 begins, at byte 4, with a paper number: a u32 of any value. All other fields follow it, four bytes later
+   than in a sheet of version 1 or 2. A model and its second sheet must have the same paper number.
+   Every call on two sheets reads the model, then the second sheet, which is refused in this order: 1, 2, 3; 18 at place 2 if its version
+   does not go with the model's; in version 3, 4 at place 4 if its paper number is cut, then 18 at place 4 if that is not the model's; then
+   for its other fields. With 18, done and score are 0. A call on a model alone reads the paper number, which may be cut there too, and does
+   nothing with it. */
+
+/* The model's version decides what a blank means, in every call. A variable is a blank in a flow if all flow rows of its owner's present
+   mode have coefficient 0 at it, and in a jump that moves its owner if all rows of the owner's switch have coefficient 0 at its value after
+   the jump. Rows of other components do not count, and where the owner's mode has no flow rows, or its switch no rows, the variable is a
+   blank. In versions 2 and 3 a blank keeps its value; in version 1 it need not. */
 
 /* Every call that reads a model takes two limits, last: the most locations and the most joint switches that the model may have. Each
    caller states its own, in every call. A model with more is refused, by 7 or 8; one with just as many is not.
@@ -130,7 +142,7 @@ struct silfoddra_answer silfoddra_joint_list(const uint8_t *model, size_t model_
    by the greatest common divisor of all its numbers, the bound too, so that nothing is rounded: 2x <= 3 stays. A row with zero
    coefficients is left out if its bound is at least 0, else its bound becomes -1. The rows of each condition are sorted, ascending by
    their coefficients, as signed numbers from the first on, then by the bound; equal rows stand once. All else is as in the model, its
-   version too, but for the counts of rows and the sheet's length.
+   version and its paper number too, but for the counts of rows and the sheet's length.
    The copy reads well under the same limits and is no longer than the model; it allows the same runs and unsafe states, and is its own
    fair copy. A certificate belongs to the sheet that it was drawn for: it need not fit the copy.
    The answer has number 0, sheet 0, the model's length as its place, and done, the bytes written: the first ones of the buffer. Later

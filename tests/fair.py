@@ -54,10 +54,10 @@ def fair_component(component):
 
 
 def fair_sheet(model):
-    """The model with each condition's rows made fair, and all else as it was, its version too."""
+    """The model with each condition's rows made fair, and all else as it was, its version and its paper number too."""
     components = [fair_component(component) for component in model.components]
     copy = sheet.model(model.owners, components, [(u.modes, fair_condition(u.rows)) for u in model.unsafe])
-    return copy.set('version', model.version)
+    return copy.versioned(model.version, model.paper)
 
 
 def fair_copy(model_sheet, lent, limits=marker.EXAM):

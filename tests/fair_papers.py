@@ -1,5 +1,5 @@
-"""The fair copies that crates/calls_test asks for, and what it must print for each, from document 02, orders 4 and 6: `records` and `lines`,
-which tests/typed_papers.py writes after its texts.
+"""The fair copies that crates/calls_test asks for, and what it must print for each, from document 02, orders 4, 6 and 7: `records` and
+`lines`, which tests/typed_papers.py writes after its texts.
 
 The lines come from tests/fair.py, a second reading. Where the order itself settles a copy or a refusal the paper states it here as well,
 and the script stops where the two differ. Nearly every copy is stated as a model with its rows written out.
@@ -38,10 +38,12 @@ def shown(buffer):
 
 
 def mentioned(data):
-    """A model's version, the variables that the flow rows of each mode mention, and those that the rows of each switch mention after."""
+    """A model's version and paper number, the variables that the flow rows of each mode mention, and those that the rows of each switch mention
+    after."""
     m = marker.read_model(data)
     flows = [[v for v in range(m.n) if not marker.unmentioned(v, a.flow)] for part in m.components for a in part.modes]
-    return m.version, flows, [[v for v in range(m.n) if not marker.unmentioned(m.n + v, s.jump)] for part in m.components for s in part.switches]
+    jumps = [[v for v in range(m.n) if not marker.unmentioned(m.n + v, s.jump)] for part in m.components for s in part.switches]
+    return m.version, m.paper, flows, jumps
 
 
 def call(label, original, room, limits=EXAM):
@@ -247,10 +249,11 @@ def respelled(original, turn):
     components = [component(
         [mode(a.start, spelled(a.initial), spelled(a.invariant), spelled(a.flow)) for a in part.modes],
         [switch(s.source, s.target, s.label, spelled(s.jump)) for s in part.switches], part.alphabet) for part in m.components]
-    return model(m.owners, components, [(u.modes, spelled(u.rows)) for u in m.unsafe]).set('version', m.version)
+    return model(m.owners, components, [(u.modes, spelled(u.rows)) for u in m.unsafe]).versioned(m.version, m.paper)
 
 
-for name, original in (('T', T), ('several', made), ('plant', SAFE_PLANT), ('still tank', STILL_TANK)):
+for name, original in (
+        ('T', T), ('several', made), ('plant', SAFE_PLANT), ('still tank', STILL_TANK), ('still tank of version 3', STILL_TANK.versioned(3, 7))):
     needed = call(f'{name} to be spelled anew', original, 1800)[0][3]
     data = fair.fair_copy(original.bytes(), bytes(needed))[1]
     for turn in (1, 2, 3):
@@ -276,6 +279,24 @@ for name, original in (('several components', made), ('plant', SAFE_PLANT)):
     earlier = fair.fair_copy(original.bytes(), FILLED * room)[1]
     answer, buffer = call(f'{name} of version 2', original.set('version', 2), room)
     assert answer[0] == 0 and buffer == earlier[:2] + b'\2' + earlier[3:], name
+
+# a model of version 3 (order 7): the copy has its version and its paper number, and all else as in version 2
+for paper in (0, 7, 65535, 65536, 2 ** 32 - 1):
+    copied(f'T with paper number {paper}', T.versioned(3, paper), FAIR_TANK.versioned(3, paper))
+fair_third = one(flow=[(0, 0, 4, 1)], jump=[(1, 1, 0, 0, 0, 1, 2)], n=3)
+for name, original, copy in (('conditions that are emptied', emptied, one()), ('third of three variables mentioned', third, fair_third)):
+    copied(f'{name}, with a paper number', original.versioned(3, 0x01020304), copy.versioned(3, 0x01020304))
+for name, original in (('several components', made), ('plant', SAFE_PLANT)):
+    room = original.length()
+    earlier = fair.fair_copy(original.bytes(), FILLED * room)[1]
+    length = int.from_bytes(earlier[:2], 'big') + 4
+    answer, buffer = call(f'{name} of version 3', original.versioned(3, 2 ** 31 + 258), room + 4)
+    assert answer[0] == 0 and buffer == length.to_bytes(2, 'big') + b'\3\1\x80\0\1\2' + earlier[4:], name
+NUMBERED = T.versioned(3, 7)
+for room in (70, 71, 1025):
+    copied(f'T with a paper number into {room}', NUMBERED, FAIR_TANK.versioned(3, 7), room)
+for room in (0, 4, 8, 66, 69):
+    refused(f'T with a paper number into {room}', NUMBERED, room, 15, 2, 70, 0, 0)
 
 # "A short buffer is refused as 15 with the length needed", not the model's length; else the bytes past the copy stay
 longer = one([(1, 5), (2, 10)], [(0, 1), (1, 10)], [(1, 2), (-1, 0)], twice([(3, 3)] * 4), [(-1, -11)])
@@ -324,12 +345,18 @@ refused('2 joint switches where 1 is allowed', sized((1,), (2,)), 0, 8, 0, 4, 0,
 # the model's refusals, before 15
 for name, original, number, place in (
         ('no model', b'', 1, 0), ('three bytes', b'\0\1\1', 1, 0), ('L one less', T.set('L', 63), 1, 0),
-        ('L one more', T.set('L', 65), 1, 0), ('version 0', T.set('version', 0), 2, 2), ('version 3', T.set('version', 3), 2, 2),
-        ('version 9', T.set('version', 9), 2, 2), ('kind 0', T.set('kind', 0), 3, 3), ('C as model', C, 3, 3),
+        ('L one more', T.set('L', 65), 1, 0), ('version 0', T.set('version', 0), 2, 2), ('version 4', T.set('version', 4), 2, 2),
+        ('version 5 and a paper number', T.versioned(5, 7), 2, 2), ('version 9', T.set('version', 9), 2, 2),
+        ('kind 0', T.set('kind', 0), 3, 3), ('C as model', C, 3, 3), ('C with a paper number as model', C.versioned(3, 7), 3, 3),
         ('header alone', fixed(T.bytes()[:4]), 4, 4), ('T less its last byte', cut, 4, 62),
         ('T and a byte', fixed(T.bytes() + b'\0'), 4, 66), ('n 0', T.set('n', 0), 5, 4), ('n 9', T.set('n', 9), 5, 4),
         ('nine rows', T.set('flow0.0', 9), 5, T.place('flow0.0')), ('label outside', tank(switches=[switch(0, 0, 1)]), 6, 58),
-        ('128 locations', sized((8, 8, 2)), 7, 4), ('4352 joint switches', sized((1, 1, 1), (17, 16, 16)), 8, 4)):
+        ('128 locations', sized((8, 8, 2)), 7, 4), ('4352 joint switches', sized((1, 1, 1), (17, 16, 16)), 8, 4),
+        ('no byte of a paper number', fixed(NUMBERED.bytes()[:4]), 4, 4), ('3 bytes of a paper number', fixed(NUMBERED.bytes()[:7]), 4, 4),
+        ('a paper number alone', fixed(NUMBERED.bytes()[:8]), 4, 8), ('version 3 without a paper number', T.set('version', 3), 5, 8),
+        ('n 0 behind a paper number', NUMBERED.set('n', 0), 5, 8), ('paper number, T and a byte', fixed(NUMBERED.bytes() + b'\0'), 4, 70),
+        ('128 locations and a paper number', sized((8, 8, 2)).versioned(3, 7), 7, 8),
+        ('4352 joint switches and a paper number', sized((1, 1, 1), (17, 16, 16)).versioned(3, 7), 8, 8)):
     for room in (0, 12, 100):
         refused(f'{name} into {room}', original, room, number, 0, place, 0, 0)
 

@@ -1,5 +1,5 @@
 #!/usr/bin/env python3
-"""A second marker of papers, written from document 01 and orders 2, 5 and 6 of document 02 alone, to try the proved one against.
+"""A second marker of papers, written from document 01 and orders 2, 5, 6 and 7 of document 02 alone, to try the proved one against.
 
 usage: marker.py MODEL SECOND      prints the line that the program `mark` prints for the two files, one after the other
 
@@ -13,8 +13,12 @@ from fractions import Fraction
 from itertools import product
 
 MODEL, CERTIFICATE, RUN = 1, 2, 3
-# "version 2 model sheets" (document 02, order 6): the versions that a sheet of each kind may have.
-VERSIONS = {MODEL: (1, 2), CERTIFICATE: (1,), RUN: (1,)}
+# "version 2 model sheets", "Model, certificate and run sheets of version 3" (document 02, orders 6 and 7): the versions that a sheet of each
+# kind may have.
+VERSIONS = {MODEL: (1, 2, 3), CERTIFICATE: (1, 3), RUN: (1, 3)}
+# "Version 1 and 2 models still take version 1 second sheets", else "both must carry .. the same version" (order 7): a model's version, then that
+# of its second sheet.
+PAIRS = ((1, 1), (2, 1), (3, 3))
 STAYS = 255
 ANY = 255
 CALL = 2
@@ -28,7 +32,7 @@ Mode = namedtuple('Mode', 'start initial invariant flow')
 Switch = namedtuple('Switch', 'source target label jump')
 Component = namedtuple('Component', 'alphabet modes switches')
 Unsafe = namedtuple('Unsafe', 'modes rows')
-Model = namedtuple('Model', 'version n owners components unsafe')
+Model = namedtuple('Model', 'version paper n owners components unsafe')
 Joint = namedtuple('Joint', 'source event switches target')
 Obligation = namedtuple('Obligation', 'kind where row')
 Flow = namedtuple('Flow', 'time values')
@@ -59,6 +63,10 @@ class Reader:
         if data[3] != kind:
             raise Refused(3, 3)
         self.data, self.at, self.version = data, 4, data[2]
+
+    def paper(self):
+        """Sheets of version 3 "begin their body with a u32 paper number" (document 02, order 7); earlier ones have none."""
+        return self.field(4) if self.version >= 3 else None
 
     def field(self, size, signed=False):
         first = self.at
@@ -138,18 +146,31 @@ def test_limits(limits):
 def read_model(data, limits=EXAM):
     test_limits(limits)
     r = Reader(data, MODEL)
+    paper = r.paper()
+    place = r.at
     n = r.within(1, 1, 8)
     c = r.within(1, 1, 4)
     conditions = r.within(1, 0, 16)
     owners = [r.within(1, 0, c - 1) for _ in range(n)]
     components = [read_component(r, n) for _ in range(c)]
-    model = Model(r.version, n, owners, components, [read_unsafe(r, n, components) for _ in range(conditions)])
+    model = Model(r.version, paper, n, owners, components, [read_unsafe(r, n, components) for _ in range(conditions)])
     r.end()
     if location_count(model) > limits.locations:
-        raise Refused(7, 4)
+        raise Refused(7, place)
     if joint_count(model) > limits.joints:
-        raise Refused(8, 4)
+        raise Refused(8, place)
     return model
+
+
+def open_second(data, kind, model):
+    """A second sheet whose header and paper number are read. Document 02, order 7: 18 is "versions that don't pair (place 2 of the second sheet,
+    right after 3) or paper numbers that differ (place 4, once that field is read)"."""
+    r = Reader(data, kind)
+    if (model.version, r.version) not in PAIRS:
+        raise Refused(18, 2)
+    if r.paper() != model.paper:
+        raise Refused(18, 4)
+    return r
 
 
 def location_count(model):
@@ -247,7 +268,7 @@ def jump_rows(model, switches):
 # Blanks: "The board's new rule book reads a blank as "does not change"" (document 02, order 6)
 
 def keeps_blanks(model):
-    """From version 2 on; in version 1 a variable that no row mentions is free."""
+    """From version 2 on ("Version 3 keeps version 2's blanks", order 7); in version 1 a variable that no row mentions is free."""
     return model.version >= 2
 
 
@@ -469,7 +490,7 @@ def mark_certificate(model_sheet, second, limits=EXAM):
         return e.answer(0)
     done, total = 0, None
     try:
-        r = Reader(second, CERTIFICATE)
+        r = open_second(second, CERTIFICATE, model)
         regions = read_regions(r, model)
         wanted = obligations(model, regions)
         total = len(wanted)
@@ -504,13 +525,14 @@ def mark_run(model_sheet, second, limits=EXAM):
         return e.answer(0)
     done = 0
     try:
-        r = Reader(second, RUN)
+        r = open_second(second, RUN, model)
         q = r.within(4, 1, 2 ** 24 - 1)
         steps = r.within(2, 0, 4095)
+        location = r.at
         modes = modes_at(model, r.within(1, 0, location_count(model) - 1))
         p = read_values(r, model.n)
         if not start_allowed(model, q, modes, p):
-            raise Refused(12, 10)
+            raise Refused(12, location)
         while done < steps:
             place = r.at
             step = read_step(r, model)
@@ -533,7 +555,7 @@ def show_part(model_sheet, second, obligation, hypothesis, limits=EXAM):
     """The bytes that show row gives: none where a limit, a sheet or a number is refused."""
     try:
         model = read_model(model_sheet, limits)
-        regions = read_regions(Reader(second, 2), model)
+        regions = read_regions(open_second(second, CERTIFICATE, model), model)
     except Refused:
         return b''
     found = obligations(model, regions)[obligation:obligation + 1]

@@ -1,5 +1,5 @@
 #!/usr/bin/env python3
-"""Writes the papers that crates/marking_test marks, and what it must print for each, from document 01 and orders 2, 5 and 6 of
+"""Writes the papers that crates/marking_test marks, and what it must print for each, from document 01 and orders 2, 5, 6 and 7 of
 document 02.
 
 usage: marking_papers.py FOLDER                 writes FOLDER/stdin and FOLDER/stdout
@@ -23,7 +23,10 @@ sys.dont_write_bytecode = True
 import marker
 from largest import most_entries, most_joint_switches, most_proofs, most_steps
 from sheet import Sheet, alphabet, certificate, component, fixed, flow, jump, mode, model, run, switch
-from tank import C, PLANT_CERTIFICATE, PLANT_REGIONS, PLANT_RUN, SAFE_PLANT, STILL_CERTIFICATE, STILL_TANK, T, UNSAFE_PLANT, proved, tank
+from tank import (
+    C, NUMBER, NUMBERED_CERTIFICATE, NUMBERED_TANK, OTHER_CERTIFICATE, OTHER_NUMBER, PLANT_CERTIFICATE, PLANT_REGIONS, PLANT_RUN, SAFE_PLANT,
+    STILL_CERTIFICATE, STILL_TANK, T, UNSAFE_PLANT, proved, tank,
+)
 
 ANY = 255
 STAYS = 255
@@ -210,25 +213,28 @@ def shown_rows(papers):
 
 
 def headers(papers):
+    """Of models, then of second sheets. Versions from 0 to 5 are tried by pairs_of_versions."""
     p = papers
     for size in (1, 2, 3):
         p.certificate(f'model of {size}', fixed(T.bytes()[:size]), C, 1, 0, 0, 0, 0)
+    for change, by in (('one more', 1), ('one less', -1)):
+        p.certificate(f'model L {change}', T.set('L', 64 + by), C, 1, 0, 0, 0, 0)
+    for version in (6, 255):
+        p.certificate(f'model version {version}', T.set('version', version), C, 2, 0, 2, 0, 0)
+    for kind in (0, 2, 3, 4, 255):
+        p.certificate(f'model kind {kind}', T.set('kind', kind), C, 3, 0, 3, 0, 0)
+    for size in (1, 2, 3):
         p.certificate(f'certificate of {size}', T, fixed(C.bytes()[:size]), 1, 1, 0, 0, 0)
         p.run(f'run of {size}', T, fixed(AT_FIVE.bytes()[:size]), 1, 1, 0, 0, 0)
     p.certificate('no certificate', T, b'', 1, 1, 0, 0, 0)
     p.run('no run', T, b'', 1, 1, 0, 0, 0)
     for change, by in (('one more', 1), ('one less', -1)):
-        p.certificate(f'model L {change}', T.set('L', 64 + by), C, 1, 0, 0, 0, 0)
         p.certificate(f'certificate L {change}', T, C.set('L', 47 + by), 1, 1, 0, 0, 0)
         p.run(f'run L {change}', T, AT_FIVE.set('L', 13 + by), 1, 1, 0, 0, 0)
-    for version in (0, 3, 255):
-        p.certificate(f'model version {version}', T.set('version', version), C, 2, 0, 2, 0, 0)
-    for version in (0, 2, 3, 255):
+    for version in (6, 255):
         p.certificate(f'certificate version {version}', T, C.set('version', version), 2, 1, 2, 0, 0)
         p.run(f'run version {version}', T, AT_FIVE.set('version', version), 2, 1, 2, 0, 0)
     for kind in (0, 1, 2, 3, 4, 255):
-        if kind != 1:
-            p.certificate(f'model kind {kind}', T.set('kind', kind), C, 3, 0, 3, 0, 0)
         if kind != 2:
             p.certificate(f'certificate kind {kind}', T, C.set('kind', kind), 3, 1, 3, 0, 0)
         if kind != 3:
@@ -246,16 +252,16 @@ def cuts(papers):
     for cut in range(66):
         expected = (1, 0, 0, 0, 0) if cut < 4 else (4, 0, first_bytes(T)[cut], 0, 0)
         papers.certificate(f'T cut to {cut}', fixed(T.bytes()[:cut]), C, *expected)
+    papers.certificate('T and a byte', fixed(T.bytes() + b'\0'), C, 4, 0, 66, 0, 0)
     for cut in range(4, 49):
         done = (cut >= 24) + (cut >= 34)
         papers.certificate(f'C cut to {cut}', T, fixed(C.bytes()[:cut]), 4, 1, first_bytes(C)[cut], done, (0, 33, 67)[done])
-    for cut in range(4, 24):
-        papers.run(f'run cut to {cut}', UNSAFE_AT_NINE, fixed(TO_NINE.bytes()[:cut]), 4, 1, first_bytes(TO_NINE)[cut], 0, 0)
-    papers.certificate('T and a byte', fixed(T.bytes() + b'\0'), C, 4, 0, 66, 0, 0)
     papers.certificate('C and a byte', T, fixed(C.bytes() + b'\0'), 4, 1, 49, 3, 99)
-    papers.run('run and a byte', UNSAFE_AT_NINE, fixed(TO_NINE.bytes() + b'\0'), 4, 1, 24, 1, 0)
     papers.run('bytes left before 14', T, fixed(AT_FIVE.bytes() + b'\0'), 4, 1, 15, 0, 0)
     papers.run('start tested before a cut step', T, fixed(run(1, 0, (6,), flow(1, 7)).bytes()[:16]), 12, 1, 10, 0, 0)
+    for cut in range(4, 24):
+        papers.run(f'run cut to {cut}', UNSAFE_AT_NINE, fixed(TO_NINE.bytes()[:cut]), 4, 1, first_bytes(TO_NINE)[cut], 0, 0)
+    papers.run('run and a byte', UNSAFE_AT_NINE, fixed(TO_NINE.bytes() + b'\0'), 4, 1, 24, 1, 0)
 
 
 def sizes(papers):
@@ -356,7 +362,7 @@ def switches_of_a_model(papers):
 
 def refused_models_in_each_call(papers):
     refused = [
-        (T.set('version', 3), 2, 2), (C, 3, 3), (fixed(T.bytes()[:-1]), 4, 62), (T.set('n', 0), 5, 4), (tank(switches=[switch(0, 0, 1)]), 6, 58),
+        (T.set('version', 4), 2, 2), (C, 3, 3), (fixed(T.bytes()[:-1]), 4, 62), (T.set('n', 0), 5, 4), (tank(switches=[switch(0, 0, 1)]), 6, 58),
         (plain(modes=(8, 8, 2))[0], 7, 4), (plain(modes=(1,) * 3, switches=[32] * 3, alphabets=[2] * 3, label=1)[0], 8, 4), (b'', 1, 0),
     ]
     for sheet, number, place in refused:
@@ -414,26 +420,26 @@ def fields_of_a_run(papers):
             p.run(f'{label} {value}', UNSAFE_AT_NINE, TO_NINE.set(name, value), number, 1, TO_NINE.place(name) if at is None else at, done, 0)
 
     field('q', 'q', 0, 2 ** 24, 2 ** 32 - 1)
-    p.run('q 16777215', UNSAFE_AT_FIVE, run(2 ** 24 - 1, 0, (5 * (2 ** 24 - 1),)), 0, 1, 15, 0, 100)
-    p.run('steps 0', UNSAFE_AT_FIVE, AT_FIVE, 0, 1, 15, 0, 100)
     field('steps', 'steps', 4096, 65535)
     field('more steps than there are', 'steps', 2, 4095, number=4, at=24, done=1)
     field('location', 'location', 1, 255)
-    p.run('location 63 of 64', *in_location(63), 0, 1, 15, 0, 100)
-    p.run('location 64 of 64', *in_location(64), 5, 1, 10, 0, 0)
     field('p', 'p0', -2 ** 27 - 1, 2 ** 27 + 1, -2 ** 31, 2 ** 31 - 1)
     field('new p', 'p0.0', -2 ** 27 - 1, 2 ** 27 + 1)
+    field('step', 'step0', 2, 255)
+    field('time', 'time0', 2 ** 24, 2 ** 32 - 1)
+    p.run('a step is read before it is tested', UNSAFE_AT_NINE, TO_NINE.set('time0', 1).set('p0.0', 2 ** 27 + 1), 5, 1, 20, 0, 0)
+    p.run('q 16777215', UNSAFE_AT_FIVE, run(2 ** 24 - 1, 0, (5 * (2 ** 24 - 1),)), 0, 1, 15, 0, 100)
+    p.run('steps 0', UNSAFE_AT_FIVE, AT_FIVE, 0, 1, 15, 0, 100)
+    p.run('location 63 of 64', *in_location(63), 0, 1, 15, 0, 100)
+    p.run('location 64 of 64', *in_location(64), 5, 1, 10, 0, 0)
     for value in (-2 ** 27, 2 ** 27):
         p.run(f'p {value}', free(), run(1, 0, (value,)), 0, 1, 15, 0, 100)
         p.run(f'new p {value}', free(), run(1, 0, (0,), flow(1, value)), 0, 1, 24, 1, 100)
+    p.run('time 16777215', free(), run(1, 0, (0,), flow(2 ** 24 - 1, 1)), 0, 1, 24, 1, 100)
+    p.run('time 0', free(), run(1, 0, (1,), flow(0, 1)), 0, 1, 24, 1, 100)
     p.run('last of eight p', free(8), run(1, 0, (0,) * 7 + (2 ** 27 + 1,)), 5, 1, 39, 0, 0)
     p.run('location before p', T, AT_FIVE.set('location', 1).set('p0', 2 ** 31 - 1), 5, 1, 10, 0, 0)
     p.run('p before the start', T, AT_FIVE.set('p0', 2 ** 27 + 1), 5, 1, 11, 0, 0)
-    field('step', 'step0', 2, 255)
-    field('time', 'time0', 2 ** 24, 2 ** 32 - 1)
-    p.run('time 16777215', free(), run(1, 0, (0,), flow(2 ** 24 - 1, 1)), 0, 1, 24, 1, 100)
-    p.run('time 0', free(), run(1, 0, (1,), flow(0, 1)), 0, 1, 24, 1, 100)
-    p.run('a step is read before it is tested', UNSAFE_AT_NINE, TO_NINE.set('time0', 1).set('p0.0', 2 ** 27 + 1), 5, 1, 20, 0, 0)
 
 
 def in_location(location):
@@ -732,9 +738,9 @@ def plant_certificate(papers):
     p.certificate('plant less its last byte', SAFE_PLANT, fixed(whole.bytes()[:-1]), 4, 1, 2104, 114, 99)
     p.certificate('plant and a byte', SAFE_PLANT, fixed(whole.bytes() + b'\0'), 4, 1, 2108, 115, 99)
     p.certificate('plant without its last proof', SAFE_PLANT, fixed(whole.bytes()[:whole.place('k114')]), 4, 1, whole.place('k114'), 114, 99)
-    p.certificate('plant with other unsafe conditions', UNSAFE_PLANT, whole)
     p.list('plant list', SAFE_PLANT, 22, 0, 0, 1322, 22, 0)
     p.list('plant list, one short', SAFE_PLANT, 21, 15, 2, 22, 0, 0)
+    p.certificate('plant with other unsafe conditions', UNSAFE_PLANT, whole)
 
 
 def plant_run(papers):
@@ -823,12 +829,21 @@ def inputs(papers):
     p.input('input: T twice', t + t, 'REFUSED 3 1 3 0 0')
     p.input('input: run of version 2', t + AT_FIVE.set('version', 2).bytes(), 'REFUSED 2 1 2 0 0')
     p.input('input: T of version 2 then C', T.set('version', 2).bytes() + c, 'SAFE 3')
-    p.input('input: T of version 3 then C', T.set('version', 3).bytes() + c, 'REFUSED 2 0 2 0 0')
+    p.input('input: T of version 4 then C', T.set('version', 4).bytes() + c, 'REFUSED 2 0 2 0 0')
     p.input('input: still tank then its certificate', STILL_TANK.bytes() + STILL_CERTIFICATE.bytes(), 'SAFE 7')
     p.input('input: C then T', c + t, 'REFUSED 3 0 3 0 0')
     p.input('input: T, C and a byte', t + c + b'\0', 'REFUSED 1 1 0 0 0')
     p.input('input: last proof fails', t + C.set('multiplier2.1', 2).bytes(), 'REFUSED 10 1 34 2 67')
     p.input('input: last proof as 2, 0', t + C.set('hypothesis2.0', 2).set('hypothesis2.1', 0).bytes(), 'REFUSED 9 1 44 2 67')
+    numbered = NUMBERED_TANK.bytes()
+    p.input('input: T and C with a paper number', numbered + NUMBERED_CERTIFICATE.bytes(), 'SAFE 3')
+    p.input('input: T with a paper number, C without', numbered + c, 'REFUSED 18 1 2 0 0')
+    p.input('input: T without a paper number, C with one', t + NUMBERED_CERTIFICATE.bytes(), 'REFUSED 18 1 2 0 0')
+    p.input('input: T and C with different paper numbers', numbered + OTHER_CERTIFICATE.bytes(), 'REFUSED 18 1 4 0 0')
+    p.input('input: T cut in its paper number', fixed(numbered[:6]) + NUMBERED_CERTIFICATE.bytes(), 'REFUSED 4 0 4 0 0')
+    for label, other, expected in (('a paper number', NUMBER, 'UNSAFE 1'), ('different paper numbers', OTHER_NUMBER, 'REFUSED 18 1 4 0 0')):
+        unsafe = UNSAFE_AT_NINE.versioned(3, NUMBER).bytes()
+        p.input(f'input: unsafe tank and its run with {label}', unsafe + TO_NINE.versioned(3, other).bytes(), expected)
 
 
 # Blanks (document 02, order 6). Many models are tried as version 1 and as version 2, with the same bytes but for the version; others as
@@ -843,16 +858,12 @@ def in_both(call, sheet, *papers):
 
 
 def versions(papers):
-    """Models have version 1 or 2, second sheets 1. T's flow rows mention its variable, and it has no switch: both versions give the same."""
+    """T's flow rows mention its variable, and it has no switch: versions 1 and 2 give the same."""
     p, later = papers, T.set('version', 2)
-    p.certificate('T of version 2 with C', later, C, 0, 1, 49, 3, 100)
     p.certificate('T of version 2, first multiplier 2', later, C.set('multiplier0.0', 2), 10, 1, 14, 0, 0)
     p.run('T of version 2, 5 to 8 in 1', later, run(1, 0, (5,), flow(1, 8)), 13, 1, 15, 0, 0)
     p.run('T of version 2 at 5', later, AT_FIVE, 14, 1, 15, 0, 0)
     p.list('T of version 2, list', later, 0, 0, 0, 66, 0, 0)
-    for version in (0, 2, 3, 255):
-        p.certificate(f'T of version 2, certificate version {version}', later, C.set('version', version), 2, 1, 2, 0, 0)
-        p.run(f'T of version 2, run version {version}', later, AT_FIVE.set('version', version), 2, 1, 2, 0, 0)
     p.certificate('T of version 2, cut', fixed(later.bytes()[:-1]), C, 4, 0, 62, 0, 0)
     p.run('T of version 2 with unsafe at 9, 5 to 9 in 2', UNSAFE_AT_NINE.set('version', 2), TO_NINE, 0, 1, 24, 1, 100)
 
@@ -1157,6 +1168,144 @@ def shown_blanks(papers):
         p.part(f'shown: {label}', STILL_TANK, unproved, obligation, hypothesis, *row)
 
 
+# Sheets that belong together (document 02, order 7). A sheet of version 3 is one of an earlier version with a paper number behind its header, so
+# that each later place is four more. Second sheets beside the numbered tank follow each other, as its model is then taken once.
+
+NUMBERED_RUN = AT_FIVE.versioned(3, NUMBER)
+
+
+def beside(version, second, *accepted):
+    """What the order says of a model and a second sheet of these versions where all else is good."""
+    if version not in (1, 2, 3):
+        return 2, 0, 2, 0, 0
+    if second not in (1, 3):
+        return 2, 1, 2, 0, 0
+    return accepted if (version, second) in ((1, 1), (2, 1), (3, 3)) else (18, 1, 2, 0, 0)
+
+
+def pairs_of_versions(papers):
+    """Every version from 0 to 5 beside every other, with a paper number from 3 on; of two second sheets, the certificate and the run."""
+    p = papers
+    for version in range(6):
+        for kind, call, sheet, given, done in (('certificate', p.certificate, T, C, 3), ('run', p.run, UNSAFE_AT_FIVE, AT_FIVE, 0)):
+            for second in range(6):
+                other = given.versioned(second, NUMBER)
+                expected = beside(version, second, 0, 1, other.length(), done, 100)
+                call(f'model version {version}, {kind} version {second}', sheet.versioned(version, NUMBER), other, *expected)
+
+
+def paper_numbers(papers):
+    """Numbers that differ in one byte, in one bit of it; then some beside themselves and beside the next one."""
+    p, number = papers, 0x5a00ff3c
+    for byte, other in enumerate((0x5b00ff3c, 0x5a80ff3c, 0x5a00fe3c, 0x5a00ff3e)):
+        p.certificate(f'certificate, byte {byte} of the paper number differs', T.versioned(3, number), C.versioned(3, other), 18, 1, 4, 0, 0)
+        p.run(f'run, byte {byte} of the paper number differs', T.versioned(3, number), AT_FIVE.versioned(3, other), 18, 1, 4, 0, 0)
+    numbers = [0, 65536, 65535, 2 ** 32 - 1, 2 ** 31]
+    for number, other in zip(numbers, numbers[1:] + numbers[:1]):
+        p.certificate(f'certificate and paper number {number}', T.versioned(3, number), C.versioned(3, number), 0, 1, 53, 3, 100)
+        p.certificate(f'certificate and paper numbers {number} {other}', T.versioned(3, number), C.versioned(3, other), 18, 1, 4, 0, 0)
+        p.run(f'run and paper numbers {number} {other}', T.versioned(3, number), AT_FIVE.versioned(3, other), 18, 1, 4, 0, 0)
+        p.run(f'run and paper number {number}', UNSAFE_AT_FIVE.versioned(3, number), AT_FIVE.versioned(3, number), 0, 1, 19, 0, 100)
+
+
+def models_with_a_paper_number(papers):
+    """A model cut in its paper number or just behind it; and its first fields, whose places are 8, 9 and 10: that of 7 and 8 is n's."""
+    p, t = papers, NUMBERED_TANK
+    for size in range(4):
+        p.certificate(f'model with its paper number cut to {size}', fixed(t.bytes()[:4 + size]), NUMBERED_CERTIFICATE, 4, 0, 4, 0, 0)
+    p.run('run beside a model with its paper number cut to 3', fixed(t.bytes()[:7]), NUMBERED_RUN, 4, 0, 4, 0, 0)
+    p.list('list of a model with its paper number cut to 3', fixed(t.bytes()[:7]), 9, 4, 0, 4, 0, 0)
+    p.certificate('model with its paper number alone', fixed(t.bytes()[:8]), NUMBERED_CERTIFICATE, 4, 0, 8, 0, 0)
+    for name, value, place in (('n', 0, 8), ('c', 5, 9), ('unsafe', 17, 10)):
+        p.certificate(f'paper number, then {name} {value}', t.set(name, value), NUMBERED_CERTIFICATE, 5, 0, place, 0, 0)
+    over = plain(modes=(8, 8, 2))[0].versioned(3, NUMBER)
+    p.certificate('128 locations and a paper number', over, NUMBERED_CERTIFICATE, 7, 0, 8, 0, 0)
+    many = plain(modes=(1,) * 3, switches=[17, 16, 16], alphabets=[2] * 3, label=1)[0].versioned(3, NUMBER)
+    p.certificate('4352 joint switches and a paper number', many, NUMBERED_CERTIFICATE, 8, 0, 8, 0, 0)
+
+
+def second_sheets_with_a_paper_number(papers):
+    """Second sheets cut in their paper number or just behind it, and their fields behind it: the count of regions has place 8, the location of a
+    run, which is 12's place, 14."""
+    p, t, c, r = papers, NUMBERED_TANK, NUMBERED_CERTIFICATE, NUMBERED_RUN
+    for size in range(4):
+        p.certificate(f'certificate with its paper number cut to {size}', t, fixed(c.bytes()[:4 + size]), 4, 1, 4, 0, 0)
+        p.run(f'run with its paper number cut to {size}', t, fixed(r.bytes()[:4 + size]), 4, 1, 4, 0, 0)
+    p.certificate('certificate with its paper number alone', t, fixed(c.bytes()[:8]), 4, 1, 8, 0, 0)
+    p.run('run with its paper number alone', t, fixed(r.bytes()[:8]), 4, 1, 8, 0, 0)
+    p.certificate('certificate and a byte, with a paper number', t, fixed(c.bytes() + b'\0'), 4, 1, 53, 3, 99)
+    for name, value, place in (('locations', 0, 8), ('locations', 2, 8), ('region0', 17, 9), ('k0', 2 ** 24, 18)):
+        p.certificate(f'paper number, then {name} {value}', t, c.set(name, value), 5, 1, place, 0, 0)
+    p.certificate('paper number, then a multiplier of 2', t, c.set('multiplier1.0', 2), 10, 1, 28, 1, 33)
+    for name, value, place in (('q', 0, 8), ('steps', 4096, 12), ('location', 1, 14), ('p0', 2 ** 27 + 1, 15)):
+        p.run(f'paper number, then {name} {value}', t, r.set(name, value), 5, 1, place, 0, 0)
+    p.run('paper number, then a start at 6', t, r.set('p0', 6), 12, 1, 14, 0, 0)
+    p.run('paper number, then no steps', t, r, 14, 1, 19, 0, 0)
+    p.run('paper number, then 5 to 8 in 1', t, run(1, 0, (5,), flow(1, 8)).versioned(3, NUMBER), 13, 1, 19, 0, 0)
+
+
+def shown_with_a_paper_number(papers):
+    """A row of the model and one of the certificate, from sheets that belong together; and no part of those that do not."""
+    p, t, unproved = papers, NUMBERED_TANK, fixed(NUMBERED_CERTIFICATE.bytes()[:18])
+    p.part('shown: initial row behind a paper number', t, unproved, 0, 1, -1, -5)
+    p.part('shown: region row behind a paper number', t, unproved, 1, 0, 1, 10)
+    p.part('shown: region row behind another paper number', t, fixed(OTHER_CERTIFICATE.bytes()[:18]), 1, 0)
+    p.part('shown: initial row beside another paper number', t, fixed(OTHER_CERTIFICATE.bytes()[:18]), 0, 1)
+    p.part('shown: region row of a certificate that does not pair', t, fixed(C.bytes()[:14]), 1, 0)
+
+
+def order_of_eighteen(papers):
+    """1, 2, 3, then 18 for the versions, 4 in the paper number, 18 for the paper numbers, and then what follows."""
+    p, t = papers, NUMBERED_TANK
+    for label, call, good, wrong in (('certificate', p.certificate, C, AT_FIVE), ('run', p.run, AT_FIVE, C)):
+        other = good.versioned(3, OTHER_NUMBER)
+        call(f'{label}: L before versions that do not pair', t, good.set('L', good.length() - 1), 1, 1, 0, 0, 0)
+        call(f'{label}: version before kind and paper number', t, wrong.versioned(4, OTHER_NUMBER), 2, 1, 2, 0, 0)
+        call(f'{label}: kind before versions that do not pair', t, wrong, 3, 1, 3, 0, 0)
+        call(f'{label}: kind before paper numbers that differ', t, wrong.versioned(3, OTHER_NUMBER), 3, 1, 3, 0, 0)
+        call(f'{label}: versions that do not pair before a cut body', t, fixed(good.bytes()[:4]), 18, 1, 2, 0, 0)
+        call(f'{label}: cut paper number before one that differs', t, fixed(other.bytes()[:7]), 4, 1, 4, 0, 0)
+        call(f'{label}: paper numbers that differ before a cut body', t, fixed(other.bytes()[:8]), 18, 1, 4, 0, 0)
+    p.certificate('paper numbers that differ before the count of regions', t, OTHER_CERTIFICATE.set('locations', 0), 18, 1, 4, 0, 0)
+    p.run('paper numbers that differ before q', t, AT_FIVE.versioned(3, OTHER_NUMBER).set('q', 0), 18, 1, 4, 0, 0)
+    p.certificate('version 1: kind before versions that do not pair', T, NUMBERED_RUN, 3, 1, 3, 0, 0)
+    p.run('version 1: run kind before versions that do not pair', T, NUMBERED_CERTIFICATE, 3, 1, 3, 0, 0)
+    p.certificate('version 1: versions that do not pair before a cut paper number', T, fixed(NUMBERED_CERTIFICATE.bytes()[:6]), 18, 1, 2, 0, 0)
+    p.run('version 1: versions that do not pair before a cut body', T, fixed(NUMBERED_RUN.bytes()[:4]), 18, 1, 2, 0, 0)
+
+
+def blanks_with_a_paper_number(papers):
+    """"Version 3 keeps version 2's blanks": the plant has the proofs of version 2, and the still tank the answers that it has in version 2
+    beside second sheets of version 1, each place four more."""
+    p, sheet, whole = papers, STILL_TANK.versioned(3, NUMBER), STILL_CERTIFICATE
+    plant = proved(SAFE_PLANT.set('version', 2), PLANT_REGIONS).versioned(3, NUMBER)
+    p.certificate('plant with a paper number', SAFE_PLANT.versioned(3, NUMBER), plant, 0, 1, plant.length(), 115, 100)
+    opens, closes = jump(0, [0], 5), jump(0, [1], 10)
+    certificates = [
+        ('still tank', whole, 0, 118),
+        ('still tank, hypothesis1.1 as 3', whole.set('hypothesis1.1', 3), 10, whole.place('k1')),
+        ('still tank, hypothesis1.1 as 4', whole.set('hypothesis1.1', 4), 5, whole.place('hypothesis1.1')),
+        ('still tank, hypothesis6.1 as 4', whole.set('hypothesis6.1', 4), 5, whole.place('hypothesis6.1')),
+    ]
+    runs = [
+        ('closed, to 11', run(1, 0, (5,), flow(1, 11)), 13, 15),
+        ('closed, staying', run(1, 0, (5,), flow(1, 5)), 14, 24),
+        ('opened to 6', run(1, 0, (5,), jump(0, [0], 6)), 13, 15),
+        ('opened and closed to 11', run(1, 0, (5,), opens, flow(3, 10), jump(0, [1], 11)), 13, 31),
+        ('opened, closed, staying', run(1, 0, (5,), opens, flow(3, 10), closes, flow(1, 10)), 14, 47),
+    ]
+    for call, marks, seconds in ((p.certificate, marker.mark_certificate, certificates), (p.run, marker.mark_run, runs)):
+        for label, second, *told in seconds:
+            number, where, place, done, score = marks(STILL_TANK.bytes(), second.bytes())
+            assert [number, place] == told, label
+            call(f'version 3: {label}', sheet, second.versioned(3, NUMBER), number, where, place + 4, done, score)
+    p.list('still tank with a paper number, list', sheet, 2, 0, 0, 82, 2, 0)
+    p.list('still tank with a paper number, one record short', sheet, 1, 15, 2, 2, 0, 0)
+    for stated, number in (((1, 4096), 7), ((64, 1), 8)):
+        limits = marker.Limits(*stated)
+        p.certificate(f'{named(limits)}: still tank with a paper number', sheet, whole.versioned(3, NUMBER), number, 0, 8, 0, 0, limits=limits)
+
+
 # The limits that a caller states (document 02, order 2)
 
 STATED = (0, 1, 16, 17, 64, 65, 256, 257, 4096, 4097, 2 ** 32 - 1)
@@ -1225,20 +1374,21 @@ def limits_on_locations(papers):
 
 
 def limits_on_joints(papers):
-    """1, 256, 257, 4,096 and 4,097 joint switches. The table has just as many records."""
+    """1, 256, 257, 4,096 and 4,097 joint switches, each of which is also a limit that is stated. The table has just as many records."""
     p = papers
     for together, alone in ((1, 0), (4, 0), (4, 1), (8, 0), (8, 1)):
         (sheet, proofs), count = joined(together, alone), together ** 4 + alone
         for most in STATED:
             limits = marker.Limits(1, most)
             p.list(f'{count} joint switches, {named(limits)}', sheet, count, *under(limits, 1, count, 0, 0, sheet.length(), count, 0), limits=limits)
+            if most == count:
+                short = under(limits, 1, count, 15, 2, count, 0, 0)
+                p.list(f'{count} joint switches, {named(limits)}, one record short', sheet, count - 1, *short, limits=limits)
         for most in (count - 1, count, count + 1):
             limits = marker.Limits(EXAM.locations, most)
             answer = under(limits, 1, count, 0, 1, proofs.length(), 1, 100)
             p.certificate(f'{count} joint switches with a proof, {named(limits)}', sheet, proofs, *answer, limits=limits)
             p.part(f'{count} joint switches, {named(limits)}: region row', sheet, certificate([[(1, 7)]], []), 1, 0, *(() if answer[0] else (1, 7)), limits=limits)
-        limits = marker.Limits(1, count)
-        p.list(f'{count} joint switches, {named(limits)}, one record short', sheet, count - 1, *under(limits, 1, count, 15, 2, count, 0, 0), limits=limits)
 
 
 def limits_of_the_plant(papers):
@@ -1249,10 +1399,10 @@ def limits_of_the_plant(papers):
         limits = marker.Limits(*stated)
         p.list(f'{named(limits)}: list of the plant', SAFE_PLANT, 22, *under(limits, 8, 22, 0, 0, 1322, 22, 0), limits=limits)
     p.part('limits 8 22: row of the plant', SAFE_PLANT, UNPROVED_PLANT, 46, 12, -1, 0, 0, 0, 1, 0, 0, 0, 0, limits=marker.Limits(8, 22))
+    p.certificate('limits 8 22: plant', SAFE_PLANT, PLANT_CERTIFICATE, 0, 1, 2108, 115, 100, limits=marker.Limits(8, 22))
     for limits in (marker.Limits(7, 22), marker.Limits(8, 21)):
         p.certificate(f'{named(limits)}: plant', SAFE_PLANT, C, *under(limits, 8, 22), limits=limits)
     p.list('practice desk: plant list, one short', SAFE_PLANT, 21, 15, 2, 22, 0, 0, limits=PRACTICE)
-    p.certificate('limits 8 22: plant', SAFE_PLANT, PLANT_CERTIFICATE, 0, 1, 2108, 115, 100, limits=marker.Limits(8, 22))
     p.run('practice desk: plant run', UNSAFE_PLANT, PLANT_RUN, 0, 1, 178, 7, 100, limits=PRACTICE)
     p.run('limits 8 22: plant run', UNSAFE_PLANT, PLANT_RUN, 0, 1, 178, 7, 100, limits=marker.Limits(8, 22))
     for stated in ((7, 22), (8, 21), (7, 21)):
@@ -1274,7 +1424,7 @@ def limits_before_the_sheets(papers):
         p.list(f'{named(limits)}: 128 locations, no list', over, 0, 5, 2, 0, 0, 0, limits=limits)
     least = marker.Limits(1, 1)
     broken = [
-        (b'', 1, 0), (T.set('version', 3), 2, 2), (C, 3, 3), (fixed(T.bytes()[:-1]), 4, 62), (T.set('n', 0), 5, 4),
+        (b'', 1, 0), (T.set('version', 4), 2, 2), (C, 3, 3), (fixed(T.bytes()[:-1]), 4, 62), (T.set('n', 0), 5, 4),
         (tank(switches=[switch(0, 0, 1)]), 6, 58), (fixed(over.bytes() + b'\0'), 4, over.length()),
         (fixed(joined(4)[0].bytes() + b'\0'), 4, joined(4)[0].length()),
     ]
@@ -1311,12 +1461,15 @@ SECTIONS = [
     versions, still_tank, blanks_of_one_mode, blanks_among_variables, blanks_by_owner, blanks_by_location, blanks_after_the_time,
     blanks_in_a_jump, blanks_of_two_movers, proofs_of_two_movers, blanks_among_staying_variables, most_hypotheses, large_numbers_with_blanks,
     blanks_of_the_plant, shown_blanks,
+    pairs_of_versions, paper_numbers, models_with_a_paper_number, second_sheets_with_a_paper_number, shown_with_a_paper_number,
+    order_of_eighteen, blanks_with_a_paper_number,
     limits_of_the_tank, limits_on_locations, limits_on_joints, limits_of_the_plant, limits_before_the_sheets, limits_of_two_desks,
 ]
 
 EXAMPLES = {
     'tank.model': T, 'tank.certificate': C, 'tank.run': AT_FIVE,
     'unsafe-tank.model': UNSAFE_AT_NINE, 'unsafe-tank.run': TO_NINE,
+    'numbered-tank.model': NUMBERED_TANK, 'numbered-tank.certificate': NUMBERED_CERTIFICATE, 'other-number.certificate': OTHER_CERTIFICATE,
     'still.model': STILL_TANK, 'still.certificate': STILL_CERTIFICATE,
     'plant.model': SAFE_PLANT, 'plant.certificate': PLANT_CERTIFICATE,
     'unsafe-plant.model': UNSAFE_PLANT, 'unsafe-plant.run': PLANT_RUN,

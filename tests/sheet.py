@@ -1,4 +1,4 @@
-"""Sheets of document 01 built from named fields, so that the place of each field is known without reading the sheet back."""
+"""Sheets of documents 01 and 02 built from named fields, so that the place of each field is known without reading the sheet back."""
 
 
 class Sheet:
@@ -36,6 +36,13 @@ class Sheet:
         self.place(name)
         changed = Sheet(0)
         changed.fields = [(other, size, value if other == name else old) for other, size, old in self.fields]
+        return changed
+
+    def versioned(self, version, paper):
+        """The same sheet in another version; from version 3 on its body begins with a paper number (document 02, order 7)."""
+        changed = self.set('version', version)
+        body = [field for field in changed.fields[3:] if field[0] != 'paper']
+        changed.fields[3:] = [('paper', 4, paper)] + body if version >= 3 else body
         return changed
 
     def bytes(self):

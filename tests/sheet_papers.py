@@ -1,5 +1,6 @@
 #!/usr/bin/env python3
-"""Writes the papers that crates/sheets_test reads, and what it must print for each, from document 01 and order 6 of document 02.
+"""Writes the papers that crates/sheets_test reads, and what it must print for each, from document 01 and orders 6 and 7 of
+document 02.
 
 usage: sheet_papers.py FOLDER      writes FOLDER/stdin and FOLDER/stdout
 
@@ -56,8 +57,8 @@ case('L one more', 1, T.set('L', 65).bytes(), 1, 0)
 case('L one less', 1, T.set('L', 63).bytes(), 1, 0)
 case('32768 bytes', 1, fixed(t + bytes(32768 - 66)), 4, 66)
 case('32769 bytes', 1, fixed(t + bytes(32769 - 66)), 1, 0)
-# 2 and 3; "version 2 model sheets"
-for v in (0, 3, 9, 255): field('version', 1, T, 'version', v, 2)
+# 2 and 3; "version 2 model sheets", "Model, certificate and run sheets of version 3"
+for v in (0, 4, 5, 9, 255): field('version', 1, T, 'version', v, 2)
 accepted('version 2', T.set('version', 2))
 for v in (0, 2, 3, 255): field('kind', 1, T, 'kind', v, 3)
 case('C as model', 1, C.bytes(), 3, 3)
@@ -69,6 +70,19 @@ for n_, z, _ in T.fields:
 for cut in range(66):
     case(f'T cut to {cut}', 1, fixed(t[:cut]), *((1, 0) if cut < 4 else (4, starts[cut])))
 case('T and one byte', 1, fixed(t + b'\0'), 4, 66)
+# a sheet of version 3 begins its body "with a u32 paper number", so that n's byte is 8
+for v in (0, 7, 65535, 65536, 2 ** 32 - 1): accepted(f'paper number {v}', T.versioned(3, v))
+N = T.versioned(3, 7)
+for v in (4, 5): case(f'version {v} and a paper number', 1, N.set('version', v).bytes(), 2, 2)
+case('kind 2 and a paper number', 1, N.set('kind', 2).bytes(), 3, 3)
+for cut, at in ((4, 4), (5, 4), (6, 4), (7, 4), (8, 8), (9, 9), (69, 66)):
+    case(f'paper number and T cut to {cut}', 1, fixed(N.bytes()[:cut]), 4, at)
+case('paper number, T and one byte', 1, fixed(N.bytes() + b'\0'), 4, 70)
+case('version 3 without a paper number', 1, T.set('version', 3).bytes(), 5, 8)
+for v in (0, 9): field('paper number and n', 1, N, 'n', v, 5)
+for v in (0, 5): field('paper number and c', 1, N, 'c', v, 5)
+field('paper number and unsafe', 1, N, 'unsafe', 17, 5)
+field('paper number and unsafe rows', 1, N, 'rows0', 9, 5)
 # 5: both ends of each range of the model's fields
 for v in (0, 9, 255): field('n', 1, T, 'n', v, 5)
 accepted('n 8', model(n=8))
@@ -120,12 +134,17 @@ case('4097 joint switches', 1, x.set('label2.16', 0).bytes(), 8, 4)
 case('32768 joint switches', 1, model(c=3, switches=[32] * 3, alphabets=[2] * 3, label=1).bytes(), 8, 4)
 case('1048576 joint switches', 1, model(c=4, switches=[32] * 4, alphabets=[2] * 4, label=1).bytes(), 8, 4)
 case('bytes left before 7', 1, fixed(model(c=3, modes=[8, 8, 2]).bytes() + b'\0'), 4, len(model(c=3, modes=[8, 8, 2]).bytes()))
+for v, place in ((2, 4), (3, 8)):
+    case(f'128 locations, version {v}', 1, model(c=3, modes=[8, 8, 2]).versioned(v, 7).bytes(), 7, place)
+    case(f'4097 joint switches, version {v}', 1, x.set('label2.16', 0).versioned(v, 7).bytes(), 8, place)
+accepted('64 locations, version 3', model(c=2, modes=[8, 8]).versioned(3, 7))
 
 # the certificate's header and regions, with T as the model
 case('model T', 0, t, 0, 0)
 case('C regions', 2, C.bytes(), 0, 14)
 case('T as certificate', 2, t, 3, 3)
-for v in (0, 2, 3, 255): field('certificate version', 2, C, 'version', v, 2)
+for v in (0, 2, 4, 5, 255): field('certificate version', 2, C, 'version', v, 2)
+case('T of version 3 as certificate', 2, N.bytes(), 3, 3)
 for v in (0, 2, 255): field('locations', 2, C, 'locations', v, 5)
 for v in (17, 255): field('region rows', 2, C, 'region0', v, 5)
 case('region rows 0', 2, C.set('region0', 0).bytes(), 0, 6)
@@ -158,7 +177,8 @@ for cut, at in ((19, 19), (20, 20), (23, 20)): case(f'entry cut to {cut}', 4, C.
 R = run(1, 0, [5], flow(2, 9))
 case('run', 5, R.bytes(), 0, 15)
 case('C as run', 5, C.bytes(), 3, 3)
-for v in (0, 2, 3, 255): field('run version', 5, R, 'version', v, 2)
+for v in (0, 2, 4, 5, 255): field('run version', 5, R, 'version', v, 2)
+case('T of version 3 as run', 5, N.bytes(), 3, 3)
 for v in (0, 2 ** 24, 2 ** 32 - 1): field('q', 5, R, 'q', v, 5)
 case('q 16777215', 5, R.set('q', 2 ** 24 - 1).bytes(), 0, 15)
 for v in (4096, 65535): field('steps', 5, R, 'steps', v, 5)
@@ -195,6 +215,12 @@ case('C regions beside version 2', 2, C.bytes(), 0, 14)
 field('beside version 2, certificate version', 2, C, 'version', 2, 2)
 case('run beside version 2', 5, R.bytes(), 0, 15)
 field('beside version 2, run version', 5, R, 'version', 2, 2)
+
+# a jump is read by the counts of its model, which stand four bytes later in version 3
+case('model J of version 3', 0, J.versioned(3, 7).bytes(), 0, 0)
+case('jump beside version 3', 6, j.bytes(), 0, 24, (15, 0, 0))
+for v in (2, 254): field('beside version 3, first switch', 6, j, 'switch0.0', v, 5, (15, 0, 0))
+for v in (0, 254): field('beside version 3, second switch', 6, j, 'switch1.0', v, 5, (15, 0, 0))
 
 folder = sys.argv[1]
 data = b''.join(records)

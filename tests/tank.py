@@ -1,5 +1,5 @@
-"""Document 01's tank T and its certificate C, a tank of version 2 with its certificate, and a plant of four components with its certificate
-and a run, as sheets."""
+"""Document 01's tank T and its certificate C, both once more with a paper number, a tank of version 2 with its certificate, and a plant of four
+components with its certificate and a run, as sheets."""
 from fractions import Fraction
 from math import lcm
 
@@ -19,6 +19,10 @@ def tank(bound=-11, switches=(), events=0):
 T = tank()
 C = certificate([[(1, 10)]], [(1, [(2, 1)]), (1, [(2, 1)]), (0, [(0, 1), (2, 1)])])
 assert T.length() == 66 and C.length() == 49 and [C.place(k) for k in ('k0', 'k1', 'k2')] == [14, 24, 34]
+
+# T and C in version 3: they belong together, as both have this paper number (document 02, order 7). C of another paper has another one.
+NUMBER, OTHER_NUMBER = 2307, 2370
+NUMBERED_TANK, NUMBERED_CERTIFICATE, OTHER_CERTIFICATE = T.versioned(3, NUMBER), C.versioned(3, NUMBER), C.versioned(3, OTHER_NUMBER)
 
 # A tank of version 2 with a valve. Open, in mode 1, its level rises at 0 to 2, up to 10. Closed, in mode 0, no flow row mentions the level, and
 # no switch has a row, so that it changes neither then nor in a jump (document 02, order 6). A level of 11 is unsafe.
