@@ -3,6 +3,7 @@ use buffers::put_byte;
 use buffers::put_half;
 use fair_conditions::conditions::Stretch;
 use fair_conditions::conditions::put_condition;
+use joint_switches::joints::wide;
 use models::layout::BLOCK_LENGTH;
 use models::layout::COMPONENTS_AT;
 use models::layout::CONDITIONS_AT;
@@ -24,7 +25,6 @@ use models::layout::UNSAFE_ROWS_AT;
 use models::layout::VARIABLES_AT;
 use papers::opening::number_at;
 use papers::opening::version_of;
-use papers::opening::widened;
 ghost use mathlib.Core.Path.{_≡_};
 ghost use Prim.Native.Nat.{ℕ, _+_, _*_, _^_, _≤_, _<_};
 ghost use lib.ListN.{length};
@@ -265,7 +265,7 @@ fn put_component(
     ensures { λ r. ⌜ r ≤ at + 104900 ⌝ }
 {
     let block = FIRST_BLOCK + BLOCK_LENGTH * k;
-    let alphabet = put_half(out, at, widened(index[block]));
+    let alphabet = put_half(out, at, wide(index[block]));
     let counts = put_entries(out, alphabet, index, block + MODE_COUNT_AT, 2);
     let modes = put_items(
         out,

@@ -138,10 +138,14 @@ module _ (limits : Limits) (s : List ℕ) (m : Model) (next : ℕ) (e : readMode
       (same-unsafe bareRows bare-faithful (c .model) copy q l x)
       (same-unsafe fairCondition fair-faithful m original q l x)
 
-  -- it has the model's version, and keeps the same variables: those that are still in a flow, and those that stay in a jump
+  -- it has the model's version and paper number, and keeps the same variables: those that are still in a flow, and those that stay in a jump
   pub copy-version : c .model .version ≡ m .version
   unfolding bare fairModel changed
   copy-version = alike (λ y. y .version) refl refl
+
+  pub copy-number : c .model .paper ≡ m .paper
+  unfolding bare fairModel changed
+  copy-number = alike (λ y. y .paper) refl refl
 
   pub copy-still : (location : ℕ) → stillVariables (c .model) location ≡ stillVariables m location
   unfolding bare fairModel

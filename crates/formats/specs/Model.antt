@@ -77,8 +77,8 @@ readUnsafe version n components = do
   rows ← readCondition version 8 n
   give (record { modes = modes; rows = rows })
 
--- after the version and the paper number: "u8 variables n, 1..8; u8 components c, 1..4; u8 unsafe conditions, 0..16. n bytes: each variable's owner, 0..c−1. Per component ..
--- Per unsafe condition .."
+-- after the header and the paper number: "u8 variables n, 1..8; u8 components c, 1..4; u8 unsafe conditions, 0..16. n bytes: each
+-- variable's owner, 0..c−1. Per component .. Per unsafe condition .."
 unfoldable pub readModelBody : ℕ → ℕ → Reader Model
 readModelBody version paper = do
   n ← within 1 8 u8

@@ -36,8 +36,7 @@ rowBytes version n = 4 * (n + 1)
 unfoldable pub strictAt : ℕ → List ℕ → ℕ → Bool
 strictAt version s place = false
 
--- "The board's new rule book reads a blank as "does not change"" (02, order 6), from version 2 on ("Version 3 keeps version 2's blanks", order
--- 7); in version 1 "an unmentioned variable of a
--- moving one is free"
+-- "The board's new rule book reads a blank as "does not change"" (02, order 6), from version 2 on: "Version 3 keeps version 2's blanks" (order
+-- 7). In version 1 "an unmentioned variable of a moving one is free"
 unfoldable pub keepsBlanks : ℕ → Bool
 keepsBlanks version = leb 2 version

@@ -104,7 +104,7 @@ pub fn bit_of(yes: bool) -> u32
 }
 
 // A number of an index, as counts have it.
-fn wide(x: u16) -> u32
+pub fn wide(x: u16) -> u32
     ensures { λ r. ⌜ r ≡ x ⌝ }
 {
     x as u32

@@ -6,6 +6,7 @@ use fields::header::header;
 use fields::header::read_paper;
 use formats::Limits;
 use joint_switches::joints::location_count;
+use joint_switches::joints::wide;
 use joint_switches::totals::event_totals;
 use joint_switches::totals::joint_total;
 use models::body::body_into;
@@ -53,13 +54,6 @@ fn opening_into(s: &[u8], index: &mut Index) -> Next
     }
 }
 
-// A number of an index as a wider one.
-fn widened(x: u16) -> u32
-    ensures { λ r. ⌜ r ≡ x ⌝ }
-{
-    x as u32
-}
-
 // Keeps the counts in an index.
 fn keep_counts(totals: [u32; 16], joints: u32, locations: u32, index: &mut [u16])
     requires { ⌜ (indexLength ≤ length (now index)) × Small totals joints locations ⌝ }
@@ -105,7 +99,7 @@ pub fn model_into(s: &[u8], index: &mut Index, limits: Limits) -> Next
     match opening_into(s, index) {
         Next::Refused(number, place) => Next::Refused(number, place),
         Next::At(body) => {
-            let version = widened(index[VERSION_AT]);
+            let version = wide(index[VERSION_AT]);
             match body_into(s, body, version, index) {
                 Next::Refused(number, place) => Next::Refused(number, place),
                 Next::At(end) => match finished(s, end) {

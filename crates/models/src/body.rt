@@ -60,8 +60,8 @@ fn parts_into(
     }
 }
 
-// The body from this place on; the index has the version and the paper number already. After a refusal the numbers of the index are free; what a longer array
-// holds past them stays.
+// The body from this place on; the index has the version and the paper number already. After a refusal the numbers of the index are free;
+// what a longer array holds past them stays.
 pub fn body_into(s: &[u8], at: usize, version: u32, index: &mut [u16]) -> Next
     requires { ⌜ Sized (now s) (now index) ⌝ }
     requires { ⌜ version ≡ versionIn (now index) ⌝ }

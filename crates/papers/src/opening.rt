@@ -8,6 +8,7 @@ use fields::header::header;
 use fields::header::read_paper;
 use fields::versions::pair_of;
 use formats::Limits;
+use joint_switches::joints::wide;
 use model_sheets::limits::limits_fit;
 use model_sheets::sheet::model_into;
 use models::layout::Index;
@@ -102,18 +103,11 @@ pub fn locations_of(model: &[u8], index: &Index) -> u32
     index[LOCATIONS_AT] as u32
 }
 
-// A number of an index as a wider one.
-pub fn widened(x: u16) -> u32
-    ensures { λ r. ⌜ r ≡ x ⌝ }
-{
-    x as u32
-}
-
 // The version of the model's sheet.
 pub fn version_of(index: &Index) -> u32
     ensures { λ r. ⌜ r ≡ versionIn (now (index .entry)) ⌝ }
 {
-    widened(index[VERSION_AT])
+    wide(index[VERSION_AT])
 }
 
 // A number by its halves.
@@ -131,7 +125,7 @@ pub fn paper_of(index: &Index) -> u32
 }
 
 // A number of an index, as places have it.
-fn wide(x: u16) -> usize
+fn offset(x: u16) -> usize
     ensures { λ r. ⌜ r ≡ x ⌝ }
 {
     x as usize
@@ -142,5 +136,5 @@ pub fn number_at(index: &Index, i: usize) -> usize
     requires { ⌜ i < indexLength ⌝ }
     ensures { λ r. ⌜ r ≡ entry (now (index .entry)) i ⌝ }
 {
-    wide(index[i])
+    offset(index[i])
 }

@@ -27,14 +27,14 @@ mul-block c = omega (arith, few (c .before .before .before .before))
 add-block : tie.Need-add-block
 add-block c = omega (arith, few (c .before .before .before .before))
 
-mul-widened : tie.Need-mul-widened
-mul-widened c = omega (arith, few (c .before .before .before .before .before))
+mul-wide : tie.Need-mul-wide
+mul-wide c = omega (arith, few (c .before .before .before .before .before))
 
-element-copy-out-widened : tie.Need-element-copy-out-widened
-element-copy-out-widened c = omega (arith, few (c .before .before .before .before .before))
+element-copy-out-wide : tie.Need-element-copy-out-wide
+element-copy-out-wide c = omega (arith, few (c .before .before .before .before .before))
 
-widened-requires : tie.Need-widened-requires
-widened-requires c κs = search needs
+wide-requires : tie.Need-wide-requires
+wide-requires c κs = search needs
 
 put-half-requires : tie.Need-put-half-requires
 put-half-requires c κs = omega (arith, c .before .before .before .before .before .before .before .pre .1 .0)
@@ -93,7 +93,7 @@ returns c =
     let counts = c .before .before .before .before .before .before .before .before .before .before .before .before .before .before .before .before .before .before .before .before .before .before .before .before .put-entries in
     let modes = c .before .before .before .before .before .before .before .before .before .before .before .before .before .before .before .before .before .put-items in
     let switches = c .before .before .before .before .before .before .put-items2 in
-    let first = subst (λ (x : ℕ). Written (now (a .out)) (a .at) (half x) (alphabet .last .0) (alphabet .result)) (c .before .before .before .before .before .before .before .before .before .before .before .before .before .before .before .before .before .before .before .before .before .before .before .before .before .before .before .before .before .widened .ensures) (as-half _ (alphabet .ensures)) in
+    let first = subst (λ (x : ℕ). Written (now (a .out)) (a .at) (half x) (alphabet .last .0) (alphabet .result)) (c .before .before .before .before .before .before .before .before .before .before .before .before .before .before .before .before .before .before .before .before .before .before .before .before .before .before .before .before .before .wide .ensures) (as-half _ (alphabet .ensures)) in
     let third = subst (λ (x : Items). Written (counts .last .0) (counts .result) (itemsBytes model index x) (modes .last .0) (modes .result)) (c .before .before .before .before .before .before .before .before .before .before .before .before .before .before .before .before .before .before .before .before .modes-of .ensures) (modes .ensures .0) in
     let fourth = subst (λ (x : Items). Written (modes .last .0) (modes .result) (itemsBytes model index x) (switches .last .0) (switches .result)) (c .before .before .before .before .before .before .before .before .before .switches-of .ensures) (switches .ensures .0) in
     (left-last _ (left-on _ _ (left-on _ _ (left-on _ _ (left-as (component-parts model index (a .k)) (left-all (now (a .out)) (a .at) _)) first) (counts .ensures .0)) third) fourth, omega (arith, switches .ensures .1, modes .ensures .1, counts .ensures .1, alphabet .ensures .0))
@@ -104,9 +104,9 @@ put-component-spec =
     (tie.spec
     mul-block
     add-block
-    mul-widened
-    element-copy-out-widened
-    widened-requires
+    mul-wide
+    element-copy-out-wide
+    wide-requires
     put-half-requires
     add-put-entries
     put-entries-requires

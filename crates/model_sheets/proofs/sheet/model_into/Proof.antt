@@ -62,7 +62,7 @@ module _ (c : tie.After-end) where
 
   two : readModelBody (versionIn (opened head)) (paperIn (opened head)) (s head) (body head) ≡ got m end
   unfolding entry
-  two = subst (λ (v : ℕ). readModelBody v (paperIn (opened head)) (s head) (body head) ≡ got m end) (c .before .before .before .before .widened .ensures) (told-at m _ (c .before .before .body-into .ensures .0) (c .end .given .1))
+  two = subst (λ (v : ℕ). readModelBody v (paperIn (opened head)) (s head) (body head) ≡ got m end) (c .before .before .before .before .wide .ensures) (told-at m _ (c .before .before .body-into .ensures .0) (c .end .given .1))
 
   good : GoodIndex (s head) index
   good = body-good (versionIn (opened head)) (paperIn (opened head)) (s head) index (body head) end (known head .fits) two
@@ -76,18 +76,18 @@ enum-known-number c = search needs
 enum-known-body : tie.Need-enum-known-body
 enum-known-body c = search needs
 
-element-copy-out-widened : tie.Need-element-copy-out-widened
-element-copy-out-widened c = search needs
+element-copy-out-wide : tie.Need-element-copy-out-wide
+element-copy-out-wide c = search needs
 
-widened-requires : tie.Need-widened-requires
-widened-requires c κs = search needs
+wide-requires : tie.Need-wide-requires
+wide-requires c κs = search needs
 
 body-into-requires : tie.Need-body-into-requires
 unfolding entry
 body-into-requires c κs =
     let at = c .before .before .before .before in
     let long : 1004 ≤ length (opened at) = search needs in
-    (record { short = known at .short; long = long }, c .before .widened .ensures)
+    (record { short = known at .short; long = long }, c .before .wide .ensures)
 
 enum-known-number-2 : tie.Need-enum-known-number-2
 enum-known-number-2 c = search needs
@@ -125,7 +125,7 @@ returns-2 c =
     let read = c .before .before .before .body-into in
     let y = read .last .1 .1 .1 .0 in
     let told = c .before .number2 .given in
-    let e = subst (λ (v : ℕ). readModelBody v (paperIn (opened at)) (s at) (body at) ≡ refused (told .0 .0) (told .0 .1 .0)) (c .before .before .before .before .before .widened .ensures) (told-refused (modelFrom (s at) y) _ (read .ensures .0) (told .1)) in
+    let e = subst (λ (v : ℕ). readModelBody v (paperIn (opened at)) (s at) (body at) ≡ refused (told .0 .0) (told .0 .1 .0)) (c .before .before .before .before .before .wide .ensures) (told-refused (modelFrom (s at) y) _ (read .ensures .0) (told .1)) in
     (sym (sheet-second (begun at .args .limits) (s at) (openingFrom (opened at)) (body at) (one at) (told .0 .0) (told .0 .1 .0) e), (kept-then (stored at) (kept-wider (omega arith) (omega arith) (read .ensures .1)), refused-uncounted (s at) y (told .0 .0) (told .0 .1 .0)))
 
 returns-3 : tie.Need-returns-3
@@ -159,8 +159,8 @@ model-into-spec =
     opening-into-requires
     enum-known-number
     enum-known-body
-    element-copy-out-widened
-    widened-requires
+    element-copy-out-wide
+    wide-requires
     body-into-requires
     enum-known-number-2
     enum-known-end

@@ -4,18 +4,18 @@ use Rattle.models.specs.Index.{entry}
 use Rattle.papers.proofs.opening.number_at.Statement.{statement}
 use Rattle.papers.proofs.opening.number_at.Tie as tie
 
-mul-wide : tie.Need-mul-wide
-mul-wide c = search needs
+mul-offset : tie.Need-mul-offset
+mul-offset c = search needs
 
-element-copy-out-wide : tie.Need-element-copy-out-wide
-element-copy-out-wide c = search needs
+element-copy-out-offset : tie.Need-element-copy-out-offset
+element-copy-out-offset c = search needs
 
-wide-requires : tie.Need-wide-requires
-wide-requires c κs = search needs
+offset-requires : tie.Need-offset-requires
+offset-requires c κs = search needs
 
 returns : tie.Need-returns
 unfolding entry
-returns c = c .wide .ensures
+returns c = c .offset .ensures
 
 pub number-at-spec : {M : Type 1} → statement M
-number-at-spec = tie.close (tie.spec mul-wide element-copy-out-wide wide-requires returns)
+number-at-spec = tie.close (tie.spec mul-offset element-copy-out-offset offset-requires returns)
