@@ -324,7 +324,7 @@ role-in-so b m o h (got regions next) =
 
 -- every call that takes both sheets, and the calls that take the model alone
 module _ (limits : Limits) (s t : List ℕ) (w : ButForNumber s t) (late : 3 ≤ versionOf s) where
-  by-opening : {A : Type 0} (f h : ModelOpened → A) → ((number sheet at : ℕ) → f (shut number sheet at) ≡ h (shut number sheet at)) → ((m : Model) (end : ℕ) → readModel limits s ≡ got m end → f (opens (renumbered (numberOf t) m)) ≡ h (opens m)) → f (openModel limits t) ≡ h (openModel limits s)
+  pub by-opening : {A : Type 0} (f h : ModelOpened → A) → ((number sheet at : ℕ) → f (shut number sheet at) ≡ h (shut number sheet at)) → ((m : Model) (end : ℕ) → readModel limits s ≡ got m end → f (opens (renumbered (numberOf t) m)) ≡ h (opens m)) → f (openModel limits t) ≡ h (openModel limits s)
   unfolding mapped
   by-opening f h shuts opened = go (begins limits s)
     where
@@ -359,7 +359,7 @@ module _ (limits : Limits) (s t : List ℕ) (w : ButForNumber s t) (late : 3 ≤
       same-model : (numberOf second ≡ m .paper) ↔ (numberOf other ≡ numberOf t)
       same-model = (λ x. same .0 (x ∙ own), λ x. same .1 x ∙ sym own)
 
-      regions-read : (openSecond 2 (renumbered (numberOf t) m) >> readRegions (renumbered (numberOf t) m)) other 0 ≡ (openSecond 2 m >> readRegions m) second 0
+      pub regions-read : (openSecond 2 (renumbered (numberOf t) m) >> readRegions (renumbered (numberOf t) m)) other 0 ≡ (openSecond 2 m >> readRegions m) second 0
       regions-read =
           ap (λ (r : Reader (List Condition)). (openSecond 2 (renumbered (numberOf t) m) >> r) other 0) (regions-so (numberOf t) m)
           ∙ read-with 2 m second other v (numberOf t) late-model same-model (onward-regions m)
