@@ -43,7 +43,7 @@ int write_fair_copy(const struct paper *paper, const char *name)
     return ACCEPTED;
 }
 
-/* The versions, which may give the same rows other runs, or the paper numbers. The copies have them too. */
+/* The versions, which may give the same rows other runs, or the paper numbers: copies keep both, so that they differ in them too. */
 static void print_heads_if_different(const struct sheet *model, const struct sheet *other)
 {
     uint32_t number = sheet_paper_number(model);

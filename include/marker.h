@@ -88,8 +88,8 @@ struct silfoddra_row {
    than in a sheet of version 1 or 2. A model and its second sheet must have the same paper number.
    Every call on two sheets reads the model, then the second sheet, which is refused in this order: 1, 2, 3; 18 at place 2 if its version
    does not go with the model's; in version 3, 4 at place 4 if its paper number is cut, then 18 at place 4 if that is not the model's; then
-   for its other fields. With 18, done and score are 0. A call on a model alone reads the paper number, which may be cut there too, and does
-   nothing with it. */
+   for its other fields. With 18, done and score are 0. In a model too a cut paper number is 4 at place 4. A call on a model alone compares
+   the number with nothing; a fair copy keeps it. */
 
 /* The model's version decides what a blank means, in every call. A variable is a blank in a flow if all flow rows of its owner's present
    mode have coefficient 0 at it, and in a jump that moves its owner if all rows of the owner's switch have coefficient 0 at its value after

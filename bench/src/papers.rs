@@ -40,8 +40,10 @@ pub fn cases() -> Vec<Case> {
         case("the same model, a buffer one byte too short", Call::ShortCopy, 15, extremes::longest_copy()),
         case("model of 32,768 bytes, most of it repeated rows", Call::FairCopy, 0, extremes::longest_model()),
         case("blanks of version 2, 912 proofs", Call::Certificate, 0, proved_turns(2)),
+        case("the same in version 3, with a paper number", Call::Certificate, 0, proved_turns(3)),
         case("the same in version 1, staying rows written out", Call::Certificate, 0, proved_turns(1)),
         case("blanks of version 2, 896 steps", Call::Run, 0, turns::run(2)),
+        case("the same in version 3, with a paper number", Call::Run, 0, turns::run(3)),
         case("the same in version 1, staying rows written out", Call::Run, 0, turns::run(1)),
     ]
 }

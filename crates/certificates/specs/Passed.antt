@@ -82,6 +82,6 @@ markedRest model index second regions locations at =
     let all = obligationsFor model index second regions locations in
     closeCertificate (length all) second (markProofs all second at 0)
 
--- the answer on one whose body begins here
+-- the answer on one whose own fields begin here: its regions
 abbrev pub markedBody : List ℕ → List ℕ → List ℕ → ℕ → Answer
 markedBody model index second place = markRegions (modelFrom model index) second (readRegions (modelFrom model index) second place)

@@ -78,7 +78,7 @@ fn mark_rest(
     end_certificate(second, marked.place, marked.done)
 }
 
-// A certificate from its body on: its regions, then its proofs and its end.
+// A certificate from its own fields on: its regions, then its proofs and its end.
 fn mark_body(model: &[u8], index: &Index, second: &[u8], body: usize) -> Answer
     requires { ⌜ Accepted (now model) (now index) ⌝ }
     requires { ⌜ (body ≤ length (now second)) × (length (now second) ≤ 32768) ⌝ }

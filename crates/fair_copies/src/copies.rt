@@ -29,7 +29,7 @@ ghost use Rattle.writing.specs.Writing.{writePaper, writeFields, writeBody};
 ghost use Rattle.fair_models.specs.FairCopy.{fairModel, fairCopy, copyAnswer, copyOver, fairAnswer, bufferAfter};
 ghost use Rattle.fair_copies.specs.Copyable.{Copyable, Room};
 
-// How many counts a body begins with: variables, components, unsafe conditions.
+// How many counts a model's fields begin with: variables, components, unsafe conditions.
 const COUNTS: usize = 3;
 
 // The kind of a model's sheet.

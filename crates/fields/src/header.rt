@@ -1,4 +1,4 @@
-// A sheet's header, tested before its body: its length, its version, its kind. And its end.
+// A sheet's header, tested before its body: its length, its version, its kind. Its paper number. And its end.
 use crate::Field;
 use crate::Next;
 use crate::fields::word;

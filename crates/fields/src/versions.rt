@@ -1,5 +1,5 @@
-// What a sheet's version decides: which versions and kinds its header may have, where its body begins, how many bytes a row has, whether a
-// row is strict, and whether a variable that no row mentions keeps its value.
+// What a sheet's version decides: which versions and kinds its header may have, which second sheets go with a model, whether its body begins
+// with a paper number, how many bytes a row has, whether a row is strict, and whether a variable that no row mentions keeps its value.
 ghost use mathlib.Core.Path.{_≡_};
 ghost use Prim.Native.Nat.{_*_, _≤_, _<_};
 ghost use Rattle.formats.specs.Versions.{versionFits, pairOf, hasPaper, kindFits, rowBytes, strictAt, keepsBlanks};

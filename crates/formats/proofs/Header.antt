@@ -5,7 +5,8 @@ use mathlib.Core.Bool.{Bool, true, false, cond, _&&_}
 use mathlib.Core.List.{List, [], _∷_}
 use Prim.Native.Nat.{ℕ, zero, suc, _+_, _≤_}
 use native.Mathlib.Omega.{arith}
-use lib.Dec.{T, leb, eqb}
+use mir.Facts.{and-yes}
+use lib.Dec.{T, leb, eqb, leb→le}
 use lib.ListN.{length, take, drop}
 use lib.Seq.{take-take}
 use Rattle.formats.specs.Versions.{versionFits, kindFits, hasPaper}
@@ -22,29 +23,41 @@ sized-stays s p e = go (lengthRight s) e
     go true d = sym (got-next d)
     go false d = let z : _≡_ {A = ℕ} 0 1 = cc in absurd (omega arith)
 
--- the version is byte 2, and the body begins at place 4
-pub record HeaderRead (kind : ℕ) (s : List ℕ) (version next : ℕ) : Type 0 where
-  pub fits : T (versionFits kind version)
-  pub byte : version ≡ bigEndian (take 1 (drop 2 s))
-  pub ends : next ≡ 4
+sized-short : (s : List ℕ) (p : ℕ) {u : Unit {0}} {next : ℕ} → sized s p ≡ got u next → length s ≤ 32768
+unfolding sized lengthRight
+sized-short s p e = go (lengthRight s) refl e
+  where
+    go : (b : Bool) → lengthRight s ≡ b → {u : Unit {0}} {next : ℕ} → cond b (got tt p) (refused 1 0) ≡ got u next → length s ≤ 32768
+    go true q d =
+        let h = and-yes (leb 4 (length s) && leb (length s) 32768) (eqb (bigEndian (take 2 s) + 2) (length s)) (subst T (sym q) tt) in
+        leb→le (length s) 32768 (and-yes (leb 4 (length s)) (leb (length s) 32768) (h .0) .1)
+    go false q d = let z : _≡_ {A = ℕ} 0 1 = cc in absurd (omega arith)
 
-pub header-read : (kind : ℕ) (s : List ℕ) (version next : ℕ) → header kind s 0 ≡ got version next → HeaderRead kind s version next
+-- the sheet is not too long, the version is its byte 2, and the body begins at place 4: counted from where the header is read
+pub record HeaderRead (kind : ℕ) (s : List ℕ) (p version next : ℕ) : Type 0 where
+  pub fits : T (versionFits kind version)
+  pub short : length s ≤ 32768
+  pub byte : version ≡ bigEndian (take 1 (drop (p + 2) s))
+  pub ends : next ≡ p + 4
+
+pub header-read : (kind : ℕ) (s : List ℕ) (p version next : ℕ) → header kind s p ≡ got version next → HeaderRead kind s p version next
 unfolding header _>>=_ _>>_ u16 u8 must give
-header-read kind s version next e =
-    let a = passes (sized s 0) _ s version next e in
+header-read kind s p version next e =
+    let a = passes (sized s p) _ s version next e in
     let b = passes (field 2 s (a .place)) _ s version next (a .second) in
     let c = passes (passing (versionFits kind) 2 (b .place) (field 1 s (b .place))) _ s version next (b .second) in
     let d = passes (passing (kindFits kind) 3 (c .place) (field 1 s (c .place))) _ s version next (c .second) in
     let v = tested (versionFits kind) 2 (b .place) (field 1 s (b .place)) (c .value) (c .place) (c .first) in
     let k = tested (kindFits kind) 3 (c .place) (field 1 s (c .place)) (d .value) (d .place) (d .first) in
-    let h = sized-stays s 0 (a .first) in
+    let h = sized-stays s p (a .first) in
     let i = field-read 2 s (a .place) (b .value) (b .place) (b .first) .after in
     let j = field-read 1 s (b .place) (c .value) (c .place) (v .read) in
     let l = field-read 1 s (c .place) (d .value) (d .place) (k .read) .after in
-    let two : b .place ≡ 2 = omega (arith, h, i) in
+    let two : b .place ≡ p + 2 = omega (arith, h, i) in
     let same : c .value ≡ version = got-value (d .second) in
     record {
       fits = subst (λ (x : ℕ). T (versionFits kind x)) same (v .passed);
+      short = sized-short s p (a .first);
       byte = sym same ∙ j .value ∙ ap (λ (n : ℕ). bigEndian (take 1 (drop n s))) two;
       ends = omega (arith, two, j .after, l, got-next (d .second));
     }

@@ -8,8 +8,8 @@ use native.Mathlib.Omega.{arith}
 use lib.Dec.{leb}
 use lib.ListN.{length, take, drop}
 use lib.Seq.{drop-drop}
-use Rattle.formats.specs.Versions.{strictAt, hasPaper}
-use Rattle.formats.specs.Reading.{Got, got, refused, Reader, andThen, _>>=_, _>>_, give, here, expect, bigEndian, field, u8, u16, u32, s32, passing, must, within, below, many, each, paperIf, readPaper, finished, withinSigned}
+use Rattle.formats.specs.Versions.{strictAt}
+use Rattle.formats.specs.Reading.{Got, got, refused, Reader, andThen, _>>=_, _>>_, give, here, expect, bigEndian, field, u8, u16, u32, s32, passing, must, within, below, many, each, finished, withinSigned}
 use Rattle.formats.specs.Rows.{readStrict, readRow, readCondition}
 use Rattle.formats.specs.Model.{Component, Model, readMode, readSwitch, readComponent, readUnsafe, readModelBody}
 use Rattle.formats.specs.Certificate.{readRegions, readEntry, readEntries, readProof}
@@ -155,14 +155,6 @@ onward-finished = record {
     go : (p : ℕ) (b : Bool) → Rises {A = Unit {0}} p (cond b (got tt p) (refused 4 p))
     go p true = omega arith
     go p false = tt
-
-pub onward-paper : (version : ℕ) → Onward (readPaper version)
-unfolding readPaper paperIf
-onward-paper version = go (hasPaper version)
-  where
-    go : (b : Bool) → Onward (paperIf b)
-    go true = onward-u32
-    go false = onward-give 0
 
 -- rows and conditions
 onward-strict : (version : ℕ) → Onward (readStrict version)

@@ -1,5 +1,5 @@
--- Where readings end: a value is followed by a place that is no earlier, within the sheet; a refusal has a number from 1 to 9 and a
--- place within the sheet. A law for each way of putting readings together, then each reading. Assumes nothing.
+-- Where readings end: a value is followed by a place that is no earlier, within the sheet; a refusal has a number from 1 up to some bound,
+-- which is 9 for the fields of all sheets and a model's limits, and a place within the sheet. A law for each way of putting readings together, then each reading. Assumes nothing.
 use mathlib.Core.Path.{_≡_, refl, sym, subst}
 use mathlib.Core.Bool.{Bool, true, false, cond}
 use mathlib.Core.List.{List, [], _∷_}
@@ -8,15 +8,14 @@ use native.Mathlib.Omega.{arith}
 use lib.Dec.{leb}
 use lib.ListN.{length}
 use borrow.Author.Tests.{leb-true}
-use Rattle.formats.specs.Versions.{versionFits, kindFits, hasPaper}
+use Rattle.formats.specs.Versions.{hasPaper}
 use Rattle.formats.specs.Reading.{Got, got, refused, Reader, andThen, _>>=_, _>>_, give, here, expect, field, u8, u16, u32, s32, passing, must, within, below, many, each, lengthRight, sized, header, paperIf, readPaper, finished, withinSigned}
 use Rattle.formats.specs.Rows.{readStrict, readRow, readCondition}
 use Rattle.formats.specs.Model.{Component, Model, readMode, readSwitch, readComponent, readUnsafe, readModelBody}
 use Rattle.formats.specs.declared.Limits.{Limits}
 use Rattle.formats.specs.ModelSheet.{limitsTest, readModel}
 use Rattle.formats.proofs.ModelSheet.{in-a-chain}
-use Rattle.formats.proofs.Gives.{got-next, passes, tested}
-use Rattle.formats.proofs.FieldLaws.{field-read}
+use Rattle.formats.proofs.Header.{header-read}
 use Rattle.formats.specs.Certificate.{readRegions, readEntry, readEntries, readProof}
 use Rattle.formats.specs.RunSheet.{readValues, readOpening, readFlow, readJump, readStepOf, readStep}
 
@@ -149,24 +148,12 @@ placed-header kind =
     (λ version. placed-then (placed-must _ 3 (omega arith) (omega arith) placed-u8) (placed-give version))))
 
 -- what follows a header begins after its four bytes
-header-ends : (kind : ℕ) (s : List ℕ) (p v next : ℕ) → header kind s p ≡ got v next → 4 ≤ next
-unfolding header _>>=_ _>>_ u16 u8 must give
-header-ends kind s p v next e =
-    let a = passes (sized s p) _ s v next e in
-    let b = passes (field 2 s (a .place)) _ s v next (a .second) in
-    let c = passes (passing (versionFits kind) 2 (b .place) (field 1 s (b .place))) _ s v next (b .second) in
-    let d = passes (passing (kindFits kind) 3 (c .place) (field 1 s (c .place))) _ s v next (c .second) in
-    let i = field-read 2 s (a .place) (b .value) (b .place) (b .first) .after in
-    let j = field-read 1 s (b .place) (c .value) (c .place) (tested (versionFits kind) 2 (b .place) (field 1 s (b .place)) (c .value) (c .place) (c .first) .read) .after in
-    let k = field-read 1 s (c .place) (d .value) (d .place) (tested (kindFits kind) 3 (c .place) (field 1 s (c .place)) (d .value) (d .place) (d .first) .read) .after in
-    omega (arith, i, j, k, got-next (d .second))
-
 pub placed-headed : {B : Type 0} {most least : ℕ} (kind : ℕ) {f : ℕ → Reader B} → 9 ≤ most → ((version : ℕ) → PlacedTo most 4 (f version)) → PlacedTo most least (header kind >>= f)
 unfolding _>>=_ andThen
 placed-headed {B} {most} {least} kind {f} up k = record { fine = λ s p h l. go s p (header kind s p) refl (placed-up up (placed-header {least = least} kind) .fine s p h l) }
   where
     go : (s : List ℕ) (p : ℕ) (g : Got ℕ) → header kind s p ≡ g → FineTo most s p g → FineTo most s p (andThen g f s)
-    go s p (got v next) e w = later most s p next (f v s next) (w .0) (k v .fine s next (header-ends kind s p v next e) (w .1))
+    go s p (got v next) e w = later most s p next (f v s next) (w .0) (k v .fine s next (omega (arith, header-read kind s p v next e .ends)) (w .1))
     go s p (refused number place) e w = w
 
 pub placed-finished : {least : ℕ} → Placed least finished

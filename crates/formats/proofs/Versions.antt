@@ -39,8 +39,7 @@ version-range kind version t = versions-exactly kind version .0 t .0
 pub version-small : (kind version : ℕ) → T (versionFits kind version) → version < 256
 version-small kind version t = omega (arith, version-range kind version t .1)
 
--- the second sheets of a model: of version 1 where the model's is 1 or 2, else of its own version; so a second sheet of this version has a
--- version that second sheets may have
+-- the second sheets of a model: of version 1 where the model's is 1 or 2, else of its own version
 pub pair-early : (version : ℕ) → version ≤ 2 → pairOf version ≡ 1
 unfolding pairOf
 pair-early version h = ap (λ (b : Bool). cond b 1 version) (le-leb version 2 h)

@@ -103,7 +103,7 @@ pub fn bit_of(yes: bool) -> u32
     if yes { 1 } else { 0 }
 }
 
-// A number of an index, as counts have it.
+// A number of an index, as other numbers have it.
 pub fn wide(x: u16) -> u32
     ensures { λ r. ⌜ r ≡ x ⌝ }
 {

@@ -7,11 +7,11 @@ use native.Mathlib.Omega.{arith}
 use lib.ListN.{length, set, length-set}
 use Rattle.formats.specs.Reading.{got, refused, _>>=_, give, header, readPaper}
 use Rattle.formats.proofs.Gives.{passes, got-value, bind-got}
+use Rattle.formats.proofs.Header.{HeaderRead, header-read}
 use Rattle.fields.proofs.Skipping.{bind-refused}
 use Rattle.models.specs.Index.{entry, Kept}
 use Rattle.models.proofs.IndexLaws.{entry-same, entry-other, kept-set, kept-then}
 use Rattle.model_sheets.specs.Opening.{Opening, readOpening, openingFrom}
-use Rattle.model_sheets.proofs.SheetLaws.{HeaderRead, header-read}
 
 -- its parts
 pub opening-first : (s : List ℕ) (number place : ℕ) → header 1 s 0 ≡ refused number place → readOpening s 0 ≡ refused number place
@@ -27,12 +27,13 @@ module _ (s : List ℕ) (version at : ℕ) (one : header 1 s 0 ≡ got version a
   unfolding readOpening give
   opening-both paper body e = bind-got (header 1) _ s 0 one (bind-got (readPaper version) _ s at e refl)
 
-pub opening-read : (s : List ℕ) (o : Opening) (body : ℕ) → readOpening s 0 ≡ got o body → HeaderRead 1 s (o .version)
+pub opening-read : (s : List ℕ) (o : Opening) (body : ℕ) → readOpening s 0 ≡ got o body → HeaderRead 1 s 0 (o .version) 4
 unfolding readOpening _>>=_ give
 opening-read s o body e =
     let a = passes (header 1 s 0) (λ version. readPaper version >>= λ paper. give (record { version = version; paper = paper })) s o body e in
     let b = passes (readPaper (a .value) s (a .place)) (λ paper. give (record { version = a .value; paper = paper })) s o body (a .second) in
-    subst (λ (x : Opening). HeaderRead 1 s (x .version)) (got-value (b .second)) (header-read 1 s (a .value) (a .place) (a .first))
+    let h = header-read 1 s 0 (a .value) (a .place) (a .first) in
+    subst (λ (x : Opening). HeaderRead 1 s 0 (x .version) 4) (got-value (b .second)) (subst (HeaderRead 1 s 0 (a .value)) (h .ends) h)
 
 -- kept in an index: the version, then the paper number in two halves
 module _ (index : List ℕ) (version paper : ℕ) (long : 1004 ≤ length index) where

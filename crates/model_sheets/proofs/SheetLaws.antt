@@ -1,16 +1,14 @@
--- The model sheet, whole: what a header that was read tells, and how the answers of its parts make the answer of the sheet. Assumes nothing.
-use mathlib.Core.Path.{_≡_, refl, sym, ap, _∙_, subst}
-use mathlib.Core.Bool.{Bool, true, false, cond, _&&_}
+-- The model sheet, whole: how the answers of its parts make the answer of the sheet. Assumes nothing.
+use mathlib.Core.Path.{_≡_, refl, sym, ap, _∙_}
 use mathlib.Core.List.{List}
-use Prim.Native.Nat.{ℕ, _+_, _≤_, _<_}
+use Prim.Native.Nat.{ℕ, _≤_, _<_}
 use borrow.Author.Tests.{le-leb, lt-leb}
-use native.Mathlib.Omega.{arith}
-use lib.Dec.{T, leb, eqb, leb→le}
-use lib.ListN.{length, take}
+use lib.Dec.{T}
+use lib.ListN.{length}
 use Rattle.fields.specs.declared.Next.{Next}
 use Rattle.fields.specs.declared.Next.the-variants as next
-use Rattle.formats.specs.Versions.{versionFits, kindFits}
-use Rattle.formats.specs.Reading.{Got, got, refused, Reader, andThen, _>>=_, _>>_, give, here, expect, bigEndian, u8, u16, must, lengthRight, sized, header, readPaper, finished}
+use Rattle.formats.specs.Versions.{versionFits}
+use Rattle.formats.specs.Reading.{Got, got, refused, Reader, andThen, _>>=_, _>>_, give, here, expect, header, readPaper, finished}
 use Rattle.formats.specs.Model.{Component, Model, readModelBody}
 use Rattle.formats.specs.Locations.{locationCount}
 use Rattle.formats.specs.Joint.{joints}
@@ -20,7 +18,7 @@ use Rattle.formats.proofs.ModelSheet.{in-a-chain}
 use Rattle.models.specs.Index.{modelFrom, GoodIndex}
 use Rattle.fields.specs.Answers.{gotAs}
 use Rattle.model_sheets.specs.Opening.{Opening, readOpening}
-use Rattle.formats.proofs.Gives.{passes, tested, got-value, bind-got, then-got, and-left, and-right}
+use Rattle.formats.proofs.Gives.{bind-got, then-got}
 use Rattle.fields.proofs.Skipping.{bind-refused}
 use Rattle.fields.proofs.ChainLaws.{bind-assoc, bind-same, give-bind}
 use Rattle.formats.proofs.WellFormed.{body-gives}
@@ -34,40 +32,6 @@ body-good version paper s index at end fits e =
     (body-gives version paper fits .holds s at (modelFrom s index) end e)
     (body-within s version paper .holds at (modelFrom s index) end e)
     (body-few version paper .holds s at (modelFrom s index) end e)
-
--- the header
-pub record HeaderRead (kind : ℕ) (s : List ℕ) (version : ℕ) : Type 0 where
-  pub fits : T (versionFits kind version)
-  pub short : length s ≤ 32768
-
-sized-step : (s : List ℕ) (b : Bool) (p : ℕ) → lengthRight s ≡ b → _≡_ {A = Got (Unit {0})} (cond b (got tt 0) (refused 1 0)) (got tt p) → T (lengthRight s)
-sized-step s true p q e = subst T (sym q) tt
-sized-step s false p q e = let z : _≡_ {A = ℕ} 0 1 = cc in absurd (omega arith)
-
-sized-read : (s : List ℕ) (p : ℕ) → sized s 0 ≡ got tt p → T (lengthRight s)
-unfolding sized
-sized-read s p e = sized-step s (lengthRight s) p refl e
-
-short-right : (s : List ℕ) → T (lengthRight s) → length s ≤ 32768
-unfolding lengthRight
-short-right s t =
-    let a = leb 4 (length s) in
-    let b = leb (length s) 32768 in
-    let c = eqb (bigEndian (take 2 s) + 2) (length s) in
-    leb→le (length s) 32768 (and-right a b (and-left (a && b) c t))
-
-pub header-read : (kind : ℕ) (s : List ℕ) (version place : ℕ) → header kind s 0 ≡ got version place → HeaderRead kind s version
-unfolding header _>>_ _>>=_ give must
-header-read kind s version place e =
-    let a = passes (sized s 0) (λ u. u16 >> (must (versionFits kind) 2 u8 >>= λ version. must (kindFits kind) 3 u8 >> give version)) s version place e in
-    let b = passes (u16 s (a .place)) (λ u. must (versionFits kind) 2 u8 >>= λ version. must (kindFits kind) 3 u8 >> give version) s version place (a .second) in
-    let c = passes (must (versionFits kind) 2 u8 s (b .place)) (λ version. must (kindFits kind) 3 u8 >> give version) s version place (b .second) in
-    let t = tested (versionFits kind) 2 (b .place) (u8 s (b .place)) (c .value) (c .place) (c .first) in
-    let d = passes (must (kindFits kind) 3 u8 s (c .place)) (λ u. give (c .value)) s version place (c .second) in
-    record {
-      fits = subst (λ (v : ℕ). T (versionFits kind v)) (got-value (d .second)) (t .passed);
-      short = short-right s (sized-read s (a .place) (a .first));
-    }
 
 -- a test that is no field, and the place where a field begins
 here-then : {B : Type 0} (f : ℕ → Reader B) (s : List ℕ) (p : ℕ) {g : Got B} → f p s p ≡ g → (here >>= f) s p ≡ g

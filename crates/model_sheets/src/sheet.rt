@@ -1,4 +1,4 @@
-// A model sheet, whole: its header, its paper number, its body, no bytes left, then the limits on locations and joint switches.
+// A model sheet, whole: its header, its paper number, the rest of its body, no bytes left, then the limits on locations and joint switches.
 use fields::Field;
 use fields::Next;
 use fields::header::finished;

@@ -20,7 +20,8 @@ use Rattle.formats.proofs.ModelSheet.{in-a-chain, read-whole, fit-low}
 use Rattle.formats.specs.Certificate.{readRegions}
 use Rattle.second_sheets.specs.CertificateAnswers.{regionsFrom, regionsFor, GoodRegions}
 use Rattle.formats.proofs.Gives.{passes, and-left, and-right}
-use Rattle.model_sheets.proofs.SheetLaws.{header-read, sheet-first}
+use Rattle.formats.proofs.Header.{header-read}
+use Rattle.model_sheets.proofs.SheetLaws.{sheet-first}
 use Rattle.model_sheets.proofs.OpeningLaws.{opening-first}
 use Rattle.formats.proofs.Placed.{FineTo, Fine, placed-regions, model-fine}
 use Rattle.models.proofs.GoodIndexLaws.{index-good}
@@ -33,7 +34,7 @@ pub model-short : (limits : Limits) (s : List ℕ) (m : Model) (next : ℕ) → 
 unfolding _>>=_
 model-short limits s m next e =
     let w = passes (header 1 s 0) _ s m next (sym (in-a-chain limits s) ∙ e) in
-    header-read 1 s (w .value) (w .place) (w .first) .short
+    header-read 1 s 0 (w .value) (w .place) (w .first) .short
 
 -- a model that was read under limits that fit
 pub accepted : (limits : Limits) (model index : List ℕ) (next : ℕ) → T (limitsFit limits) → readModel limits model ≡ got (modelFrom model index) next → Counted model index → Accepted model index

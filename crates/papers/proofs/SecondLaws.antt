@@ -1,5 +1,5 @@
--- How a second sheet opens: a refusal has a number and a place, and stops what follows; what is opened has its body in a sheet of a right
--- length, and is read on from there. Each from the laws on headers and on sheets that belong together. Assumes nothing.
+-- How a second sheet opens: a refusal has a number and a place, and stops what follows; what is opened is a sheet of a right length, and is
+-- read on from the place after its paper number. Each from the laws on headers and on sheets that belong together. Assumes nothing.
 use mathlib.Core.Path.{_≡_, refl, ap, subst}
 use mathlib.Core.Bool.{false}
 use mathlib.Core.List.{List}
@@ -11,7 +11,7 @@ use Rattle.formats.specs.Model.{Model}
 use Rattle.formats.proofs.Gives.{then-got}
 use Rattle.formats.proofs.Placed.{FineTo}
 use Rattle.fields.proofs.HeaderLaws.{header-unsized}
-use Rattle.model_sheets.proofs.SheetLaws.{header-read}
+use Rattle.formats.proofs.Header.{header-read}
 use Rattle.rules.specs.Opening.{openSecond}
 use Rattle.rules.proofs.Opening.{placed-second}
 use Rattle.rules.proofs.Pairing.{second-pairs, header-first}
@@ -27,7 +27,7 @@ module _ (kind : ℕ) (m : Model) (s : List ℕ) where
   second-short : (version body : ℕ) → openSecond kind m s 0 ≡ got version body → length s ≤ 32768
   second-short version body e =
       let w = second-pairs kind m s version body e in
-      header-read kind s version (w .place) (w .headed) .short
+      header-read kind s 0 version (w .place) (w .headed) .short
 
   -- refused: its number, and its place on a sheet of any length
   pub second-number : (number at : ℕ) → openSecond kind m s 0 ≡ refused number at → 1 ≤ number
@@ -40,7 +40,7 @@ module _ (kind : ℕ) (m : Model) (s : List ℕ) where
   unfolding _>>_ andThen
   second-stops r number at e = ap (λ g. andThen g (λ a. r) s) e
 
-  -- opened: where its body begins
+  -- opened: where it goes on
   pub second-body : (version body : ℕ) → openSecond kind m s 0 ≡ got version body → (body ≤ length s) × (length s ≤ 32768)
   second-body version body e = (subst (λ x. FineTo 18 s 0 x) e second-fine .1, second-short version body e)
 

@@ -1,4 +1,5 @@
--- How a paper opens: the stated limits and the model go first, then the second sheet up to its body. Assumes nothing.
+-- How a paper opens: the stated limits and the model go first, then the second sheet up to its own fields, which stand behind its paper number
+-- where it has one. Assumes nothing.
 use mathlib.Core.List.{List}
 use mathlib.Core.Path.{_≡_}
 use Prim.Native.Nat.{ℕ, _≤_}
@@ -20,16 +21,16 @@ pub record ModelOpen (limits : Limits) (model index : List ℕ) : Type 0 where
   pub opened : openModel limits model ≡ opens (modelFrom model index)
   pub accepted : Accepted model index
 
--- the second sheet up to its body: number 0 and the place of its body, or the refusal
+-- the second sheet up to its own fields: number 0 and the place where they begin, or the refusal
 unfoldable pub openedSecond : Got ℕ → Answer
 openedSecond (refused number at) = answer number 1 at 0 0
 openedSecond (got version body) = answer 0 1 body 0 0
 
--- "The model goes first": what refuses a paper before the body of its second sheet; number 0 where nothing does
+-- "The model goes first": what refuses a paper before its second sheet's own fields; number 0 where nothing does
 unfoldable pub opened : Limits → ℕ → List ℕ → List ℕ → Answer
 opened limits kind model second = withModel (openModel limits model) (λ m. openedSecond (openSecond kind m second 0))
 
--- a paper that is open: its model is, and the body of its second sheet begins at this place
+-- a paper that is open: its model is, and its second sheet's own fields begin at this place
 pub record Open (limits : Limits) (kind : ℕ) (model index second : List ℕ) (body : ℕ) : Type 0 where
   pub first : ModelOpen limits model index
   pub version : ℕ

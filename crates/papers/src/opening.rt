@@ -48,8 +48,8 @@ pub fn open_model(model: &[u8], index: &mut Index, limits: Limits) -> Answer
     }
 }
 
-// How a second sheet of this kind opens, beside a model with this index: its version, and the place where its body goes on behind its paper
-// number. 18 where its version does not go with the model's, at place 2, and where its paper number is another one, at that number.
+// How a second sheet of this kind opens, beside a model with this index: its version, and the place where its own fields begin, behind its
+// paper number. 18 where its version does not go with the model's, at place 2, and where its paper number is another one, at that number.
 pub fn open_second(index: &Index, second: &[u8], kind: u32) -> Field
     ensures { λ r. ⌜ ((model : List ℕ) → gotField r ≡ openSecond kind (modelFrom model (now (index .entry))) (now (second .entry)) 0) ⌝ }
 {
@@ -72,8 +72,8 @@ pub fn open_second(index: &Index, second: &[u8], kind: u32) -> Field
     }
 }
 
-// The model is opened, then the second sheet: number 0 and the place of its body where both are good, else the answer that refuses the
-// paper. After a refusal the index is free.
+// The model is opened, then the second sheet: number 0 and the place where its own fields begin where both are good, else the answer that
+// refuses the paper. After a refusal the index is free.
 pub fn open_paper(
     model: &[u8],
     second: &[u8],

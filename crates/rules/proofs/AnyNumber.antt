@@ -1,5 +1,6 @@
 -- The same paper with other paper numbers (02, order 7): where the numbers of both sheets are the same before and after, or differ before and
--- after, every call gives the same answer. So a number decides nothing but whether the sheets belong together. Assumes nothing.
+-- after, the markings of certificate and run answer the same, and so do the joint list, what is found for show row, and the roles. So a number
+-- decides nothing there but whether the sheets belong together. Assumes nothing.
 use mathlib.Core.Path.{_≡_, refl, sym, ap, ap₂, _∙_, subst}
 use mathlib.Core.Logic.{_↔_}
 use mathlib.Core.Bool.{Bool, true, false, cond, _&&_}
@@ -110,7 +111,7 @@ module _ (limits : Limits) (s t : List ℕ) (w : ButForNumber s t) (late : 3 ≤
       go (refused number at) e =
           shortly t number at (sym (header-same s t (front s t w) 1) ∙ e) ∙ ap (mapped (renumbered (numberOf t))) (sym (shortly s number at e))
       go (got version place) e =
-          let h = header-read 1 s version place e in
+          let h = header-read 1 s 0 version place e in
           with-version version (e ∙ ap (λ (p : ℕ). got version p) (h .ends))
           (papers s t w version (papers-exactly version .1 (omega (arith, late, h .byte))))
 
@@ -152,7 +153,7 @@ module _ (kind : ℕ) (m : Model) (s t : List ℕ) (w : ButForNumber s t) (b : �
       go (refused number at) e =
           header-first kind m' t number at (sym (header-same s t (front s t w) kind) ∙ e) ∙ sym (header-first kind m s number at e)
       go (got version place) e =
-          let e4 : header kind s 0 ≡ got version 4 = e ∙ ap (λ (p : ℕ). got version p) (header-read kind s version place e .ends) in
+          let e4 : header kind s 0 ≡ got version 4 = e ∙ ap (λ (p : ℕ). got version p) (header-read kind s 0 version place e .ends) in
           headed version e4 (sym (header-same s t (front s t w) kind) ∙ e4) (eqb version (pairOf (m .version))) refl
 
   -- what follows is read from place 8 on
@@ -160,7 +161,7 @@ module _ (kind : ℕ) (m : Model) (s t : List ℕ) (w : ButForNumber s t) (b : �
   opened-at version next e =
       let p = second-pairs kind m s version next e in
       paper-read version s (m .paper) next (papers-exactly version .1 (omega (arith, late, p .pair, pair-late (m .version) late)))
-      (ap (readPaper version s) (sym (header-read kind s version (p .place) (p .headed) .ends)) ∙ p .paper)
+      (ap (readPaper version s) (sym (header-read kind s 0 version (p .place) (p .headed) .ends)) ∙ p .paper)
       .ends
 
   module _ {A : Type 0} {r : Reader A} (on : Onward r) where
@@ -322,7 +323,7 @@ role-in-so b m o h (got regions next) =
     elim (ltb o (length (obligations m regions)) && ltb h (length (getD (obligations m regions) o noObligation .hypotheses))) as (λ x. Role) [ true ↦ getD l h noRole | false ↦ noRole ])
     (roles-so b m (regionOf regions) (getD (obligations m regions) o noObligation))
 
--- every call that takes both sheets, and the calls that take the model alone
+-- the calls, by how they begin: first those that take the model alone
 module _ (limits : Limits) (s t : List ℕ) (w : ButForNumber s t) (late : 3 ≤ versionOf s) where
   pub by-opening : {A : Type 0} (f h : ModelOpened → A) → ((number sheet at : ℕ) → f (shut number sheet at) ≡ h (shut number sheet at)) → ((m : Model) (end : ℕ) → readModel limits s ≡ got m end → f (opens (renumbered (numberOf t) m)) ≡ h (opens m)) → f (openModel limits t) ≡ h (openModel limits s)
   unfolding mapped

@@ -251,6 +251,7 @@ pub record Needs (limits : Limits) (model : List ℕ) (lent : ℕ) (a : Answer) 
 
 pub record ListRange (limits : Limits) (model second : List ℕ) (lent : ℕ) (a : Answer) : Type 0 where
   pub range : AnswerRange model second a
+  pub number : a .number ≤ 15
   pub done : a .done ≤ lent
   pub needs : a .number ≡ 15 → Needs limits model lent a
 
@@ -258,15 +259,16 @@ pub list-in-range : (limits : Limits) (model second : List ℕ) (lent : ℕ) →
 unfolding listAnswer listOf answer
 list-in-range limits model second lent =
     with-model (ListRange limits model second lent) limits model _
-    (record { range = omega arith; done = omega arith; needs = λ e. absurd (omega arith) })
-    (λ number at i j k. record { range = omega arith; done = omega arith; needs = λ e. absurd (omega arith) })
+    (record { range = omega arith; number = omega arith; done = omega arith; needs = λ e. absurd (omega arith) })
+    (λ number at i j k. record { range = omega arith; number = omega arith; done = omega arith; needs = λ e. absurd (omega arith) })
     (λ m next t e. go m next e (leb (length (joints (m .components))) lent) refl)
   where
     go : (m : Model) (next : ℕ) → readModel limits model ≡ got m next → (b : Bool) → leb (length (joints (m .components))) lent ≡ b → ListRange limits model second lent (cond b (answer 0 0 (length model) (length (joints (m .components))) 0) (answer 15 2 (length (joints (m .components))) 0 0))
-    go m next e true d = record { range = omega arith; done = leb-true _ lent d; needs = λ h. absurd (omega arith) }
+    go m next e true d = record { range = omega arith; number = omega arith; done = leb-true _ lent d; needs = λ h. absurd (omega arith) }
     go m next e false d =
         record {
           range = omega arith;
+          number = omega arith;
           done = omega arith;
           needs = λ h. record { m = m; modelEnd = next; modelReads = e; sheet = refl; place = refl; short = leb-false _ lent d };
         }

@@ -60,7 +60,7 @@ with-model P limits model f unfits refusal value = go (begins limits model)
         subst (λ x. P (withModel x f)) (sym o) (refusal number at (w .0) (w .1) (w .2))
     go (Begins.begun m end t e o) = subst (λ x. P (withModel x f)) (sym o) (value m end t e)
 
--- the second sheet: where its body begins, and the place of a refusal, are in the sheet, and a refusal has a number
+-- the second sheet: where its own fields begin, and the place of a refusal, are in the sheet, and a refusal has a number
 pub placed-second : {least : ℕ} (kind : ℕ) (m : Model) → PlacedTo 18 least (openSecond kind m)
 unfolding openSecond
 placed-second kind m =

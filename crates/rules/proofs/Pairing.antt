@@ -12,9 +12,7 @@ use Rattle.formats.specs.Versions.{pairOf}
 use Rattle.formats.specs.Reading.{Got, got, refused, andThen, _>>=_, _>>_, give, expect, passing, must, header, readPaper}
 use Rattle.formats.specs.Model.{Model}
 use Rattle.formats.proofs.Gives.{got-value, got-next, passes, tested, bind-got, then-got}
-use Rattle.formats.specs.declared.Limits.{Limits}
 use Rattle.rules.specs.Opening.{openSecond}
-use Rattle.rules.specs.ReadWell.{CertificateHolds, readCertificate, RunHolds, readRunSheet}
 
 -- a second sheet that opened
 pub record Pairs (kind : ℕ) (m : Model) (s : List ℕ) (version next : ℕ) : Type 0 where
@@ -50,7 +48,7 @@ second-pairs kind m s version next e =
     }
 
 module _ (kind : ℕ) (m : Model) (s : List ℕ) where
-  -- "1, 2, 3" go first
+  -- the refusals of a header go first
   pub header-first : (number at : ℕ) → header kind s 0 ≡ refused number at → openSecond kind m s 0 ≡ refused number at
   unfolding openSecond _>>=_ andThen
   header-first number at e =
@@ -92,16 +90,3 @@ module _ (kind : ℕ) (m : Model) (s : List ℕ) where
           (then-got (must (λ paper. eqb paper (m .paper)) 18 (readPaper version)) _ s place
           (ap (passing (λ paper. eqb paper (m .paper)) 18 place) e ∙ ap (λ (b : Bool). cond b (got (m .paper) end) (refused 18 place)) (eq-eqb (m .paper) (m .paper) refl))
           refl)
-
--- the sheets of every accepted paper belong together
-pub certificate-pairs : (limits : Limits) (model second : List ℕ) (h : CertificateHolds limits model second) → (version : ℕ) × (next : ℕ) × Pairs 2 (h .m) second version next
-unfolding readCertificate _>>_
-certificate-pairs limits model second h =
-    let w = passes (openSecond 2 (h .m) second 0) _ second (h .certificate) (h .secondEnd) (h .secondReads) in
-    (w .value, w .place, second-pairs 2 (h .m) second (w .value) (w .place) (w .first))
-
-pub run-pairs : (limits : Limits) (model second : List ℕ) (h : RunHolds limits model second) → (version : ℕ) × (next : ℕ) × Pairs 3 (h .m) second version next
-unfolding readRunSheet _>>_
-run-pairs limits model second h =
-    let w = passes (openSecond 3 (h .m) second 0) _ second (h .sheet) (h .secondEnd) (h .secondReads) in
-    (w .value, w .place, second-pairs 3 (h .m) second (w .value) (w .place) (w .first))

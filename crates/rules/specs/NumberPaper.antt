@@ -5,8 +5,8 @@ use lib.ListN.{getD, take, drop}
 use Rattle.rules.specs.PairPaper.{word}
 
 -- a sheet of less than 252 bytes with a paper number up to 127 behind its header, as one of version 3
-unfoldable pub numbered : ℕ → List ℕ → List ℕ
-numbered paper s = (0 ∷ (getD s 1 0 + 4) ∷ 3 ∷ getD s 3 0 ∷ []) ++ (word paper ++ drop 4 s)
+unfoldable pub withNumber : ℕ → List ℕ → List ℕ
+withNumber paper s = (0 ∷ (getD s 1 0 + 4) ∷ 3 ∷ getD s 3 0 ∷ []) ++ (word paper ++ drop 4 s)
 
 -- the same cut within the paper number: two bytes of it
 unfoldable pub cutNumber : List ℕ → List ℕ

@@ -38,6 +38,6 @@ pub record RunStands (index sheet : List ℕ) (r : RunMarked) (state : List ℤ)
 abbrev pub stepsFrom : List ℕ → List ℕ → ℕ → RunMarked → List ℤ → ℕ → List ℕ → Marked State
 stepsFrom model index q r state steps sheet = markSteps (modelFrom model index) q (stateIn model index (r .modes) state) steps sheet (r .place) (r .done)
 
--- the answer on a run sheet whose body begins here
+-- the answer on a run sheet whose own fields begin here: its opening
 abbrev pub markedBody : List ℕ → List ℕ → List ℕ → ℕ → Answer
 markedBody model index sheet place = markOpening (modelFrom model index) sheet (readOpening (modelFrom model index) sheet place)

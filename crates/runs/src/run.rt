@@ -132,7 +132,7 @@ fn close_run(model: &[u8], index: &Index, s: &[u8], q: u32, run: RunMarked, stat
     }
 }
 
-// A run sheet from its body on: its opening, 12 at the location byte, then its steps and its end. The slice is free then.
+// A run sheet from its own fields on: its opening, 12 at the location byte, then its steps and its end. The slice is free then.
 fn mark_body(model: &[u8], index: &Index, s: &[u8], body: usize, state: &mut [i64]) -> Answer
     requires { ⌜ Accepted (now model) (now index) × (24 ≤ length (now state)) ⌝ }
     requires { ⌜ (body ≤ length (now s)) × (length (now s) ≤ 32768) ⌝ }

@@ -15,7 +15,7 @@ pub const MOST_VALUE: i64 = 134217728;
 
 pub const LEAST_VALUE: i64 = -134217728;
 
-// A run's location byte stands so far into the body: after four bytes of q and two of steps.
+// A run's location byte stands so far behind the first byte of q: four bytes of q and two of steps.
 pub const LOCATION_OFFSET: usize = 6;
 
 // Two numbers for each of up to 64 locations: the place of its region's first row, and how many rows it has.

@@ -55,8 +55,8 @@ writeComponent version c =
 unfoldable pub writeUnsafe : ℕ → Unsafe → List ℕ
 writeUnsafe version u = u .modes ++ writeCondition version (u .rows)
 
--- "u8 variables n, 1..8; u8 components c, 1..4; u8 unsafe conditions, 0..16. n bytes: each variable's owner, 0..c−1. Per component ..
--- Per unsafe condition .."
+-- what `readModelBody` reads: "u8 variables n, 1..8; u8 components c, 1..4; u8 unsafe conditions, 0..16. n bytes: each variable's owner, 0..c−1.
+-- Per component .. Per unsafe condition .."
 unfoldable pub writeFields : Model → List ℕ
 writeFields m =
     (m .variables ∷ [])

@@ -12,6 +12,8 @@ mod compare;
 use compare::{Compared, Comparison};
 use differential::marker::{EXAM, Limits};
 use differential::papers::damage::{ALL, damaged, random_bytes};
+use differential::papers::pairs::{self, in_any_version, random_number};
+use differential::papers::sheet::{NUMBERED, second_version};
 use differential::papers::{Random, Sheet, blanks, certificates, extremes, models, runs, scores, spellings, texts};
 use std::path::PathBuf;
 use std::process::ExitCode;
@@ -82,8 +84,10 @@ fn compare_all(options: &Options, comparison: &mut Comparison) -> Compared<u64> 
     for paper in extremes::all() {
         comparison.origin = format!("fixed paper \"{}\"", paper.name);
         comparison.compare("fixed", &paper.model, &paper.second, &mut random)?;
+        comparison.compare_numbered("fixed", &paper.model, &paper.second, &mut random)?;
     }
     compare_blanks(&mut random, comparison)?;
+    compare_pairs(&mut random, comparison)?;
     compare_limits(&mut random, comparison)?;
     compare_copies(&mut random, comparison)?;
     compare_scores(&mut random, comparison)?;
@@ -110,16 +114,17 @@ fn compare_all(options: &Options, comparison: &mut Comparison) -> Compared<u64> 
     Ok(round)
 }
 
-/// Papers with blanks at the exam desk: with the model in both versions, then with either sheet in others, and each hypothesis of each
-/// obligation.
+/// Papers with blanks at the exam desk: in all versions, then with another version in the header of either sheet, and each hypothesis of
+/// each obligation.
 fn compare_blanks(random: &mut Random, comparison: &mut Comparison) -> Compared<()> {
     comparison.desk = Some(EXAM);
     for paper in blanks::fixed().into_iter().chain(extremes::for_blanks()) {
         comparison.origin = format!("fixed paper \"{}\"", paper.name);
         let (model, second) = (&paper.model, &paper.second);
         comparison.compare("fixed, with blanks", model, second, random)?;
-        comparison.compare_other_version("fixed, with blanks", model, second, random)?;
-        for version in [0, 3, 255] {
+        comparison.compare_versions("fixed, with blanks", model, second, random)?;
+        comparison.compare_numbered("fixed, with blanks", model, second, random)?;
+        for version in [0, 3, 4, 255] {
             comparison.compare("fixed, with blanks, worse version", &model.clone().in_version(version), second, random)?;
         }
         for version in [0, 2, 3, 255] {
@@ -128,9 +133,22 @@ fn compare_blanks(random: &mut Random, comparison: &mut Comparison) -> Compared<
     }
     for paper in blanks::fixed().into_iter().chain([extremes::most_hypotheses()]) {
         comparison.origin = format!("fixed paper \"{}\"", paper.name);
-        for model in [1, 2].map(|version| paper.model.clone().in_version(version)) {
-            comparison.compare_every_row("fixed, with blanks", &model, &paper.second, random)?;
+        for version in 1..=NUMBERED {
+            let number = random_number(random);
+            let (model, second) = (paper.model.clone().moved(version, number), paper.second.clone().beside(version, number));
+            comparison.compare_every_row("fixed, with blanks", &model, &second, random)?;
         }
+    }
+    comparison.desk = None;
+    Ok(())
+}
+
+/// Papers in every pair of versions and with every pair of paper numbers, at the exam desk.
+fn compare_pairs(random: &mut Random, comparison: &mut Comparison) -> Compared<()> {
+    comparison.desk = Some(EXAM);
+    for paper in pairs::fixed() {
+        comparison.origin = format!("fixed paper \"{}\"", paper.name);
+        comparison.compare("fixed, pairs of versions", &paper.model, &paper.second, random)?;
     }
     comparison.desk = None;
     Ok(())
@@ -172,14 +190,14 @@ fn compare_scores(random: &mut Random, comparison: &mut Comparison) -> Compared<
     Ok(())
 }
 
-/// One model with a certificate, one with a run, what becomes of them in the other version and by damage, one with rows that a fair copy
+/// One model with a certificate, one with a run, what becomes of them in other versions and by damage, one with rows that a fair copy
 /// changes, and random bytes; typed texts between them.
 fn compare_round(seed: u64, round: u64, comparison: &mut Comparison) -> Compared<()> {
     let random = &mut Random::new(seed, round);
     comparison.origin = format!("seed {seed}, round {round}");
     let size = [1, 2, 2, 3, 3, 4, 5, 8][random.below(8)];
 
-    let plan = blanks::random_plan_of_either_version(random, size);
+    let plan = blanks::random_plan_of_any_version(random, size);
     match certificates::random_certificate(random, plan.clone()) {
         Some(paper) => {
             compare_with_damage("certificate", &paper.model, &paper.second, random, comparison)?;
@@ -189,11 +207,11 @@ fn compare_round(seed: u64, round: u64, comparison: &mut Comparison) -> Compared
         None => compare_model("model", &plan, random, comparison)?,
     }
     if random.one_in(4) {
-        let plan = models::Plan { version: blanks::either_version(random), ..models::crowded_plan(random) };
-        compare_model("crowded model", &plan, random, comparison)?;
+        let plan = models::crowded_plan(random);
+        compare_model("crowded model", &in_any_version(random, plan), random, comparison)?;
     }
 
-    let plan = blanks::random_plan_of_either_version(random, size);
+    let plan = blanks::random_plan_of_any_version(random, size);
     let most_steps = if random.one_in(50) { 4_095 } else { 12 };
     if let Some(paper) = runs::random_run(random, plan, most_steps) {
         compare_with_damage("run", &paper.model, &paper.second, random, comparison)?;
@@ -201,12 +219,13 @@ fn compare_round(seed: u64, round: u64, comparison: &mut Comparison) -> Compared
     }
     compare_rough(random, comparison)?;
 
-    let model = blanks::random_plan_of_either_version(random, 2).sheet();
+    let plan = blanks::random_plan_of_any_version(random, 2);
+    let (version, number) = (plan.version, plan.paper_number);
     let kind = 2 + random.below(2) as u8;
-    let second = random_bytes(random, kind);
-    comparison.compare("random second sheet", &model, &second, random)?;
+    let second = random_bytes(random, kind, second_version(version), number);
+    comparison.compare("random second sheet", &plan.sheet(), &second, random)?;
     compare_texts(random, comparison)?;
-    let model = random_bytes(random, 1);
+    let model = random_bytes(random, 1, version, number);
     comparison.compare("random model", &model, &second, random)
 }
 
@@ -239,12 +258,14 @@ fn compare_texts(random: &mut Random, comparison: &mut Comparison) -> Compared<(
 }
 
 fn compare_model(name: &str, plan: &models::Plan, random: &mut Random, comparison: &mut Comparison) -> Compared<()> {
-    comparison.compare(name, &plan.sheet(), &no_regions(plan), random)
+    let (model, second) = (plan.sheet(), no_regions(plan));
+    comparison.compare(name, &model, &second, random)?;
+    comparison.compare_numbered(name, &model, &second, random)
 }
 
 /// A certificate that has no regions.
 fn no_regions(plan: &models::Plan) -> Sheet {
-    certificates::certificate_sheet(&vec![vec![]; plan.locations()], &[])
+    plan.paired(certificates::certificate_sheet(&vec![vec![]; plan.locations()], &[]))
 }
 
 fn compare_with_damage(
@@ -255,14 +276,21 @@ fn compare_with_damage(
     comparison: &mut Comparison,
 ) -> Compared<()> {
     comparison.compare(name, model, second, random)?;
-    comparison.compare_other_version(name, model, second, random)?;
+    comparison.compare_versions(name, model, second, random)?;
+    comparison.compare_numbered(name, model, second, random)?;
     for damage in ALL {
         compare_texts(random, comparison)?;
         for _ in 0..2 {
             let worse = damaged(random, model, damage);
             comparison.compare(&format!("{name}, model: {damage:?}"), &worse, second, random)?;
+            if random.one_in(8) {
+                comparison.compare_numbered(&format!("{name}, model: {damage:?}"), &worse, second, random)?;
+            }
             let worse = damaged(random, second, damage);
             comparison.compare(&format!("{name}, second: {damage:?}"), model, &worse, random)?;
+            if random.one_in(8) {
+                comparison.compare_numbered(&format!("{name}, second: {damage:?}"), model, &worse, random)?;
+            }
             if worse.fields.len() > 3 {
                 let again = *random.pick(&ALL[..4]);
                 let worse = damaged(random, &worse, again);

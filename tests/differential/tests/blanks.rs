@@ -1,9 +1,10 @@
-//! The independent marker on papers with blanks (02, order 6), with their model as version 1 and as version 2. Limits are the exam's.
+//! The independent marker on papers with blanks (02, order 6), with their model as version 1 and as version 2; and in version 3, which
+//! keeps them (order 7). Limits are the exam's.
 
-use differential::marker::{Answer, EXAM, HypothesisRow, hypothesis, joint_list, mark_certificate, mark_run, show_row, which};
+use differential::marker::{Answer, EXAM, HypothesisRow, hypothesis, joint_list, mark_certificate, mark_run, show_row};
 use differential::marker::{JointSwitch, fair_copy};
 use differential::papers::blanks::fixed;
-use differential::papers::extremes::{Paper, for_blanks, most_hypotheses, tank, tank_certificate};
+use differential::papers::extremes::{Paper, for_blanks, most_hypotheses};
 use differential::papers::turns;
 
 const RUN: u8 = 3;
@@ -24,11 +25,16 @@ fn mark(model: &[u8], second: &[u8]) -> Answer {
     if second[3] == RUN { mark_run(model, second, EXAM) } else { mark_certificate(model, second, EXAM) }
 }
 
-/// The answers with the model as version 1 and as version 2.
+/// The answers with the model as version 1 and as version 2. In version 3 the answer is that of version 2, four bytes later.
+#[track_caller]
 fn answers(name: &str) -> [Answer; 2] {
     let paper = paper(name);
     assert_eq!(paper.model.bytes[2], 2);
-    [1, 2].map(|version| mark(&in_version(&paper.model.bytes, version), &paper.second.bytes))
+    let answers = [1, 2].map(|version| mark(&in_version(&paper.model.bytes, version), &paper.second.bytes));
+    let Paper { model, second, .. } = paper.numbered(7);
+    assert_eq!((model.bytes[2], second.bytes[2]), (3, 3));
+    assert_eq!(mark(&model.bytes, &second.bytes), Answer { place: answers[1].place + 4, ..answers[1] });
+    answers
 }
 
 fn accepted(length: u32, done: u32) -> Answer {
@@ -134,49 +140,14 @@ fn the_most_hypotheses_and_entries() {
 
 #[test]
 fn staying_rows_may_be_written_out_in_version_1() {
-    for version in 1..=2 {
+    for version in 1..=3 {
         let Paper { model, second, .. } = turns::certificate(version).expect("all is proved");
         assert_eq!(model.bytes[2], version);
         // 16 at the start; 16 after a flow and 8 unsafe ones in each of 16 locations; 16 after each of 32 joint switches.
         assert_eq!(mark(&model.bytes, &second.bytes), accepted(second.bytes.len() as u32, 16 + 24 * 16 + 16 * 32));
         let Paper { model, second, .. } = turns::run(version);
         assert_eq!(model.bytes[2], version);
-        assert_eq!(mark(&model.bytes, &second.bytes), accepted(32_747, 896));
-    }
-}
-
-#[test]
-fn versions_that_a_sheet_may_have() {
-    let (t, c) = (tank(-11, vec![]).bytes, tank_certificate(10).bytes);
-    for version in 1..=2 {
-        assert_eq!(mark(&in_version(&t, version), &c), accepted(49, 3));
-    }
-    for version in [0, 3, 4, 255] {
-        let refused = Answer { number: 2, place: 2, ..Answer::default() };
-        assert_eq!(mark(&in_version(&t, version), &c), refused);
-        assert_eq!(joint_list(&in_version(&t, version), &mut [], EXAM), refused);
-        assert_eq!(fair_copy(&in_version(&t, version), &mut [], EXAM), refused);
-    }
-    // The version of a model, the kind of none.
-    assert_eq!(mark(&in_version(&c, 2), &c), Answer { number: 3, place: 3, ..Answer::default() });
-}
-
-#[test]
-fn second_sheets_have_version_1() {
-    let (t, c) = (tank(-11, vec![]).bytes, tank_certificate(10).bytes);
-    let run = paper("no flow rows, moved").second.bytes;
-    for (model, version) in [1, 2].into_iter().flat_map(|model| [0, 2, 3, 255].map(|version| (in_version(&t, model), version))) {
-        for second in [&c, &run, &t] {
-            let second = in_version(second, version);
-            for answer in [mark_certificate(&model, &second, EXAM), mark_run(&model, &second, EXAM)] {
-                assert_eq!(answer, refused(2, 2, 0, 0));
-            }
-            assert_eq!(show_row(&model, &second, 0, 0, EXAM), (refused(2, 2, 0, 0), &[][..]));
-            let row = hypothesis(&model, &second, 0, 0, EXAM);
-            assert_eq!([row.number, row.sheet, row.place], [2, 1, 2]);
-            let named = which(&model, &second, 0, EXAM);
-            assert_eq!([named.number, named.sheet, named.place], [2, 1, 2]);
-        }
+        assert_eq!(mark(&model.bytes, &second.bytes), accepted(if version == 3 { 32_751 } else { 32_747 }, 896));
     }
 }
 

@@ -17,7 +17,8 @@ fn plan(n: usize, rows: &[Row], jump: &[Row]) -> Plan {
     let component = Component { alphabet: 0, modes: vec![mode], switches: vec![switch] };
     let none = || vec![0; n];
     let unsafe_conditions = vec![(vec![ANY], rows.to_vec())];
-    Plan { version: 1, owners: vec![0; n], components: vec![component], unsafe_conditions, start: none(), low: none(), high: none() }
+    let (owners, components) = (vec![0; n], vec![component]);
+    Plan { version: 1, paper_number: 0, owners, components, unsafe_conditions, start: none(), low: none(), high: none() }
 }
 
 /// The copy of an accepted model, whole and by itself.

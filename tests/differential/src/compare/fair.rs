@@ -10,7 +10,7 @@ use std::fmt::{Debug, Formatter};
 
 /// What a buffer holds after a call.
 #[derive(PartialEq)]
-pub(super) struct Bytes(Vec<u8>);
+pub(super) struct Bytes(pub Vec<u8>);
 
 impl Debug for Bytes {
     fn fmt(&self, formatter: &mut Formatter) -> std::fmt::Result {

@@ -88,20 +88,23 @@ impl<'a> Paper<'a> {
     }
 }
 
+/// The numbers of answers, from 0.
+const NUMBERS: usize = 19;
+
 pub struct Comparison {
     /// What to say of the paper at hand, should it show a mismatch.
     pub origin: String,
     /// The limits to state; none for random ones, of which each call has its own.
     pub desk: Option<Limits>,
     counts: BTreeMap<String, Count>,
-    /// Of all papers those whose model has version 2.
-    version_2: Count,
+    /// Of all papers those whose model has version 2, and version 3.
+    later_versions: [Count; 2],
     texts: BTreeMap<&'static str, Count>,
     /// How often each number was the answer, by call.
-    certificate_numbers: [u64; 16],
-    run_numbers: [u64; 16],
-    fair_numbers: [u64; 16],
-    typed_numbers: [u64; 18],
+    certificate_numbers: [u64; NUMBERS],
+    run_numbers: [u64; NUMBERS],
+    fair_numbers: [u64; NUMBERS],
+    typed_numbers: [u64; NUMBERS],
     /// How often the row of a hypothesis had each role.
     roles: [u64; 9],
     /// How often it was the staying row of a blank in a flow.
@@ -132,12 +135,12 @@ impl Comparison {
             origin: String::new(),
             desk: None,
             counts: BTreeMap::new(),
-            version_2: Count::default(),
+            later_versions: Default::default(),
             texts: BTreeMap::new(),
-            certificate_numbers: [0; 16],
-            run_numbers: [0; 16],
-            fair_numbers: [0; 16],
-            typed_numbers: [0; 18],
+            certificate_numbers: [0; NUMBERS],
+            run_numbers: [0; NUMBERS],
+            fair_numbers: [0; NUMBERS],
+            typed_numbers: [0; NUMBERS],
             roles: [0; 9],
             blanks_in_flows: 0,
             versions: Versions::default(),
@@ -168,7 +171,9 @@ impl Comparison {
             all.passed += count.passed;
         }
         all.print("all");
-        self.version_2.print("of these with a model of version 2");
+        for (version, count) in (2..).zip(&self.later_versions) {
+            count.print(&format!("of these with a model of version {version}"));
+        }
         println!("{:<36} {:>9} {:>9}", "typed texts", "compared", "accepted");
         for (kind, count) in &self.texts {
             println!("{kind:<36} {:>9} {:>9}", count.compared, count.accepted);
@@ -199,8 +204,8 @@ impl Comparison {
         self.certificate_numbers[certificate.number as usize] += 1;
         self.run_numbers[run.number as usize] += 1;
         self.counts.entry(kind.to_string()).or_default().add([certificate, run]);
-        if model.get(2) == Some(&2) {
-            self.version_2.add([certificate, run]);
+        if let Some(version @ 2..=3) = model.get(2) {
+            self.later_versions[usize::from(version - 2)].add([certificate, run]);
         }
 
         for &edge in self.edges() {

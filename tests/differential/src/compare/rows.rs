@@ -3,7 +3,7 @@
 use super::{Compared, Comparison, Paper, Size};
 use differential::marker::EXAM;
 use differential::marker::certificate::{Claim, Hypotheses, Kind, Role};
-use differential::marker::reader::Reader;
+use differential::marker::pairs::open_second;
 use differential::papers::{Random, Sheet};
 use differential::{library, marker};
 
@@ -66,12 +66,12 @@ impl Comparison {
 }
 
 /// How many obligations a paper has; 0 if it is refused before they are known.
-fn obligation_count(model: &[u8], second: &[u8]) -> usize {
+pub(super) fn obligation_count(model: &[u8], second: &[u8]) -> usize {
     with_claim(model, second, |claim| Some(claim.groups().map(|group| group.lines.len()).sum())).unwrap_or(0)
 }
 
 /// How many hypotheses an obligation has; 0 if there is no such obligation.
-fn hypothesis_count(model: &[u8], second: &[u8], obligation: u32) -> usize {
+pub(super) fn hypothesis_count(model: &[u8], second: &[u8], obligation: u32) -> usize {
     let count = |claim: &Claim| {
         let mut passed = 0;
         let group = claim.groups().find(|group| {
@@ -87,11 +87,11 @@ fn hypothesis_count(model: &[u8], second: &[u8], obligation: u32) -> usize {
 
 fn with_claim<T>(model: &[u8], second: &[u8], ask: impl FnOnce(&Claim) -> Option<T>) -> Option<T> {
     let model = marker::Model::read(model, EXAM).ok()?;
-    ask(&Claim::read(&mut Reader::open(second, 2).ok()?, &model).ok()?)
+    ask(&Claim::read(&mut open_second(second, 2, &model).ok()?, &model).ok()?)
 }
 
 /// A number below the count mostly, or at the count, or among the greatest.
-fn random_argument(random: &mut Random, count: usize) -> u32 {
+pub(super) fn random_argument(random: &mut Random, count: usize) -> u32 {
     match random.below(10) {
         0 => u32::MAX - random.below(2) as u32,
         1 | 2 => count as u32,

@@ -21,6 +21,8 @@ pub enum Fault {
     Short = 15,
     Text = 16,
     Result = 17,
+    /// Of two sheets that do not belong together.
+    Pair = 18,
 }
 
 /// The first fault of a sheet, and its byte offset there.

@@ -4,7 +4,7 @@ use super::answer::{ARGUMENT, Answer, Fault, Refusal, Sheet};
 use super::certificate::{Claim, Group, Hypotheses, Hypothesis};
 use super::joint::{self, JointSwitch};
 use super::limits::{Limits, open_model};
-use super::reader::Reader;
+use super::pairs::open_second;
 
 /// Which obligation a number stands for. The layout is that of the C interface.
 #[derive(Clone, Copy, Debug, Default, PartialEq, Eq)]
@@ -102,7 +102,7 @@ fn with_claim<T>(
     ask: impl FnOnce(&Claim) -> Result<T, (Sheet, Refusal)>,
 ) -> Result<T, (Sheet, Refusal)> {
     let model = open_model(model, limits)?;
-    let mut reader = Reader::open(second, 2).map_err(|refusal| (Sheet::Second, refusal))?;
+    let mut reader = open_second(second, 2, &model).map_err(|refusal| (Sheet::Second, refusal))?;
     let claim = Claim::read(&mut reader, &model).map_err(|refusal| (Sheet::Second, refusal))?;
     ask(&claim)
 }

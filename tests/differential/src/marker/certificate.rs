@@ -6,6 +6,7 @@ use super::farkas::{Form, Row, Sum};
 use super::joint::{self, JointSwitch};
 use super::limits::{Limits, open_model};
 use super::model::{Mode, Model};
+use super::pairs::open_second;
 use super::reader::{Condition, Reader};
 use std::ops::Range;
 
@@ -234,7 +235,7 @@ pub fn mark_certificate(model: &[u8], second: &[u8], limits: Limits) -> Answer {
         Ok(model) => model,
         Err((sheet, refusal)) => return Answer::refused(refusal, sheet, 0, 0),
     };
-    let opened = Reader::open(second, 2).and_then(|mut reader| Ok((Claim::read(&mut reader, &model)?, reader)));
+    let opened = open_second(second, 2, &model).and_then(|mut reader| Ok((Claim::read(&mut reader, &model)?, reader)));
     let (claim, mut reader) = match opened {
         Ok(opened) => opened,
         Err(refusal) => return Answer::refused(refusal, Sheet::Second, 0, 0),

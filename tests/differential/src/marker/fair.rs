@@ -25,9 +25,10 @@ pub fn fair_copy(model: &[u8], buffer: &mut [u8], limits: Limits) -> Answer {
     }
 }
 
-/// The sheet with the original's version and kind, and with the L of the copy.
+/// The sheet with the original's version, kind and paper number, and with the L of the copy.
 fn fair_sheet([version, kind]: [u8; 2], model: &Model) -> Vec<u8> {
     let mut copy = vec![0, 0, version, kind];
+    copy.extend(model.paper_number.map(u32::to_be_bytes).into_iter().flatten());
     copy.extend([model.variables, model.components.len(), model.unsafe_conditions.len()].map(|count| count as u8));
     copy.extend_from_slice(&model.owners);
     for component in &model.components {

@@ -4,13 +4,12 @@ use super::answer::{Fault, Refusal};
 use super::blanks::{Variables, blanks};
 use super::joint;
 use super::limits::Limits;
+use super::pairs::paper_number;
 use super::reader::{Condition, Reader};
 
 pub const MOST_COMPONENTS: usize = 4;
 pub const EVENTS: usize = 16;
 const MOST_ROWS: u8 = 8;
-/// Where n stands, which is the place of 7 and 8.
-const PLACE_OF_N: usize = 4;
 
 pub struct Mode {
     pub start: bool,
@@ -49,6 +48,8 @@ pub type Location = [u8; MOST_COMPONENTS];
 
 pub struct Model {
     pub version: u8,
+    /// From version 3 on.
+    pub paper_number: Option<u32>,
     pub variables: usize,
     /// Each variable's component.
     pub owners: Vec<u8>,
@@ -64,6 +65,9 @@ impl Model {
     /// Reads a model to its end, with bytes left, then 7 and 8 by these limits, whose own ranges are not tested here.
     pub fn read(sheet: &[u8], limits: Limits) -> Result<Self, Refusal> {
         let mut reader = Reader::open(sheet, 1)?;
+        let paper_number = paper_number(&mut reader)?;
+        // The place of 7 and 8.
+        let place_of_n = reader.place();
         let variables = usize::from(reader.u8(1..=8)?);
         let component_count = reader.u8(1..=MOST_COMPONENTS as u8)?;
         let unsafe_count = reader.u8(..=16)?;
@@ -77,14 +81,14 @@ impl Model {
 
         let location_count: usize = components.iter().map(|component| component.modes.len()).product();
         if location_count > limits.locations as usize {
-            return Err(Refusal::new(Fault::Locations, PLACE_OF_N));
+            return Err(Refusal::new(Fault::Locations, place_of_n));
         }
         let locations = (0..location_count).map(|number| location(&components, number)).collect();
         let version = reader.version();
-        let mut model = Model { version, variables, owners, components, unsafe_conditions, locations, joint_count: 0 };
+        let mut model = Model { version, paper_number, variables, owners, components, unsafe_conditions, locations, joint_count: 0 };
         model.joint_count = joint::count(&model);
         if model.joint_count > limits.joints as usize {
-            return Err(Refusal::new(Fault::JointSwitches, PLACE_OF_N));
+            return Err(Refusal::new(Fault::JointSwitches, place_of_n));
         }
         Ok(model)
     }

@@ -2,7 +2,7 @@
 
 use super::answer::{Fault, Refusal};
 use super::farkas::Row;
-use std::ops::{RangeBounds, RangeInclusive};
+use std::ops::RangeBounds;
 
 const LONGEST_SHEET: usize = 32_768;
 /// The kind of a model sheet.
@@ -92,9 +92,9 @@ impl<'a> Reader<'a> {
     }
 }
 
-/// The versions that a sheet of a kind may have: a model 1 and 2 (02, order 6), any other 1.
-fn versions(kind: u8) -> RangeInclusive<u8> {
-    1..=if kind == MODEL { 2 } else { 1 }
+/// The versions that a sheet of a kind may have: a model 1, 2 and 3, any other 1 and 3 (02, orders 6 and 7).
+fn versions(kind: u8) -> &'static [u8] {
+    if kind == MODEL { &[1, 2, 3] } else { &[1, 3] }
 }
 
 fn within<T: PartialOrd>(value: T, range: impl RangeBounds<T>, place: usize) -> Result<T, Refusal> {

@@ -5,14 +5,13 @@ use super::blanks::{ascending, kept_in_flow, kept_in_jump};
 use super::joint::{JointSwitch, STAYS};
 use super::limits::{Limits, open_model};
 use super::model::{EVENTS, Location, MOST_COMPONENTS, Model};
+use super::pairs::open_second;
 use super::reader::{Condition, Reader};
 use std::ops::RangeInclusive;
 
 const SCALE_LIMIT: u32 = 1 << 24;
 const VALUES: RangeInclusive<i32> = -(1 << 27)..=1 << 27;
 const MOST_STEPS: u16 = 4_095;
-/// Where the location stands, which is the place of 12.
-const PLACE_OF_LOCATION: usize = 10;
 
 /// A location and values p over the run's q; the places after the last variable are 0.
 #[derive(Clone, Copy, Debug, PartialEq, Eq)]
@@ -105,13 +104,15 @@ pub fn mark_run(model: &[u8], second: &[u8], limits: Limits) -> Answer {
 
 /// Counts in `done` the steps that pass.
 fn follow(model: &Model, sheet: &[u8], done: &mut usize) -> Result<(), Refusal> {
-    let mut reader = Reader::open(sheet, 3)?;
+    let mut reader = open_second(sheet, 3, model)?;
     let q = i64::from(reader.u32(1..SCALE_LIMIT)?);
     let steps = reader.u16(..=MOST_STEPS)?;
+    // The place of 12.
+    let place_of_location = reader.place();
     let location = model.locations[usize::from(reader.u8(..model.locations.len() as u8)?)];
     let mut state = State { location, values: read_values(&mut reader, model)? };
     if !may_begin(model, &state, q) {
-        return Err(Refusal::new(Fault::Start, PLACE_OF_LOCATION));
+        return Err(Refusal::new(Fault::Start, place_of_location));
     }
     for _ in 0..steps {
         let place = reader.place();

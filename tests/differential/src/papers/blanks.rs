@@ -3,6 +3,7 @@
 use super::certificates::certificate_sheet;
 use super::extremes::{Paper, plan, proof};
 use super::models::{ANY, Component, Mode, Plan, Switch, random_plan, row};
+use super::pairs::in_any_version;
 use super::random::Random;
 use super::runs::{NONE, put_step, run_sheet};
 use super::sheet::{Row, Sheet};
@@ -10,18 +11,14 @@ use crate::marker::run::Step;
 
 const MOST_ROWS: usize = 8;
 
-/// A random model of either version. Most of version 2 are given blanks; so are some of version 1, whose runs move them.
-pub fn random_plan_of_either_version(random: &mut Random, size: usize) -> Plan {
-    let mut plan = random_plan(random, size);
-    plan.version = either_version(random);
-    if random.one_in(4) != (plan.version == 2) {
+/// A random model of any version. Most of versions 2 and 3 are given blanks; so are some of version 1, whose runs move them.
+pub fn random_plan_of_any_version(random: &mut Random, size: usize) -> Plan {
+    let plan = random_plan(random, size);
+    let mut plan = in_any_version(random, plan);
+    if random.one_in(4) != (plan.version > 1) {
         leave_blanks(random, &mut plan);
     }
     plan
-}
-
-pub fn either_version(random: &mut Random) -> u8 {
-    1 + random.below(2) as u8
 }
 
 /// Takes a component's own variables out of rows of its modes and switches, and puts variables of others in.

@@ -37,7 +37,7 @@ pub fn random_certificate(random: &mut Random, mut plan: Plan) -> Option<Proved>
         let model = plan.sheet();
         match prove_all(&model.bytes, &regions, |hypotheses, goal, found| vary(random, hypotheses, goal, found))? {
             Outcome::Proved(proofs) => {
-                let second = certificate_sheet(&regions, &proofs);
+                let second = plan.paired(certificate_sheet(&regions, &proofs));
                 return (second.bytes.len() <= MOST_BYTES).then_some(Proved { model, second });
             }
             Outcome::Failed(failed) => give_up(&mut plan, &mut regions, failed),
@@ -47,9 +47,9 @@ pub fn random_certificate(random: &mut Random, mut plan: Plan) -> Option<Proved>
 }
 
 /// A certificate with the first proofs that are found; none where one is not.
-pub fn short_certificate(model: &[u8], regions: &[Vec<Row>]) -> Option<Sheet> {
-    match prove_all(model, regions, |_, _, found| as_proof(found))? {
-        Outcome::Proved(proofs) => Some(certificate_sheet(regions, &proofs)),
+pub fn short_certificate(plan: &Plan, regions: &[Vec<Row>]) -> Option<Sheet> {
+    match prove_all(&plan.sheet().bytes, regions, |_, _, found| as_proof(found))? {
+        Outcome::Proved(proofs) => Some(plan.paired(certificate_sheet(regions, &proofs))),
         Outcome::Failed(_) => None,
     }
 }
@@ -81,7 +81,7 @@ fn give_up(plan: &mut Plan, regions: &mut [Vec<Row>], mut failed: Vec<Failed>) {
 fn random_region(random: &mut Random, plan: &Plan, location: usize) -> Vec<Row> {
     let n = plan.variables();
     let modes = plan.modes(location);
-    let mut region = if plan.version == 2 { values_at_start(random, plan) } else { vec![] };
+    let mut region = if plan.version > 1 { values_at_start(random, plan) } else { vec![] };
     for (component, &mode) in plan.components.iter().zip(&modes) {
         for invariant in &component.modes[mode].invariant {
             if random.one_in(2) {
@@ -122,7 +122,8 @@ fn values_at_start(random: &mut Random, plan: &Plan) -> Vec<Row> {
     kept.into_iter().flat_map(|v| [row(n, &[(v, 1)], plan.start[v]), row(n, &[(v, -1)], -plan.start[v])]).collect()
 }
 
-/// Each proof is made of what is found for it. None where the model is refused.
+/// Each proof is made of what is found for it. None where the model is refused. The regions stand in a sheet of version 1 here, whichever
+/// the model's is: it makes no difference to the obligations.
 fn prove_all(model: &[u8], regions: &[Vec<Row>], mut made_of: impl FnMut(&[Form], Option<Form>, Found) -> Proof) -> Option<Outcome> {
     let model = Model::read(model, EXAM).ok()?;
     let sheet = certificate_sheet(regions, &[]);

@@ -1,8 +1,8 @@
 //! Papers made of other papers by one change.
 
-use super::blanks::either_version;
+use super::pairs::{VERSIONS, other_number, random_number};
 use super::random::Random;
-use super::sheet::{Field, MODEL, Sheet, fix_length};
+use super::sheet::{Field, NUMBERED, Sheet, fix_length};
 
 #[derive(Clone, Copy, Debug, PartialEq, Eq)]
 pub enum Damage {
@@ -18,11 +18,14 @@ pub enum Damage {
     Cut,
     /// There are more bytes.
     Added,
-    /// The version is another.
+    /// The version is another; the body as it was, or that of the version, with a paper number or without.
     Version,
+    /// The paper number is another, often in one byte, or is missing; or there is one where the version has none.
+    Paper,
 }
 
-pub const ALL: [Damage; 7] = [Damage::Byte, Damage::Field, Damage::Ends, Damage::Number, Damage::Cut, Damage::Added, Damage::Version];
+pub const ALL: [Damage; 8] =
+    [Damage::Byte, Damage::Field, Damage::Ends, Damage::Number, Damage::Cut, Damage::Added, Damage::Version, Damage::Paper];
 
 /// The sheet with this damage.
 pub fn damaged(random: &mut Random, sheet: &Sheet, damage: Damage) -> Sheet {
@@ -73,7 +76,9 @@ pub fn damaged(random: &mut Random, sheet: &Sheet, damage: Damage) -> Sheet {
             sheet.bytes[last] = if random.one_in(2) { sheet.bytes[last].wrapping_add(1) } else { sheet.bytes[last].wrapping_sub(1) };
         }
         Damage::Cut => {
-            let length = random.below(sheet.bytes.len());
+            // Now and then in the paper number, or where there would be one, or right behind it.
+            let length = if random.one_in(6) { 4 + random.below(5) } else { random.below(sheet.bytes.len()) };
+            let length = length.min(sheet.bytes.len() - 1);
             sheet.bytes.truncate(length);
             sheet.fields.retain(|field| field.place + field.size <= length);
             if !random.one_in(4) {
@@ -89,8 +94,19 @@ pub fn damaged(random: &mut Random, sheet: &Sheet, damage: Damage) -> Sheet {
             }
         }
         Damage::Version => {
-            let versions = [0, 1, 2, 3, 4, 255].into_iter().filter(|&version| version != sheet.bytes[2]);
-            sheet.bytes[2] = *random.pick(&versions.collect::<Vec<u8>>());
+            let versions = VERSIONS.into_iter().filter(|&version| version != sheet.bytes[2]);
+            let version = *random.pick(&versions.collect::<Vec<u8>>());
+            let number = sheet.number().unwrap_or(random_number(random));
+            sheet = if random.one_in(2) { sheet.in_version(version) } else { sheet.moved(version, number) };
+        }
+        Damage::Paper => {
+            let version = sheet.bytes[2];
+            sheet = match sheet.number() {
+                Some(number) if !random.one_in(6) => sheet.moved(NUMBERED, other_number(random, number)),
+                Some(_) => sheet.moved(1, 0),
+                None => sheet.moved(NUMBERED, random_number(random)),
+            };
+            sheet = sheet.in_version(version);
         }
     }
     sheet
@@ -102,23 +118,23 @@ fn pick_field(random: &mut Random, sheet: &Sheet) -> Field {
     sheet.fields[first + random.below(sheet.fields.len() - first)]
 }
 
-/// Bytes behind a good header, mostly small.
-pub fn random_bytes(random: &mut Random, kind: u8) -> Sheet {
+/// Bytes behind a good header of this version, and of this paper number from version 3 on, mostly small.
+pub fn random_bytes(random: &mut Random, kind: u8, version: u8, number: u32) -> Sheet {
     let length = match random.below(10) {
         0 => random.below(5),
         1 => 32_760 + random.below(12),
         2 => random.below(2_000),
         _ => 4 + random.below(120),
     };
-    let mut sheet = Sheet { bytes: vec![], fields: vec![] };
+    let mut sheet = Sheet::of(vec![]);
     let small = random.below(4);
     for _ in 0..length {
         let byte = if random.below(4) < small { random.draw() as u8 } else { random.below(3) as u8 };
         sheet.bytes.push(byte);
     }
     if length >= 4 && !random.one_in(8) {
-        sheet.bytes[2] = if kind == MODEL { either_version(random) } else { 1 };
         sheet.bytes[3] = kind;
+        sheet = sheet.moved(version, number);
     }
     if !random.one_in(8) {
         fix_length(&mut sheet.bytes);

@@ -4,7 +4,7 @@
 use super::certificates::certificate_sheet;
 use super::models::{ANY, Component, Mode, Plan, Switch, row};
 use super::runs::{NONE, put_step, run_sheet};
-use super::sheet::{Proof, Row, Sheet};
+use super::sheet::{NUMBERED, Proof, Row, Sheet};
 use super::turns;
 use crate::marker::run::Step;
 
@@ -18,11 +18,23 @@ impl Paper {
     pub(super) fn new(name: &str, model: Sheet, second: Sheet) -> Self {
         Paper { name: name.to_string(), model, second }
     }
+
+    /// The same paper with its two sheets in these versions; from version 3 on they have these paper numbers.
+    pub fn moved(&self, versions: [u8; 2], numbers: [u32; 2]) -> Self {
+        let [model, second] = [(&self.model, 0), (&self.second, 1)].map(|(sheet, i)| sheet.clone().moved(versions[i], numbers[i]));
+        Paper { name: format!("{}, versions {versions:?}, numbers {numbers:?}", self.name), model, second }
+    }
+
+    /// The same paper in version 3.
+    pub fn numbered(&self, number: u32) -> Self {
+        self.moved([NUMBERED; 2], [number; 2])
+    }
 }
 
 pub(super) fn plan(owners: Vec<u8>, components: Vec<Component>, unsafe_conditions: Vec<(Vec<u8>, Vec<Row>)>) -> Plan {
     let n = owners.len();
-    Plan { version: 1, owners, components, unsafe_conditions, start: vec![0; n], low: vec![0; n], high: vec![0; n] }
+    let none = || vec![0; n];
+    Plan { version: 1, paper_number: 0, owners, components, unsafe_conditions, start: none(), low: none(), high: none() }
 }
 
 pub(super) fn proof(k: u32, entries: &[(u8, u32)]) -> (Proof, bool) {
@@ -50,7 +62,7 @@ pub fn tank_certificate(bound: i32) -> Sheet {
 }
 
 /// A run of T from 5.
-fn tank_run(first: i64, steps: &[(Step, i64)]) -> Sheet {
+pub(super) fn tank_run(first: i64, steps: &[(Step, i64)]) -> Sheet {
     let mut sheet = run_sheet(1, steps.len(), 0, 1, &[first]);
     for (step, value) in steps {
         put_step(&mut sheet, step, &[1], &[*value]);
@@ -77,22 +89,42 @@ pub fn products_certificate(switches: &[usize]) -> Sheet {
 
 /// A certificate of exactly 32,768 bytes, accepted: 14 rows, 464 joint switches, 6,524 proofs, 6 of them with an entry.
 pub fn longest_certificate() -> Paper {
+    longest_certificate_with(14, [29, 16], 6)
+}
+
+/// The region has so many rows, and there is a joint switch for each pair of these switches.
+fn longest_certificate_with(rows: usize, switches: [usize; 2], entries: usize) -> Paper {
     let mode = Mode { start: true, invariant: vec![vec![0, 0]], ..Mode::default() };
     let component = |count| Component { alphabet: 2, modes: vec![mode.clone()], switches: loops(1, count) };
-    let model = plan(vec![0], vec![component(29), component(16)], vec![]).sheet();
-    let mut proofs = vec![proof(1, &[]); 6_524];
-    proofs[..6].fill(proof(1, &[(0, 1)]));
-    Paper::new("certificate of 32,768 bytes", model, certificate_sheet(&vec![vec![vec![0, 0]; 14]; 1], &proofs))
+    let model = plan(vec![0], switches.map(component).to_vec(), vec![]).sheet();
+    let mut proofs = vec![proof(1, &[]); rows * (2 + switches[0] * switches[1])];
+    proofs[..entries].fill(proof(1, &[(0, 1)]));
+    Paper::new("certificate of 32,768 bytes", model, certificate_sheet(&vec![vec![vec![0, 0]; rows]; 1], &proofs))
 }
+
+/// Switches of the longest model.
+const SWITCHES: usize = 128;
 
 /// A model of exactly 32,768 bytes with a run of no steps, accepted.
 pub fn longest_model() -> Paper {
-    longest_model_with("model of 32,768 bytes", [3; 4])
+    longest_model_with("model of 32,768 bytes", [3; 4], SWITCHES)
 }
 
 /// The same with rows that differ and have no common divisor, in descending order: its fair copy is as long as it is.
 pub fn longest_copy() -> Paper {
-    longest_model_with("model of 32,768 bytes, copy too", [i32::MAX, 5, 3, 0])
+    longest_model_with("model of 32,768 bytes, copy too", [i32::MAX, 5, 3, 0], SWITCHES)
+}
+
+/// Papers of version 3 with a sheet of exactly 32,768 bytes. To make room for the paper number the certificate has 16 rows, 405 joint
+/// switches and 6,512 proofs, 14 of them with an entry; the models have one switch less; the run has two jumps in the place of flows.
+pub fn longest_numbered() -> Vec<Paper> {
+    let papers = [
+        longest_certificate_with(16, [27, 15], 14),
+        longest_model_with("model of 32,768 bytes", [3; 4], SWITCHES - 1),
+        longest_model_with("model of 32,768 bytes, copy too", [i32::MAX, 5, 3, 0], SWITCHES - 1),
+        long_run_with(MOST_STEPS, FLOWS - 2),
+    ];
+    papers.iter().map(|paper| paper.numbered(0xfedc_ba98)).collect()
 }
 
 /// So many switches of four jump rows each, none of which changes in a copy.
@@ -110,13 +142,13 @@ pub fn switches_to_copy(switches: usize) -> Paper {
     Paper::new("switches to copy", model, run_sheet(1, 0, 0, 1, &[0; 8]).finished())
 }
 
-/// The bounds are those of the rows in each condition.
-fn longest_model_with(name: &str, bounds: [i32; 4]) -> Paper {
+/// The bounds are those of the rows in each condition. The last switches have no rows.
+fn longest_model_with(name: &str, bounds: [i32; 4], switches: usize) -> Paper {
     let jump = bounds.map(|bound| row(16, &[(0, 1), (8, -1)], bound));
     let mut jump_rows = 472;
     let mut components = vec![];
-    for _ in 0..4 {
-        let mut switches = loops(0, 32);
+    for number in 0..4 {
+        let mut switches = loops(0, (switches - 32 * number).min(32));
         for switch in &mut switches {
             switch.jump = jump[..jump_rows.min(4)].to_vec();
             jump_rows -= switch.jump.len();
@@ -128,10 +160,17 @@ fn longest_model_with(name: &str, bounds: [i32; 4]) -> Paper {
     Paper::new(name, model, run_sheet(1, 0, 0, 1, &[0; 8]).finished())
 }
 
+/// The most that a run has, and the flows among them if it fills a sheet.
+const MOST_STEPS: usize = 4_095;
+const FLOWS: usize = 2_044;
+
 /// A run of flows and jumps in turn through T; 4,095 steps take exactly 32,768 bytes.
 pub fn long_run(steps: usize) -> Paper {
+    long_run_with(steps, steps * FLOWS / MOST_STEPS)
+}
+
+fn long_run_with(steps: usize, flows: usize) -> Paper {
     let model = tank(-5, loops(0, 1));
-    let flows = steps * 2_044 / 4_095;
     let mut second = run_sheet(1, steps, 0, 1, &[5]);
     for step in 0..steps {
         let jump = Step::Jump(0, [0, 255, 255, 255]);
@@ -434,12 +473,12 @@ fn scopes() -> Vec<Paper> {
 }
 
 /// Papers at and beside the limits of the exam desk and of the practice desk, in locations and in joint switches; one is over both limits
-/// of the practice desk, and two models do not read.
+/// of the practice desk, and two models do not read. The last two have version 3.
 pub fn for_limits() -> Vec<Paper> {
     let mut papers = vec![
         Paper::new("T with C", tank(-11, vec![]), tank_certificate(10)),
         Paper::new("C with T", tank_certificate(10), tank(-11, vec![])),
-        Paper::new("nothing", empty(), empty()),
+        Paper::new("nothing", Sheet::of(vec![]), Sheet::of(vec![])),
         joint_switches(&[1], 0),
         joint_switches(&[16, 16], 0),
         joint_switches(&[16, 16], 1),
@@ -448,6 +487,7 @@ pub fn for_limits() -> Vec<Paper> {
         shared_events(),
     ];
     papers.extend([&[4, 4][..], &[6, 3], &[8, 8], &[7, 5, 2]].map(locations));
+    papers.extend([joint_switches(&[16, 16], 1), locations(&[6, 3])].map(|paper| paper.numbered(7)));
     papers
 }
 
@@ -482,11 +522,8 @@ pub fn for_fair_copy() -> Vec<Paper> {
         with_rows("one coefficient each", &std::array::from_fn::<_, 8, _>(one_of)),
         longest_model(),
         longest_copy(),
+        with_rows("divisors", &[[2, 3], [2, 4], [6, 9]]).numbered(0x0102_0304),
     ]
-}
-
-fn empty() -> Sheet {
-    Sheet { bytes: vec![], fields: vec![] }
 }
 
 /// All of them.
@@ -521,8 +558,8 @@ pub fn all() -> Vec<Paper> {
         shared_events(),
         Paper::new("products", products(&[8, 4, 2]), products_certificate(&[8, 4, 2])),
     ];
-    papers.extend([1, 2].into_iter().filter_map(turns::certificate));
-    papers.extend([1, 2].map(turns::run));
+    papers.extend((1..=3).filter_map(turns::certificate));
+    papers.extend((1..=3).map(turns::run));
     papers.extend([i32::MIN, -i32::MAX, 1 - i32::MAX, 0, i32::MAX].map(largest_sums));
     let most = (1 << 24) - 1;
     papers.extend([(0, 0), (-1, 1), (-1, 0), (0, 1), (1, 1), (-(most as i32), most), (i32::MIN, most)].map(|(b, t)| least_rate(b, t)));

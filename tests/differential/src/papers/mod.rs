@@ -5,6 +5,7 @@ pub mod certificates;
 pub mod damage;
 pub mod extremes;
 pub mod models;
+pub mod pairs;
 pub mod random;
 pub mod runs;
 pub mod scores;

@@ -1,5 +1,6 @@
 //! Random models that read well: boxes with rates, guards and resets, shared events, and variables of components that stay.
 
+use super::extremes::plan;
 use super::random::Random;
 use super::sheet::{MODEL, Row, Sheet};
 use crate::marker::Model;
@@ -31,6 +32,8 @@ pub struct Component {
 #[derive(Clone)]
 pub struct Plan {
     pub version: u8,
+    /// Stands in sheets of version 3.
+    pub paper_number: u32,
     pub owners: Vec<u8>,
     pub components: Vec<Component>,
     /// Mode bytes and rows.
@@ -77,8 +80,9 @@ impl Plan {
         });
         let (components, unsafe_conditions) = (components.collect(), unsafe_conditions.collect());
         let (version, owners) = (model.version, model.owners.clone());
+        let paper_number = model.paper_number.unwrap_or(0);
         let none = || vec![0; model.variables];
-        Plan { version, owners, components, unsafe_conditions, start: none(), low: none(), high: none() }
+        Plan { version, paper_number, owners, components, unsafe_conditions, start: none(), low: none(), high: none() }
     }
 
     /// Every condition that may have rows, with the number of coefficients in each row.
@@ -117,7 +121,7 @@ impl Plan {
     }
 
     pub fn sheet(&self) -> Sheet {
-        let mut sheet = Sheet::new(MODEL).in_version(self.version);
+        let mut sheet = Sheet::new(MODEL);
         sheet.put(1, self.owners.len() as i64, 1, 8);
         sheet.put(1, self.components.len() as i64, 1, 4);
         sheet.put(1, self.unsafe_conditions.len() as i64, 0, 16);
@@ -148,7 +152,12 @@ impl Plan {
             }
             sheet.put_rows(rows, 8);
         }
-        sheet.finished()
+        sheet.finished().moved(self.version, self.paper_number)
+    }
+
+    /// A second sheet as one of this model's.
+    pub fn paired(&self, second: Sheet) -> Sheet {
+        second.beside(self.version, self.paper_number)
     }
 }
 
@@ -161,7 +170,7 @@ pub fn random_plan(random: &mut Random, size: usize) -> Plan {
     let high: Vec<i32> = low.iter().map(|low| low + random.between(0, 20) as i32 * scale).collect();
     let start: Vec<i32> = (0..variables).map(|v| random.between(low[v].into(), high[v].into()) as i32).collect();
     let owners = (0..variables).map(|_| random.below(component_count) as u8).collect();
-    let mut plan = Plan { version: 1, owners, components: vec![], unsafe_conditions: vec![], start, low, high };
+    let mut plan = Plan { version: 1, paper_number: 0, owners, components: vec![], unsafe_conditions: vec![], start, low, high };
 
     // A small pool of events, so that components share them.
     let pool: Vec<u8> = (0..1 + random.below(3)).map(|_| random.between(1, 15) as u8).collect();
@@ -198,8 +207,7 @@ pub fn crowded_plan(random: &mut Random) -> Plan {
         });
         Component { alphabet, switches: switches.collect(), modes: vec![mode; mode_count] }
     });
-    let components = components.collect();
-    Plan { version: 1, owners: vec![0], components, unsafe_conditions: vec![], start: vec![0], low: vec![0], high: vec![0] }
+    plan(vec![0], components.collect(), vec![])
 }
 
 fn random_component(random: &mut Random, plan: &Plan, number: usize, mode_count: usize, pool: &[u8], size: usize) -> Component {

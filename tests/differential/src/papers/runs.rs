@@ -82,6 +82,7 @@ pub fn random_run(random: &mut Random, mut plan: Plan, most_steps: usize) -> Opt
     for (step, state) in &steps {
         put_step(&mut second, step, &switches, &state.values[..n]);
     }
+    let second = plan.paired(second.finished());
     if second.bytes.len() > 32_768 {
         return None;
     }
@@ -89,7 +90,7 @@ pub fn random_run(random: &mut Random, mut plan: Plan, most_steps: usize) -> Opt
     if plan.unsafe_conditions.len() < 16 {
         plan.unsafe_conditions.push(fitting(random, &state, n, model.components.len(), q));
     }
-    Some(Walk { model: plan.sheet(), second: second.finished() })
+    Some(Walk { model: plan.sheet(), second })
 }
 
 fn random_step(random: &mut Random, plan: &Plan, model: &Model, joints: &[JointSwitch], from: &State, q: i64) -> (Step, [i64; 8]) {

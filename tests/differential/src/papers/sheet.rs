@@ -13,11 +13,19 @@ pub struct Field {
 pub struct Sheet {
     pub bytes: Vec<u8>,
     pub fields: Vec<Field>,
+    /// Does the body begin with a paper number?
+    numbered: bool,
 }
 
 pub const MODEL: u8 = 1;
 pub const CERTIFICATE: u8 = 2;
 pub const RUN: u8 = 3;
+
+/// From this version on the body begins with a paper number (02, order 7).
+pub const NUMBERED: u8 = 3;
+/// Where the body begins, and the bytes that a paper number takes there.
+const BODY: usize = 4;
+const NUMBER: usize = 4;
 
 /// Numbers of a row: its coefficients, then its bound.
 pub type Row = Vec<i32>;
@@ -31,17 +39,72 @@ pub struct Proof {
 
 impl Sheet {
     pub fn new(kind: u8) -> Self {
-        let mut sheet = Sheet { bytes: vec![], fields: vec![] };
+        let mut sheet = Sheet::of(vec![]);
         sheet.put(2, 0, 0, 65_535);
-        sheet.put(1, 1, 1, if kind == MODEL { 2 } else { 1 });
+        sheet.put(1, 1, 1, NUMBERED.into());
         sheet.put(1, kind.into(), kind.into(), kind.into());
         sheet
     }
 
-    /// The same sheet in another version.
+    /// Bytes whose fields are not known, without a paper number.
+    pub fn of(bytes: Vec<u8>) -> Self {
+        Sheet { bytes, fields: vec![], numbered: false }
+    }
+
+    /// The same bytes but for the version.
     pub fn in_version(mut self, version: u8) -> Self {
         self.bytes[2] = version;
         self
+    }
+
+    /// The same sheet in another version: from version 3 on its body begins with this paper number, before it has none.
+    pub fn moved(mut self, version: u8, number: u32) -> Self {
+        if self.bytes.len() < BODY {
+            return self;
+        }
+        if self.numbered {
+            self.take_number();
+        }
+        if version >= NUMBERED {
+            self.put_number(number);
+        }
+        self.in_version(version)
+    }
+
+    /// The paper number, if the body begins with one.
+    pub fn number(&self) -> Option<u32> {
+        let number = self.bytes.get(BODY..)?.first_chunk()?;
+        self.numbered.then(|| u32::from_be_bytes(*number))
+    }
+
+    /// Takes out the paper number, or what is there of it. What is behind it comes nearer, and L is less.
+    fn take_number(&mut self) {
+        let taken = self.bytes.drain(BODY..(BODY + NUMBER).min(self.bytes.len())).len();
+        self.fields.retain(|field| field.place != BODY);
+        self.fields.iter_mut().filter(|field| field.place > BODY).for_each(|field| field.place -= NUMBER);
+        self.set_length(|length| length.wrapping_sub(taken as u16));
+        self.numbered = false;
+    }
+
+    /// Puts a paper number before the body. What is behind it goes on, and L is more.
+    fn put_number(&mut self, number: u32) {
+        self.bytes.splice(BODY..BODY, number.to_be_bytes());
+        let first = self.fields.partition_point(|field| field.place < BODY);
+        self.fields[first..].iter_mut().for_each(|field| field.place += NUMBER);
+        self.fields.insert(first, Field { place: BODY, size: NUMBER, low: 0, high: u32::MAX.into() });
+        self.set_length(|length| length.wrapping_add(NUMBER as u16));
+        self.numbered = true;
+    }
+
+    /// Changes L, which need not be right.
+    fn set_length(&mut self, change: impl FnOnce(u16) -> u16) {
+        let length = change(u16::from_be_bytes([self.bytes[0], self.bytes[1]]));
+        self.bytes[..2].copy_from_slice(&length.to_be_bytes());
+    }
+
+    /// The same second sheet for a model of this version with this paper number.
+    pub fn beside(self, model: u8, number: u32) -> Self {
+        self.moved(second_version(model), number)
     }
 
     /// Writes a field that may hold low to high.
@@ -77,6 +140,11 @@ impl Sheet {
         fix_length(&mut self.bytes);
         self
     }
+}
+
+/// The version of the second sheets of a model.
+pub fn second_version(model: u8) -> u8 {
+    if model < NUMBERED { 1 } else { model }
 }
 
 /// Makes L right.

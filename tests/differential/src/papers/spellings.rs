@@ -1,9 +1,9 @@
 //! Models for the fair copy: other spellings of a model, which all have the same copy, and models with rows of every kind that a copy
 //! changes.
 
-use super::blanks::either_version;
 use super::certificates::gcd;
 use super::models::{ANY, Plan, crowded_plan, random_plan, row};
+use super::pairs::in_any_version;
 use super::random::Random;
 use super::sheet::{Row, Sheet};
 use crate::marker::{Limits, Model};
@@ -67,8 +67,8 @@ fn most_factor(number: i32) -> i64 {
 
 /// A model with rows of every kind that a copy changes. In every other one no bound is below 0, so that runs can begin with all values 0.
 pub fn rough_plan(random: &mut Random) -> Plan {
-    let mut plan = if random.one_in(8) { crowded_plan(random) } else { random_plan(random, 3) };
-    plan.version = either_version(random);
+    let plan = if random.one_in(8) { crowded_plan(random) } else { random_plan(random, 3) };
+    let mut plan = in_any_version(random, plan);
     let n = *random.pick(&[1, 2, 3, 8]);
     plan.owners = (0..n).map(|_| random.below(plan.components.len()) as u8).collect();
     (plan.start, plan.low, plan.high) = (vec![0; n], vec![-2; n], vec![2; n]);

@@ -1,5 +1,5 @@
-//! Variables that run in turn: one model in two spellings, of version 2, where blanks do not change, and of version 1, with a pair of
-//! staying rows for each blank. Both allow the same runs, and a certificate for one has as many proofs as for the other. The benchmark
+//! Variables that run in turn: one model in two spellings, of versions 2 and 3, where blanks do not change, and of version 1, with a pair
+//! of staying rows for each blank. All allow the same runs, and a certificate for one has as many proofs as for the others. The benchmark
 //! compares them.
 
 use super::certificates::short_certificate;
@@ -17,6 +17,8 @@ const MODES: usize = VARIABLES / COMPONENTS;
 const MOST: i32 = 10;
 /// As many as fit in a sheet.
 const STEPS: usize = 896;
+/// Of the sheets of version 3.
+const PAPER_NUMBER: u32 = 0x0102_0304;
 
 /// In each mode one variable of the component runs, with rates 0 to 1. The switch to the next mode sets the variable that runs there to 0.
 /// All else is blank.
@@ -36,10 +38,10 @@ fn turns(unsafe_conditions: Vec<(Vec<u8>, Vec<Row>)>) -> Plan {
         Component { alphabet: 0, modes: modes.collect(), switches: switches.collect() }
     });
     let owners = (0..VARIABLES).map(|v| (v / MODES) as u8).collect();
-    Plan { version: 2, ..plan(owners, components.collect(), unsafe_conditions) }
+    Plan { paper_number: PAPER_NUMBER, ..plan(owners, components.collect(), unsafe_conditions) }
 }
 
-/// The same model in version 1, with a pair of rows for each blank: rate 0 in a flow, the value before in a jump.
+/// The same model with a pair of rows for each blank: rate 0 in a flow, the value before in a jump.
 fn written_out(mut plan: Plan) -> Plan {
     for (number, component) in plan.components.iter_mut().enumerate() {
         for v in MODES * number..MODES * (number + 1) {
@@ -52,25 +54,26 @@ fn written_out(mut plan: Plan) -> Plan {
             }
         }
     }
-    Plan { version: 1, ..plan }
+    plan
 }
 
 fn in_version(version: u8, plan: Plan) -> Plan {
-    if version == 1 { written_out(plan) } else { plan }
+    let plan = if version == 1 { written_out(plan) } else { plan };
+    Plan { version, ..plan }
 }
 
 /// A certificate that all variables are from 0 to the most; none where a proof is not found.
 pub fn certificate(version: u8) -> Option<Paper> {
     let above = (0..VARIABLES).map(|v| (vec![ANY; COMPONENTS], vec![row(VARIABLES, &[(v, -1)], -MOST - 1)]));
-    let model = in_version(version, turns(above.collect())).sheet();
+    let plan = in_version(version, turns(above.collect()));
     let region = (0..VARIABLES).flat_map(|v| [row(VARIABLES, &[(v, 1)], MOST), row(VARIABLES, &[(v, -1)], 0)]).collect();
-    let second = short_certificate(&model.bytes, &vec![region; MODES * MODES])?;
-    Some(Paper::new(&format!("turns of version {version}, certificate"), model, second))
+    let second = short_certificate(&plan, &vec![region; MODES * MODES])?;
+    Some(Paper::new(&format!("turns of version {version}, certificate"), plan.sheet(), second))
 }
 
 /// A run that flows and jumps in turn. Each variable runs for two flows, with rate 1.
 pub fn run(version: u8) -> Paper {
-    let model = in_version(version, turns(vec![(vec![ANY; COMPONENTS], vec![])])).sheet();
+    let plan = in_version(version, turns(vec![(vec![ANY; COMPONENTS], vec![])]));
     let mut second = run_sheet(1, STEPS, 0, MODES * MODES, &[0; VARIABLES]);
     let (mut modes, mut values) = ([0; COMPONENTS], [0; VARIABLES]);
     for step in 0..STEPS {
@@ -86,5 +89,5 @@ pub fn run(version: u8) -> Paper {
             put_step(&mut second, &Step::Jump(0, switches), &[MODES; COMPONENTS], &values);
         }
     }
-    Paper::new(&format!("turns of version {version}, run"), model, second.finished())
+    Paper::new(&format!("turns of version {version}, run"), plan.sheet(), plan.paired(second.finished()))
 }

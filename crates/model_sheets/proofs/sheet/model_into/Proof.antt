@@ -15,7 +15,8 @@ use Rattle.fields.proofs.ChainLaws.{told-at, told-refused}
 use Rattle.models.proofs.IndexLaws.{kept-then, kept-wider}
 use Rattle.models.proofs.SameSheetLaws.{model-same}
 use Rattle.model_sheets.specs.Opening.{readOpening, openingFrom}
-use Rattle.model_sheets.proofs.SheetLaws.{HeaderRead, body-good, sheet-first, sheet-second, sheet-third, sheet-limits}
+use Rattle.formats.proofs.Header.{HeaderRead}
+use Rattle.model_sheets.proofs.SheetLaws.{body-good, sheet-first, sheet-second, sheet-third, sheet-limits}
 use Rattle.model_sheets.proofs.OpeningLaws.{opening-read}
 use Rattle.model_sheets.proofs.LimitLaws.{refused-uncounted}
 use Rattle.model_sheets.proofs.sheet.model_into.Statement.{statement}
@@ -39,7 +40,7 @@ module _ (c : tie.After-body) where
   one : readOpening s 0 ≡ got (openingFrom opened) body
   one = told-at (openingFrom opened) (readOpening s 0) (c .before .before .opening-into .ensures .0) (c .body .given .1)
 
-  known : HeaderRead 1 s (versionIn opened)
+  known : HeaderRead 1 s 0 (versionIn opened) 4
   unfolding openingFrom
   known = opening-read s (openingFrom opened) body one
 

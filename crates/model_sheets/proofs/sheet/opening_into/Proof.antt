@@ -10,7 +10,7 @@ use Rattle.fields.specs.Answers.{gotAs}
 use Rattle.fields.proofs.AnswerLaws.{field-value, field-refused}
 use Rattle.models.proofs.IndexLaws.{kept-none}
 use Rattle.model_sheets.specs.Opening.{Opening}
-use Rattle.model_sheets.proofs.SheetLaws.{header-read}
+use Rattle.formats.proofs.Header.{header-read}
 use Rattle.model_sheets.proofs.OpeningLaws.{opening-first, opening-second, opening-both}
 use Rattle.model_sheets.proofs.sheet.opening_into.Statement.{statement}
 use Rattle.model_sheets.proofs.sheet.opening_into.Tie as tie
@@ -53,7 +53,7 @@ enum-known-paper c = search needs
 keep-opening-requires : tie.Need-keep-opening-requires
 keep-opening-requires c κs =
     let h = c .before .before .before .before .before .before in
-    (search needs, version-small 1 (version h) (header-read 1 (s h) (version h) (at h) (headed h) .fits))
+    (search needs, version-small 1 (version h) (header-read 1 (s h) 0 (version h) (at h) (headed h) .fits))
 
 returns : tie.Need-returns
 unfolding gotAs
