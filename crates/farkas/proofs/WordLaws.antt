@@ -2,7 +2,7 @@
 use mathlib.Core.Path.{_≡_, sym, ap, ap₂, _∙_}
 use mathlib.Core.Bool.{cond}
 use mathlib.Core.List.{List, _∷_}
-use Prim.Native.Nat.{ℕ, suc, _+_, _*_, _-_, _^_, _≤_, _<_}
+use Prim.Native.Nat.{ℕ, suc, _+_, _*_, _-_, _/_, _%_, _^_, _≤_, _<_}
 use native.Mathlib.Decide.{decLe}
 use native.Mathlib.Numerals.{add-one}
 use native.Mathlib.Omega.{arith}
@@ -12,7 +12,7 @@ use lib.IntN.{pos, negsuc, natAbs, _+ℤ_}
 use lib.ListN.{length, getD, take, drop}
 use lib.Seq.{drop-cons}
 use borrow.Author.Tests.{lt-ltb, le-ltb}
-use Rattle.farkas.specs.Words.{bigEndian, signed}
+use Rattle.farkas.specs.Words.{bigEndian, signed, turned}
 
 -- the first byte of what is left
 pub first-byte : (s : List ℕ) (p : ℕ) → p < length s → drop p s ≡ getD s p 0 ∷ drop (p + 1) s
@@ -29,6 +29,27 @@ four-at s p h =
 
     go : (a b c d : ℕ) → a * 256 ^ 3 + (b * 256 ^ 2 + (c * 256 ^ 1 + (d * 256 ^ 0 + 0))) ≡ ((a * 256 + b) * 256 + c) * 256 + d
     go a b c d = omega arith
+
+-- four bytes, the first lowest, in the opposite order
+pub turned-four : (a b c d : ℕ) → a < 256 → b < 256 → c < 256 → d < 256 → turned (a + 256 * b + 65536 * c + 16777216 * d) ≡ ((a * 256 + b) * 256 + c) * 256 + d
+unfolding turned
+turned-four a b c d ha hb hc hd =
+    rw (first a b c d ha, second a b c d ha hb, third a b c d ha hb hc, fourth a b c d ha hb hc) (sums a b c d)
+  where
+    first : (a b c d : ℕ) → a < 256 → (a + 256 * b + 65536 * c + 16777216 * d) % 256 ≡ a
+    first a b c d ha = omega arith
+
+    second : (a b c d : ℕ) → a < 256 → b < 256 → (a + 256 * b + 65536 * c + 16777216 * d) / 256 % 256 ≡ b
+    second a b c d ha hb = omega arith
+
+    third : (a b c d : ℕ) → a < 256 → b < 256 → c < 256 → (a + 256 * b + 65536 * c + 16777216 * d) / 65536 % 256 ≡ c
+    third a b c d ha hb hc = omega arith
+
+    fourth : (a b c d : ℕ) → a < 256 → b < 256 → c < 256 → (a + 256 * b + 65536 * c + 16777216 * d) / 16777216 ≡ d
+    fourth a b c d ha hb hc = omega arith
+
+    sums : (a b c d : ℕ) → a * 16777216 + b * 65536 + c * 256 + d ≡ ((a * 256 + b) * 256 + c) * 256 + d
+    sums a b c d = omega arith
 
 -- the size of a signed number
 pub signed-small : (n : ℕ) → n < 2 ^ 32 → natAbs (signed n) ≤ 2 ^ 31

@@ -1,7 +1,7 @@
 -- Numbers as rows have them in bytes (01, Sheet): four bytes to a number. Assumes nothing.
 use mathlib.Core.Bool.{false, cond}
 use mathlib.Core.List.{List, [], _∷_}
-use Prim.Native.Nat.{ℕ, zero, suc, _+_, _*_, _-_, _^_, _≤_, _<_}
+use Prim.Native.Nat.{ℕ, zero, suc, _+_, _*_, _-_, _/_, _%_, _^_, _≤_, _<_}
 use lib.Dec.{ltb}
 use lib.IntN.{ℤ, pos, negsuc}
 use lib.ListN.{length, take, drop}
@@ -11,6 +11,10 @@ use Rattle.farkas.specs.Rows.{Row}
 unfoldable pub bigEndian : List ℕ → ℕ
 bigEndian [] = 0
 bigEndian (b ∷ bytes) = b * 256 ^ length bytes + bigEndian bytes
+
+-- the four bytes of a number in the opposite order
+unfoldable pub turned : ℕ → ℕ
+turned v = v % 256 * 16777216 + v / 256 % 256 * 65536 + v / 65536 % 256 * 256 + v / 16777216
 
 -- "s32 is two's complement"
 unfoldable pub signed : ℕ → ℤ

@@ -13,8 +13,8 @@ const HALF: usize = 2147483648;
 
 const MOST_BYTES: usize = 1048576;
 
-// The four bytes at a place that has them, as a number.
-pub fn number(s: &[u8], at: usize) -> u32
+// The four bytes at a place that has them, as a number whose sign is then looked at.
+fn highest_first(s: &[u8], at: usize) -> u32
     requires { ⌜ at + 4 ≤ length (now s) ⌝ }
     ensures { λ r. ⌜ r ≡ bigEndian (take 4 (drop at (now (s .entry)))) ⌝ }
 {
@@ -23,6 +23,33 @@ pub fn number(s: &[u8], at: usize) -> u32
     let c = s[at + 2] as u32;
     let d = s[at + 3] as u32;
     ((a * 256 + b) * 256 + c) * 256 + d
+}
+
+// The same with the first byte lowest. By itself, so that the compiler makes one load of it.
+fn lowest_first(s: &[u8], at: usize) -> u32
+    requires { ⌜ at + 4 ≤ length (now s) ⌝ }
+    ensures { λ r. ⌜ words.turned r ≡ bigEndian (take 4 (drop at (now (s .entry)))) ⌝ }
+{
+    let a = s[at] as u32;
+    let b = s[at + 1] as u32;
+    let c = s[at + 2] as u32;
+    let d = s[at + 3] as u32;
+    a + 256 * b + 65536 * c + 16777216 * d
+}
+
+// The four bytes of a number in the opposite order.
+fn turned(v: u32) -> u32
+    ensures { λ r. ⌜ r ≡ words.turned v ⌝ }
+{
+    (v % 256) * 16777216 + (v / 256 % 256) * 65536 + (v / 65536 % 256) * 256 + v / 16777216
+}
+
+// The four bytes at a place that has them, as a number.
+pub fn number(s: &[u8], at: usize) -> u32
+    requires { ⌜ at + 4 ≤ length (now s) ⌝ }
+    ensures { λ r. ⌜ r ≡ bigEndian (take 4 (drop at (now (s .entry)))) ⌝ }
+{
+    turned(lowest_first(s, at))
 }
 
 // A number of 32 bits as a signed one, raised by 2^31.
@@ -48,5 +75,5 @@ pub fn signed_word(s: &[u8], at: usize) -> i64
     ensures { λ r. ⌜ r ≡ signedAt (now (s .entry)) at ⌝ }
     ensures { λ r. ⌜ natAbs r ≤ 2 ^ 31 ⌝ }
 {
-    raised(number(s, at)) - half_of(s.len())
+    raised(highest_first(s, at)) - half_of(s.len())
 }
