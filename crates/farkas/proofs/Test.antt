@@ -51,7 +51,7 @@ module _ (b : Bool) (P : ℕ → Type 0) where
 
   -- one more test, of the first unknown
   told_and : (a : Bool) → T a ↔ P zero → Told b (λ i. P (suc i)) → Told (a && b) P
-  told_and true m (everywhere t h) = everywhere t (λ i. elim i [ zero ↦ m.0 tt | suc j ↦ h j ])
+  told_and true m (everywhere t h) = everywhere t (λ i. elim i as (λ k. P k) [ zero ↦ m.0 tt | suc j ↦ h j ])
   told_and true m (fails-at t i n) = fails-at t (suc i) n
   told_and false m r = fails-at tt zero m.1
 
