@@ -1,5 +1,7 @@
 // Bytes written into a lent buffer, one after the other. What does not fit is left out, and the place after it is told all the same: so the
 // length that a text needs is known even where the buffer is too short. Bytes past what is written stay.
+#![tactic(auto)]
+
 ghost use Rattle.std.specs.Prelude.{◌≡◌, [], ◌∷◌, ◌+◌, ◌<◌, ◌^◌, length};
 ghost use Rattle.buffers.specs.Over.{over, word, half};
 

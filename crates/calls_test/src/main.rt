@@ -5,6 +5,8 @@
 // the label, the five numbers of the answer and the buffer's bytes after the call; before it they are all 165.
 // Any other call: a byte n, the length of a text in two bytes, and the text, which is read as a typed row in n variables. Its line has the
 // number of the answer, the place, the eight coefficients and the bound.
+#![tactic(auto)]
+
 ghost use Rattle.std.specs.Prelude.{◌≡◌, ◌^◌, ◌<◌, nat_abs};
 
 use fair_copies::copies::fair_copy;

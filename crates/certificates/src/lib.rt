@@ -1,4 +1,6 @@
 // Certificates marked: the proofs of all obligations, location by location, then joint switch by joint switch; and the whole sheet.
+#![tactic(auto)]
+
 pub mod certificate;
 pub mod joint_marks;
 pub mod obligations;

@@ -1,5 +1,7 @@
 // The marker's entries for a desk, a C program that hands over the sheets as bytes and states its limits. include/marker.h has their
 // prototypes.
+#![tactic(auto)]
+
 pub mod copies;
 pub mod show;
 pub mod table;

@@ -5,6 +5,8 @@
 // proof.
 // Nothing here knows of sheets or models. Sizes are the caller's to bound: see `Spare` in specs/Sums.antt, and specs/Sizes.antt for what 01
 // lets a proof have.
+#![tactic(auto)]
+
 pub mod words;
 
 ghost use Rattle.std.specs.Prelude.{◌≡◌, true, not, ◌&&◌, [], ◌∷◌, ◌++◌, ◌+◌, ◌*◌, ◌-◌, ◌^◌, ◌≤◌, ◌<◌, pos, neg_ℤ, nat_abs, ◌+ℤ◌, ◌*ℤ◌, length, take, drop, replicate};

@@ -3,6 +3,8 @@
 // and goals that must be met strictly are marked.
 // T has one unknown x: start x ≤ 5 and −x ≤ −5, invariant x ≤ 10, rates 0 to 2, unsafe −x ≤ −11. C's region is x ≤ 10. A flow has the
 // unknowns x, x' and d. Rows stand in bytes as in a sheet, four to a number, the bound last.
+#![tactic(auto)]
+
 mod rates;
 mod strict;
 

@@ -1,4 +1,6 @@
 // Part of the layer of sheets.
+#![tactic(auto)]
+
 pub mod conditions;
 pub mod fields;
 pub mod header;

@@ -38,6 +38,7 @@ in-leaving c mode e i t =
 
 in-front : {i : ℕ} {switches : List ℕ} (numbers : List ℕ) (rest : List (List ℕ)) → Memᴰ i numbers → Memᴰ switches rest → Memᴰ (i ∷ switches) (in_front numbers rest)
 unfolding in_front
+in-front [] rest d e = elim d [ ]
 in-front {i} {switches} (j ∷ numbers) rest (Memᴰ.head e) d =
     Memᴰ.append_left (in_front numbers rest) (Memᴰ.cast (ap (λ (n : ℕ). n ∷ switches) e) (in_map (λ xs. j ∷ xs) d))
 in-front (j ∷ numbers) rest (Memᴰ.tail k) d = Memᴰ.append_right (map (λ xs. j ∷ xs) rest) (in-front numbers rest k d)

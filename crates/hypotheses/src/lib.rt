@@ -1,4 +1,6 @@
 // The hypotheses of an obligation, kept in tables: for a start, a flow, an unsafe condition and a joint switch.
+#![tactic(auto)]
+
 pub mod groups;
 pub mod tables;
 

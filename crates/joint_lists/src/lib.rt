@@ -1,4 +1,6 @@
 // The joint list: its answer, and its records in batches.
+#![tactic(auto)]
+
 pub mod list;
 pub mod records;
 

@@ -1,4 +1,6 @@
 // Locations and joint switches of a model, counted and found by its index.
+#![tactic(auto)]
+
 pub mod into;
 pub mod joints;
 pub mod numbered;

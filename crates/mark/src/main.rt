@@ -1,5 +1,7 @@
 // The program `mark`: reads a model and a second sheet from standard input and writes one line, as document 01 says.
 // `SAFE done` for an accepted certificate, `UNSAFE done` for an accepted run, else `REFUSED number sheet place done score`.
+#![tactic(auto)]
+
 use libc::{STDIN_FILENO, STDOUT_FILENO};
 use marking::text::{LINE_LENGTH, mark_text};
 

@@ -1,4 +1,6 @@
 // The line that the program prints, for any input.
+#![tactic(auto)]
+
 pub mod program;
 pub mod text;
 

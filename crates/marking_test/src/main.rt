@@ -5,6 +5,8 @@
 // so many records lent as the number says; 4 asks for the program's line for the sheet's bytes as its input; 5 asks for the part that show
 // row gives, with the number's high byte as the obligation and its low byte as the hypothesis: how many bytes, and the bytes; 6 states, in
 // the sheet's first eight bytes, the limits on locations and joint switches for the papers that follow, until then the exam's.
+#![tactic(auto)]
+
 ghost use Rattle.std.specs.Prelude.{◌-◌, ◌^◌, ◌<◌};
 
 use certificates::certificate::mark_certificate;

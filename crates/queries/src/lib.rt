@@ -1,4 +1,6 @@
 // What is asked of a paper beside its marking: show row, what a hypothesis is, and which obligation has a number.
+#![tactic(auto)]
+
 pub mod find;
 pub mod rows;
 pub mod show;

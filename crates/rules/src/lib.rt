@@ -1,5 +1,7 @@
 // The structs that the definitions name. The crate has no functions: it says what runs, obligations and answers are, and proves what an
 // acceptance means.
+#![tactic(auto)]
+
 
 // What every marking entry answers: document 01, "What is handed back".
 #[repr(C)]

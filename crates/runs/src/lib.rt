@@ -1,4 +1,6 @@
 // Run sheets marked: the steps one after the other, and the whole sheet.
+#![tactic(auto)]
+
 pub mod run;
 
 // How far the marking of a run has come: the number of its refusal, or 0, its place, how many steps passed, and the modes of the location

@@ -1,4 +1,6 @@
 // The fields of certificates and run sheets, read by a model's index.
+#![tactic(auto)]
+
 pub mod certificate;
 pub mod ranges;
 pub mod run;

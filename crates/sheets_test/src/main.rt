@@ -1,6 +1,8 @@
 // Reads papers from standard input and writes what reading each gives: its label, the refusal's number, or 0, and the place of the
 // refusal, or where reading ended. tests/sheet_papers.py writes the papers, and says what must be written for each.
 // A paper: the label's length and the label, a kind, three arguments, the sheet's length in two bytes, and the sheet.
+#![tactic(auto)]
+
 ghost use Rattle.std.specs.Prelude.{◌^◌, ◌<◌};
 ghost use Rattle.models.specs.Index.{GoodIndex};
 

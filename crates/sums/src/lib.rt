@@ -1,4 +1,6 @@
 // A proof read and tested: its entries are summed as they are read, entry by entry, and the sums judged.
+#![tactic(auto)]
+
 pub mod lines;
 pub mod proofs;
 

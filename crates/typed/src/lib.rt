@@ -1,5 +1,7 @@
 // A row typed as text (02, order 1): its coefficients and its bound, or the number and the place at which it is refused.
 // The text is scanned first, so that every cause of 16 comes before any cause of 17; a text that keeps the rules is then worked out.
+#![tactic(auto)]
+
 mod forms;
 mod reading;
 pub mod row;

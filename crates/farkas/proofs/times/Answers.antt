@@ -1,19 +1,11 @@
 -- A number of 32 bits is itself in 64. Assumes nothing.
 use mathlib.Core.Path.{◌≡◌, ap}
 use native.Mathlib.Omega.{arith}
-use borrow.Author.Rules.{rules}
 use lib.IntN.{pos, nat_abs}
 use mir.Syntax.{w64}
 use mir.Val.{to_z}
 use mir.ValLaws.{to_z_pos}
-use Rattle.farkas.proofs.times.Statement.{statement}
-use Rattle.farkas.proofs.times.Tie as tie
+use Rattle.farkas.proofs.times.Goals as goal
 
-cast-result : tie.Need-overflow-cast-result
-cast-result c = search rules
-
-returns : tie.Need-returns
+pub returns : goal.returns
 returns c = let e : to_z w64 c.args.m ≡ pos c.args.m = to_z_pos w64 c.args.m (omega arith) in (e, ap nat_abs e)
-
-pub times-spec : {M : Type 1} → statement M
-times-spec = tie.close (tie.spec cast-result returns)

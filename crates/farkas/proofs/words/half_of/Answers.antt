@@ -7,17 +7,14 @@ use lib.Bits.{bit_xor}
 use lib.IntN.{pos}
 use mir.Syntax.{w64}
 use mir.ValLaws.{to_z_pos}
-use Rattle.farkas.proofs.words.half_of.Statement.{statement}
-use Rattle.farkas.proofs.words.half_of.Tie as tie
+use Rattle.farkas.proofs.words.half_of.Goals.{Start}
+use Rattle.farkas.proofs.words.half_of.Goals as goal
 
-half : (c : tie.Start) → bit_xor (c.args.length / 1048576) 2147483648 ≡ 2147483648
+half : (c : Start) → bit_xor (c.args.length / 1048576) 2147483648 ≡ 2147483648
 half c = ap (λ (n : ℕ). bit_xor n 2147483648) (div-eq_of_lt {n = c.args.length} {m = 1048576} (omega arith)) ∙ refl
 
-cast-result : tie.Need-overflow-cast-result
-cast-result c = omega (arith, half c)
+pub overflow_cast-result : goal.overflow_cast-result
+overflow_cast-result c = omega (arith, half c)
 
-returns : tie.Need-returns
+pub returns : goal.returns
 returns c = to_z_pos w64 (bit_xor (c.args.length / 1048576) 2147483648) (omega (arith, half c)) ∙ ap pos (half c)
-
-pub half-of-spec : {M : Type 1} → statement M
-half-of-spec = tie.close (tie.spec cast-result returns)
