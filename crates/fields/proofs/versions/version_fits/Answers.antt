@@ -6,8 +6,7 @@ use native.Mathlib.Omega.{arith}
 use lib.Dec.{eqb}
 use borrow.Author.Tests.{le-leb, lt-leb, eq-eqb, ne_eqb}
 use Rattle.formats.specs.Versions.{newest, version_fits}
-use Rattle.fields.proofs.versions.version_fits.Statement.{statement}
-use Rattle.fields.proofs.versions.version_fits.Tie as tie
+use Rattle.fields.proofs.versions.version_fits.Goals as goal
 
 low : (kind version : ℕ) → version < 1 → false ≡ version_fits kind version
 unfolding version_fits
@@ -26,21 +25,18 @@ module _ (kind version : ℕ) (h : 1 ≤ version) (l : version ≤ 3) where
   unfolding version_fits newest
   of_other n = rw (le-leb 1 version h, le-leb version 3 l, ne_eqb kind 1 n) refl
 
-returns : tie.Need-returns
-returns c = let a = c.before.args in low a.kind a.version (omega (arith, c.if1.true))
+pub returns-then-version-lt1 : goal.returns-then-version-lt1
+returns-then-version-lt1 c = let a = c.args in low a.kind a.version (omega (arith, c.if-version-lt1.true))
 
-returns-2 : tie.Need-returns-2
-returns-2 c = let a = c.before.before.args in high a.kind a.version (omega (arith, c.before.if1.false)) (omega (arith, c.if2.true))
+pub returns-then-version-gt-NEWEST : goal.returns-then-version-gt-NEWEST
+returns-then-version-gt-NEWEST c = let a = c.args in high a.kind a.version (omega (arith, c.if-version-lt1.false)) (omega (arith, c.if-version-gt-NEWEST.true))
 
-returns-3 : tie.Need-returns-3
-returns-3 c =
-    let a = c.before.before.before.args in
-    of-model a.kind a.version (omega (arith, c.before.before.if1.false)) (omega (arith, c.before.if2.false)) c.if3.true
+pub returns-then-kind-eq1 : goal.returns-then-kind-eq1
+returns-then-kind-eq1 c =
+    let a = c.args in
+    of-model a.kind a.version (omega (arith, c.if-version-lt1.false)) (omega (arith, c.if-version-gt-NEWEST.false)) c.if-kind-eq1.true
 
-returns-4 : tie.Need-returns-4
-returns-4 c =
-    let a = c.before.before.before.args in
-    of_other a.kind a.version (omega (arith, c.before.before.if1.false)) (omega (arith, c.before.if2.false)) c.if3.false
-
-pub version-fits-spec : {M : Type 1} → statement M
-version-fits-spec = tie.close (tie.spec returns returns-2 returns-3 returns-4)
+pub returns : goal.returns
+returns c =
+    let a = c.args in
+    of_other a.kind a.version (omega (arith, c.if-version-lt1.false)) (omega (arith, c.if-version-gt-NEWEST.false)) c.if-kind-eq1.false

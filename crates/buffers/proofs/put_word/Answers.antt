@@ -1,0 +1,15 @@
+-- One byte after the other. Assumes nothing.
+use borrow.Author.Rules.{rules}
+use mathlib.Core.List.{[], ◌∷◌}
+use Rattle.buffers.specs.Over.{word}
+use Rattle.buffers.proofs.WritingLaws.{left-all, left-on, left-last, as_written, as-told}
+use Rattle.buffers.proofs.put_word.Goals as goal
+
+pub returns : goal.returns
+unfolding word
+returns c =
+    let one = as_written c.put_byte-second.ensures in
+    let two = as_written c.put_byte-third.ensures in
+    let three = as_written c.put_byte-fourth.ensures in
+    let four = as_written c.put_byte.ensures in
+    as-told (left-last _ (left-on (_ ∷ []) _ (left-on (_ ∷ []) _ (left-on (_ ∷ []) _ (left-all _ _ _) one) two) three) four)
