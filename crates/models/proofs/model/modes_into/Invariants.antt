@@ -1,0 +1,18 @@
+use mathlib.Core.Path.{◌∙◌}
+use Prim.Native.Nat.{◌+◌, ◌*◌, ◌-◌}
+use native.Mathlib.Omega.{arith}
+use borrow.Author.Rules.{rules}
+use Rattle.models.specs.Index.{mode_from, mode_place}
+use Rattle.fields.specs.Answers.{got_as}
+use Rattle.models.proofs.IndexLaws.{agree-low, mode-same}
+use Rattle.formats.specs.Model.{read_mode}
+use Rattle.models.proofs.FillLoop.{Filled, fill-starts, fill_stops, fill-goes-on, fill-ends}
+use Rattle.models.proofs.model.modes_into.Given as goal
+
+abbrev pub invariant-loop-j : goal.invariant-loop-j
+invariant-loop-j l =
+    Filled (read_mode l.version l.n) (λ x i. mode_from l.s l.version l.n x (mode_place l.block i)) l.count l.s l.at (l.block + 3) (l.block + 59) l.initial.index l.index l.j l.place
+
+abbrev pub decreases-loop-j : goal.decreases-loop-j
+decreases-loop-j l =
+    l.count - l.j

@@ -1,0 +1,100 @@
+-- The read-loop law: the owners so far, in front of those to come, are all of them. Assumes nothing.
+use mathlib.Core.Path.{◌≡◌, refl, sym, ap, ◌∙◌}
+use Prim.Native.Nat.{ℕ, ◌+◌, ◌-◌, ◌≤◌}
+use native.Mathlib.Omega.{arith}
+use borrow.Author.Rules.{rules}
+use lib.ListN.{length, set, length-set}
+use Rattle.formats.specs.Reading.{got, u8, below, many}
+use Rattle.models.specs.Index.{entry, owner_place, Kept}
+use Rattle.fields.specs.Answers.{got_as}
+use Rattle.fields.proofs.AnswerLaws.{field-value, field-refused}
+use Rattle.formats.proofs.FieldLaws.{count-read}
+use Rattle.models.proofs.IndexLaws.{entry-same, entry_other, kept-none, kept_set, kept_then}
+use Rattle.fields.proofs.ReadLoop.{up_to, Reading, reading-starts, reading-goes-on, reading-stops, reading-ends}
+use Rattle.models.proofs.unsafes.owners_into.Goals as goal
+
+pub loop-v-init : goal.loop-v-init
+loop-v-init c =
+    let a = c.args in
+    let s = a.s.now in
+    let r = below a.c u8 in
+    (omega arith, (refl, (reading-starts r a.n s (many a.n r s a.at) (λ i. entry a.index.now (owner_place i)) a.at refl, kept-none 3 11 a.index.now)))
+
+pub shape_of-index-in-Refused : goal.shape_of-index-in-Refused
+shape_of-index-in-Refused c = c.loop-v.invariant.1.0
+
+pub returns-in-Refused : goal.returns-in-Refused
+unfolding got_as
+returns-in-Refused c =
+    let a = c.args in
+    let s = a.s.now in
+    let r = below a.c u8 in
+    let x = c.loop-v.index in
+    let v = c.loop-v.v in
+    let inv = c.loop-v.invariant in
+    let whole = many a.n r s a.at in record { result_after = reading-stops r a.n s whole (λ i. entry x (owner_place i)) v c.loop-v.place c.in-Refused.number c.in-Refused.cut inv.1.1.0 c.loop-v-test.true
+          (sym c.byte_below.ensures ∙ field-refused c.in-Refused.is); kept = inv.1.1.1 }
+
+pub overflow_cast-index : goal.overflow_cast-index
+overflow_cast-index c =
+    let a = c.args in
+    let s = a.s.now in
+    let r = below a.c u8 in
+    let owner = c.in-Value.owner in
+    let next = c.in-Value.next in
+    let e : r s c.loop-v.place ≡ got owner next = sym c.byte_below.ensures ∙ field-value c.in-Value.is in
+    omega (arith, (count-read u8 a.c s c.loop-v.place owner next e).less, c.requires.n_bound)
+
+pub overflow_add-index : goal.overflow_add-index
+overflow_add-index c = omega (arith, c.requires.n_bound, c.loop-v-test.true)
+
+pub offset_bounds-index-v : goal.offset_bounds-index-v
+offset_bounds-index-v c = omega (arith, c.requires.n_bound, c.requires.sized.long, c.loop-v.invariant.1.0, c.loop-v-test.true)
+
+pub bounds-index-v : goal.bounds-index-v
+bounds-index-v c = omega (arith, c.requires.n_bound, c.requires.sized.long, c.loop-v.invariant.1.0, c.loop-v-test.true)
+
+pub overflow_add-v : goal.overflow_add-v
+overflow_add-v c = omega (arith, c.requires.n_bound, c.loop-v-test.true)
+
+pub loop-v-smaller : goal.loop-v-smaller
+loop-v-smaller c = omega (arith, c.loop-v-test.true)
+
+pub loop-v-preserved : goal.loop-v-preserved
+unfolding owner_place
+loop-v-preserved c =
+    let a = c.args in
+    let s = a.s.now in
+    let r = below a.c u8 in
+    let x = c.loop-v.index in
+    let v = c.loop-v.v in
+    let inv = c.loop-v.invariant in
+    let whole = many a.n r s a.at in
+    let owner = c.in-Value.owner in
+    let next = c.in-Value.next in
+    let e : r s c.loop-v.place ≡ got owner next = sym c.byte_below.ensures ∙ field-value c.in-Value.is in
+    let y = set x (3 + v) owner in
+    let put : entry y (3 + v) ≡ owner = entry-same x (3 + v) owner (omega (arith, c.requires.n_bound, c.requires.sized.long, inv.1.0, c.loop-v-test.true)) in (
+      omega (arith, c.loop-v-test.true),
+      (
+        length-set x (3 + v) owner ∙ inv.1.0,
+        (
+          reading-goes-on r a.n s whole (λ i. entry x (3 + i)) (λ i. entry y (3 + i)) v c.loop-v.place next inv.1.1.0 c.loop-v-test.true (e ∙ ap (λ (o : ℕ). got o next) (sym put)) (λ i h. entry_other x (3 + v) (3 + i) owner (λ q. omega arith)),
+          kept_then inv.1.1.1 (kept_set 3 11 x (3 + v) owner (omega arith) (omega (arith, c.requires.n_bound, c.loop-v-test.true))),
+        ),
+      ),
+    )
+
+pub shape_of-index : goal.shape_of-index
+shape_of-index c = c.loop-v.invariant.1.0
+
+pub returns : goal.returns
+unfolding got_as up_to
+returns c =
+    let a = c.args in
+    let s = a.s.now in
+    let r = below a.c u8 in
+    let x = c.loop-v.index in
+    let v = c.loop-v.v in
+    let inv = c.loop-v.invariant in
+    let whole = many a.n r s a.at in record { result_after = reading-ends r a.n s whole (λ i. entry x (owner_place i)) v c.loop-v.place inv.1.1.0 (omega (arith, c.loop-v-test.false)); kept = inv.1.1.1 }
