@@ -25,7 +25,7 @@ const MOVERS_AT: usize = 256;
 
 // A component's part in an event: its number and mode, the event, and what the target's number is by its mode after it, a rest from the
 // other components and a unit for each mode.
-#[derive(Drop)]
+#[derive(Clone, Copy)]
 struct Part {
     k: usize,
     mode: u8,

@@ -13,14 +13,14 @@ const LEAST: i64 = -2147483648;
 const LARGEST: i64 = 2147483647;
 
 // A coefficient for each of eight variables, and a number.
-#[derive(Drop)]
+#[derive(Clone, Copy)]
 pub struct Form {
     pub coefficients: [i32; 8],
     pub number: i32,
 }
 
 // How far a reader came: the place after what it read, or the place of what is refused as 17.
-#[derive(Drop)]
+#[derive(Clone, Copy)]
 pub enum Reached {
     At(usize),
     Fault(usize),

@@ -1,0 +1,17 @@
+use mathlib.Core.Path.{◌≡◌}
+use Prim.Native.Nat.{◌-◌, ◌≤◌}
+use native.Mathlib.Omega.{arith}
+use lib.ListN.{length}
+use Rattle.formats.specs.Joint.{count_up}
+use Rattle.formats.specs.JointTotals.{sum_over, event_into}
+use Rattle.models.specs.Index.{entry, components_from}
+use Rattle.models.specs.Counts.{per_component}
+use Rattle.formats.proofs.SumLaws.{sum-next, sum-most}
+use Rattle.joint_switches.proofs.IntoLaws.{event-starts, event-few, into-counted}
+use Rattle.joint_switches.proofs.into.joints_into.Given as goal
+
+abbrev pub invariant-loop-e : goal.invariant-loop-e
+invariant-loop-e l = (1 ≤ l.e) × (l.e ≤ 16) × (l.count ≡ sum_over (event_into (components_from l.s l.index) (per_component l.index l.modes)) (count_up 0 l.e))
+
+abbrev pub decreases-loop-e : goal.decreases-loop-e
+decreases-loop-e l = 16 - l.e

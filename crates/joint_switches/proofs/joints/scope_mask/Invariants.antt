@@ -1,0 +1,15 @@
+use mathlib.Core.Path.{◌≡◌, ap, ◌∙◌}
+use Prim.Native.Nat.{ℕ, ◌-◌, ◌≤◌}
+use native.Mathlib.Omega.{arith}
+use borrow.Author.Rules.{rules}
+use lib.Arith.{le-zero}
+use Rattle.formats.specs.Joint.{scope_mask}
+use Rattle.models.specs.Index.{entry}
+use Rattle.joint_switches.proofs.JointLoops.{components_on, mask-starts, mask-goes-on, mask-few}
+use Rattle.joint_switches.proofs.joints.scope_mask.Given as goal
+
+abbrev pub invariant-loop-k : goal.invariant-loop-k
+invariant-loop-k l = (l.k ≤ entry l.index 1) × (l.mask ≡ scope_mask (components_on l.s l.index l.k) l.e)
+
+abbrev pub decreases-loop-k : goal.decreases-loop-k
+decreases-loop-k l = l.k

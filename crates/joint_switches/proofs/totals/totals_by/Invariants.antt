@@ -1,0 +1,14 @@
+use mathlib.Core.Path.{◌≡◌, refl, ◌∙◌}
+use Prim.Native.Nat.{◌-◌, ◌≤◌}
+use native.Mathlib.Omega.{arith}
+use lib.ListN.{length, replicate, length-set}
+use Rattle.formats.specs.JointTotals.{event_total}
+use Rattle.models.specs.Index.{components_from}
+use Rattle.joint_switches.proofs.TotalLaws.{silent-event, FilledTo, filled_more, filled-whole}
+use Rattle.joint_switches.proofs.totals.totals_by.Given as goal
+
+abbrev pub invariant-loop-e : goal.invariant-loop-e
+invariant-loop-e l = (1 ≤ l.e) × (l.e ≤ 16) × (length l.totals ≡ 16) × FilledTo (event_total (components_from l.s l.index)) l.e l.totals
+
+abbrev pub decreases-loop-e : goal.decreases-loop-e
+decreases-loop-e l = 16 - l.e
