@@ -7,7 +7,7 @@ pub mod obligations;
 
 // Where marking stands: the number of what failed, 0 as long as nothing has; the place reached, or that of what failed; and how many
 // proofs have passed.
-#[derive(Drop)]
+#[derive(Clone, Copy)]
 pub struct Marking {
     pub number: u32,
     pub place: usize,
@@ -16,7 +16,7 @@ pub struct Marking {
 
 // Where the proofs of the joint switches from a location stand: the location, its modes, how many segments of the table are its own, and
 // where marking stands.
-#[derive(Drop)]
+#[derive(Clone, Copy)]
 pub struct Leaving {
     pub location: u32,
     pub modes: [u8; 4],
@@ -25,7 +25,7 @@ pub struct Leaving {
 }
 
 // The joint switches of an event from a location, as a table lists them, and where their proofs begin.
-#[derive(Drop)]
+#[derive(Clone, Copy)]
 pub struct Listing {
     pub slot: joint_switches::Slot,
     pub from: Leaving,

@@ -18,7 +18,7 @@ use runs::run::mark_run;
 
 // A typed row as it is handed back: the answer, with the row's numbers where it is accepted and zeros where it is refused.
 #[repr(C)]
-#[derive(Drop)]
+#[derive(Clone, Copy)]
 pub struct ReadRow {
     pub answer: Answer,
     pub coefficients: [i32; 8],

@@ -18,7 +18,7 @@ use buffers::{put_byte, put_word};
 use fields::versions::row_bytes;
 
 // Rows of a sheet: its version, how many coefficients a row has, the place of the first, and how many there are.
-#[derive(Drop)]
+#[derive(Clone, Copy)]
 pub struct Stretch {
     pub version: u32,
     pub n: usize,

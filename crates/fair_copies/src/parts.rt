@@ -19,7 +19,7 @@ use papers::opening::{number_at, version_of};
 // Items that an index keeps one after the other, the modes of a component, its switches, or the unsafe conditions: how many coefficients
 // their rows have, the place of the first, how many numbers each takes, and how many there are. Each has some numbers that are bytes of the
 // sheet, then, from a number on, its conditions.
-#[derive(Drop)]
+#[derive(Clone, Copy)]
 pub(crate) struct Items {
     n: usize,
     first: usize,

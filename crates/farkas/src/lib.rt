@@ -19,7 +19,7 @@ ghost use Rattle.farkas.specs.Sums.{plus_from, RoomAt, Spare, is_zero, agrees_at
 use crate::words::signed_word;
 
 // What the test of a proof finds.
-#[derive(Drop)]
+#[derive(Clone, Copy)]
 pub enum Verdict {
     Holds,
     CoefficientsDiffer,
@@ -27,7 +27,7 @@ pub enum Verdict {
 }
 
 // A summed bound, and whether a strict row is among the summed.
-#[derive(Drop)]
+#[derive(Clone, Copy)]
 pub struct Bound {
     pub value: i64,
     pub strict: bool,

@@ -3,7 +3,7 @@
 
 
 // How many locations and joint switches a model may have. Each caller states its own: document 02, order 2.
-#[derive(Drop)]
+#[derive(Clone, Copy)]
 pub struct Limits {
     pub locations: u32,
     pub joints: u32,

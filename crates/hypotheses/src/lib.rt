@@ -7,7 +7,7 @@ pub mod tables;
 // What is to be proved from one table: the version of the sheets that its rows stand in, how many segments and how many hypotheses it has,
 // how many goals, where the goals' rows begin, on which unknowns they are put, and how many unknowns there are; and whether it is an unsafe
 // condition, whose goal is no row.
-#[derive(Drop)]
+#[derive(Clone, Copy)]
 pub struct Group {
     pub version: u32,
     pub segments: usize,

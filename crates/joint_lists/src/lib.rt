@@ -25,7 +25,7 @@ pub struct Batch {
 }
 
 // How many words of a batch are filled, and the place in the list after them.
-#[derive(Drop)]
+#[derive(Clone, Copy)]
 pub struct Filled {
     pub count: usize,
     pub slot: u32,

@@ -9,7 +9,7 @@ pub mod totals;
 
 // The joint switches of an event from a location, in a table: the event, how many there are, and how many ways each component has in an
 // event from 1.
-#[derive(Drop)]
+#[derive(Clone, Copy)]
 pub struct Slot {
     pub e: u32,
     pub count: u32,
@@ -17,7 +17,7 @@ pub struct Slot {
 }
 
 // A joint switch: its switches, 255 for a staying or absent component, and the location that it leads to.
-#[derive(Drop)]
+#[derive(Clone, Copy)]
 pub struct Landing {
     pub switches: [u8; 4],
     pub target: u32,

@@ -5,7 +5,7 @@ pub mod program;
 pub mod text;
 
 // The line that the program prints: document 01, "What is handed back".
-#[derive(Drop)]
+#[derive(Clone, Copy)]
 pub enum Line {
     Safe(u32),
     Unsafe(u32),

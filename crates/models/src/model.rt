@@ -221,7 +221,7 @@ fn switch_into(
 }
 
 // What a switch of a component may name: its events, and so many modes.
-#[derive(Drop)]
+#[derive(Clone, Copy)]
 struct Naming {
     alphabet: u32,
     modes: u32,

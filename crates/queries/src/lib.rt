@@ -8,7 +8,7 @@ pub mod show;
 // Which obligation has a number: 0 and its kind (0 start, 1 flow, 2 unsafe, 3 jump), its location or the number of its joint switch, and
 // the number of its region row or unsafe condition, with sheet 1 and its length; or why there is none, then with 0 0 0.
 #[repr(C)]
-#[derive(Drop)]
+#[derive(Clone, Copy)]
 pub struct Which {
     pub number: u32,
     pub sheet: u32,
@@ -20,7 +20,7 @@ pub struct Which {
 
 // How far a search has come: what it stands at, a location, a group or the number of a joint switch, and how many obligations are still to be
 // passed over.
-#[derive(Drop)]
+#[derive(Clone, Copy)]
 pub struct Spot {
     pub at: u32,
     pub left: u32,
@@ -29,7 +29,7 @@ pub struct Spot {
 // Where an obligation was found: at a location, in a group, with its line; at a joint switch, by its number, its location, its event, its
 // number among those of its event, and the line; or beyond the last, with the number of the next joint switch and how many obligations are
 // still to be passed over.
-#[derive(Drop)]
+#[derive(Clone, Copy)]
 pub enum Sought {
     AtLocation(u32, u32, u32),
     AtJoint(u32, u32, u32, u32, u32),
@@ -38,7 +38,7 @@ pub enum Sought {
 
 // Where the row of a hypothesis stands: in the model or in the second sheet, at a place and with a size in bytes; in no sheet; or why it is
 // refused, by number, sheet and place.
-#[derive(Drop)]
+#[derive(Clone, Copy)]
 pub enum RowFound {
     InModel(u32, u32),
     InSecond(u32, u32),
@@ -47,7 +47,7 @@ pub enum RowFound {
 }
 
 // Where the row of a hypothesis stands; its role, which is the form of its line; and its owner. A refusal has 0 and 0.
-#[derive(Drop)]
+#[derive(Clone, Copy)]
 pub struct Located {
     pub row: RowFound,
     pub role: u32,
@@ -58,7 +58,7 @@ pub struct Located {
 // has, its role (0 an initial row, 1 a region row, 2 an invariant on x, 3 an unsafe row, 4 an invariant on x', 5 a flow row, 6 the time, 7 a
 // jump row, 8 a staying variable's), and the component or variable that it belongs to, or 0; or why it is refused, then with 0 0 0.
 #[repr(C)]
-#[derive(Drop)]
+#[derive(Clone, Copy)]
 pub struct Shown {
     pub number: u32,
     pub sheet: u32,
@@ -69,7 +69,7 @@ pub struct Shown {
 }
 
 // Both sheets read up to the regions, or why not, by number, sheet and place.
-#[derive(Drop)]
+#[derive(Clone, Copy)]
 pub enum Opened {
     Open,
     Refused(u32, u32, u32),

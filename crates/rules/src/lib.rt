@@ -5,7 +5,7 @@
 
 // What every marking entry answers: document 01, "What is handed back".
 #[repr(C)]
-#[derive(Drop)]
+#[derive(Clone, Copy)]
 pub struct Answer {
     pub number: u32,
     pub sheet: u32,
@@ -16,7 +16,7 @@ pub struct Answer {
 
 // A record of the joint list: document 01, "Beside the marking".
 #[repr(C)]
-#[derive(Drop)]
+#[derive(Clone, Copy)]
 pub struct Joint {
     pub source: u8,
     pub event: u8,

@@ -5,7 +5,7 @@ pub mod run;
 
 // How far the marking of a run has come: the number of its refusal, or 0, its place, how many steps passed, and the modes of the location
 // reached. The values reached stand beside it, in the first numbers of a lent slice.
-#[derive(Drop)]
+#[derive(Clone, Copy)]
 pub struct RunMarked {
     pub number: u32,
     pub place: usize,

@@ -5,7 +5,7 @@ pub mod lines;
 pub mod proofs;
 
 // A hypothesis of a table: its form, the place of its segment, and its number there.
-#[derive(Drop)]
+#[derive(Clone, Copy)]
 pub struct Line {
     pub form: u32,
     pub place: usize,
@@ -14,7 +14,7 @@ pub struct Line {
 
 // How far the entries of a proof are read: the place of the next, the least hypothesis that it may name, the segment to seek that from, the
 // summed bound, and whether a strict row is among the summed.
-#[derive(Drop)]
+#[derive(Clone, Copy)]
 pub struct Reached {
     pub place: usize,
     pub least: u32,
@@ -24,7 +24,7 @@ pub struct Reached {
 }
 
 // What reading and summing entries finds: a refusal, by its number and place, or how far they are read.
-#[derive(Drop)]
+#[derive(Clone, Copy)]
 pub enum Summed {
     Refused(u32, usize),
     At(Reached),

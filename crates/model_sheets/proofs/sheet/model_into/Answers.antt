@@ -67,7 +67,7 @@ body_into-requires c =
     let long : 1004 ≤ length (opened (goal.at.body_into-requires c).In-At) = search rules in record { sized = record { short = (known (goal.at.body_into-requires c).In-At).short; long = long }; version_value = c.wide-version.ensures }
 
 pub within_limits-requires : goal.within_limits-requires
-within_limits-requires c = record { good_index = good (goal.at.within_limits-requires c).In-At-body_into; t = (begun (goal.at.within_limits-requires c).In-At).pre }
+within_limits-requires c = record { good_index = good (goal.at.within_limits-requires c).In-At-body_into; t = c.requires }
 
 pub returns-in-Refused : goal.returns-in-Refused
 unfolding got_as
@@ -85,7 +85,7 @@ returns-in-Refused-body_into c =
 
 pub returns-in-Refused-finished : goal.returns-in-Refused-finished
 unfolding got_as opening_from
-returns-in-Refused-finished c = record { result_after = sym (sheet-third (begun (goal.at.returns-in-Refused-finished c).In-At).args.limits (s (goal.at.returns-in-Refused-finished c).In-At) (opening_from (opened (goal.at.returns-in-Refused-finished c).In-At)) (body (goal.at.returns-in-Refused-finished c).In-At) (one (goal.at.returns-in-Refused-finished c).In-At) (m (goal.at.returns-in-Refused-finished c).In-At-body_into) (end (goal.at.returns-in-Refused-finished c).In-At-body_into) (two (goal.at.returns-in-Refused-finished c).In-At-body_into) c.in-Refused-finished.number c.in-Refused-finished.place (told-refused tt (reading.finished (s (goal.at.returns-in-Refused-finished c).In-At) (end (goal.at.returns-in-Refused-finished c).In-At-body_into)) c.finished.ensures c.in-Refused-finished.is)); kept = kept_then (stored (goal.at.returns-in-Refused-finished c).In-At) (kept-wider (omega arith) (omega arith) c.body_into.ensures.kept); counted_after = refused-uncounted (s (goal.at.returns-in-Refused-finished c).In-At) (index (goal.at.returns-in-Refused-finished c).In-At-body_into) c.in-Refused-finished.number c.in-Refused-finished.place }
+returns-in-Refused-finished c = record { result_after = sym (sheet-third c.args.limits (s (goal.at.returns-in-Refused-finished c).In-At) (opening_from (opened (goal.at.returns-in-Refused-finished c).In-At)) (body (goal.at.returns-in-Refused-finished c).In-At) (one (goal.at.returns-in-Refused-finished c).In-At) (m (goal.at.returns-in-Refused-finished c).In-At-body_into) (end (goal.at.returns-in-Refused-finished c).In-At-body_into) (two (goal.at.returns-in-Refused-finished c).In-At-body_into) c.in-Refused-finished.number c.in-Refused-finished.place (told-refused tt (reading.finished (s (goal.at.returns-in-Refused-finished c).In-At) (end (goal.at.returns-in-Refused-finished c).In-At-body_into)) c.finished.ensures c.in-Refused-finished.is)); kept = kept_then (stored (goal.at.returns-in-Refused-finished c).In-At) (kept-wider (omega arith) (omega arith) c.body_into.ensures.kept); counted_after = refused-uncounted (s (goal.at.returns-in-Refused-finished c).In-At) (index (goal.at.returns-in-Refused-finished c).In-At-body_into) c.in-Refused-finished.number c.in-Refused-finished.place }
 
 pub returns-in-At-finished : goal.returns-in-At-finished
 unfolding model_from opening_from
@@ -94,4 +94,4 @@ returns-in-At-finished c =
     let limited = c.within_limits.ensures in
     let z = c.within_limits.new.index in
     let same : model_from sheet z ≡ m (goal.at.returns-in-At-finished c).In-At-body_into = model-same (good (goal.at.returns-in-At-finished c).In-At-body_into) limited.only_counts.0.same in record { result_after = ap (λ (x : Model). got_as x c.within_limits.result) same
-          ∙ sheet-limits (begun (goal.at.returns-in-At-finished c).In-At).args.limits sheet (opening_from (opened (goal.at.returns-in-At-finished c).In-At)) (body (goal.at.returns-in-At-finished c).In-At) (one (goal.at.returns-in-At-finished c).In-At) (m (goal.at.returns-in-At-finished c).In-At-body_into) (end (goal.at.returns-in-At-finished c).In-At-body_into) (two (goal.at.returns-in-At-finished c).In-At-body_into) c.in-At-finished.next (told_at tt (reading.finished sheet (end (goal.at.returns-in-At-finished c).In-At-body_into)) c.finished.ensures c.in-At-finished.is) c.within_limits.result limited.result_value; kept = kept_then (kept_then (stored (goal.at.returns-in-At-finished c).In-At) (kept-wider (omega arith) (omega arith) c.body_into.ensures.kept)) limited.only_counts.0.kept; counted_after = limited.only_counts.1 }
+          ∙ sheet-limits c.args.limits sheet (opening_from (opened (goal.at.returns-in-At-finished c).In-At)) (body (goal.at.returns-in-At-finished c).In-At) (one (goal.at.returns-in-At-finished c).In-At) (m (goal.at.returns-in-At-finished c).In-At-body_into) (end (goal.at.returns-in-At-finished c).In-At-body_into) (two (goal.at.returns-in-At-finished c).In-At-body_into) c.in-At-finished.next (told_at tt (reading.finished sheet (end (goal.at.returns-in-At-finished c).In-At-body_into)) c.finished.ensures c.in-At-finished.is) c.within_limits.result limited.result_value; kept = kept_then (kept_then (stored (goal.at.returns-in-At-finished c).In-At) (kept-wider (omega arith) (omega arith) c.body_into.ensures.kept)) limited.only_counts.0.kept; counted_after = limited.only_counts.1 }
