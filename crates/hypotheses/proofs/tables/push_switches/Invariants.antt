@@ -1,0 +1,14 @@
+use Prim.Native.Nat.{◌-◌, ◌≤◌, ◌<◌}
+use native.Mathlib.Omega.{arith}
+use borrow.Author.Rules.{rules}
+use lib.ListN.{length}
+use Rattle.models.specs.Index.{entry}
+use Rattle.hypotheses.proofs.TableLaws.{pushed, as-promised, Pushing, pushing-none, pushing-on, pushing-end}
+use Rattle.hypotheses.proofs.ModeLines.{switches_on, switches-next, switches-end}
+use Rattle.hypotheses.proofs.tables.push_switches.Given as goal
+
+abbrev pub invariant-loop-k : goal.invariant-loop-k
+invariant-loop-k l = Pushing (switches_on l.index l.switches) (entry l.index 1) l.initial.table l.at l.k l.table l.to
+
+abbrev pub decreases-loop-k : goal.decreases-loop-k
+decreases-loop-k l = l.components - l.k

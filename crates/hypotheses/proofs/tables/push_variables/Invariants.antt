@@ -1,0 +1,17 @@
+use mathlib.Core.Path.{◌≡◌, ap}
+use mathlib.Core.Bool.{Bool}
+use Prim.Native.Nat.{◌-◌, ◌<◌}
+use native.Mathlib.Omega.{arith}
+use borrow.Author.Rules.{rules}
+use Rattle.models.specs.Index.{entry}
+use Rattle.papers.specs.Blanks.{keeps_at}
+use Rattle.hypotheses.specs.Listing.{variable_line, variable_at, variable_lines}
+use Rattle.hypotheses.proofs.TableLaws.{pushed, pushed-as, as-promised, Pushing, pushing-none, pushing-on, pushing-end}
+use Rattle.papers.proofs.JoinedLaws.{joined_on, joined-first, joined-none, joined-whole}
+use Rattle.hypotheses.proofs.tables.push_variables.Given as goal
+
+abbrev pub invariant-loop-v : goal.invariant-loop-v
+invariant-loop-v l = Pushing (joined_on (variable_at (keeps_at l.model l.index l.flow l.numbers)) (entry l.index 0)) (entry l.index 0) l.initial.table l.at l.v l.table l.to
+
+abbrev pub decreases-loop-v : goal.decreases-loop-v
+decreases-loop-v l = l.n - l.v

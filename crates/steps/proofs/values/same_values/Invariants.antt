@@ -1,0 +1,18 @@
+use mathlib.Core.Path.{◌≡◌, refl}
+use Prim.Native.Nat.{◌+◌, ◌-◌, ◌≤◌}
+use native.Mathlib.Omega.{arith}
+use lib.IntN.{pos}
+use lib.ListN.{get_or}
+use Rattle.farkas.specs.Lists.{every}
+use Rattle.farkas.specs.Rows.{item}
+use Rattle.formats.specs.Joint.{count_up}
+use Rattle.steps.specs.Held.{same_at}
+use Rattle.steps.proofs.ValueLoops.{each_start, each-pass, each-fail, each_none}
+use Rattle.steps.proofs.ValueLaws.{same-yes, same-no}
+use Rattle.steps.proofs.values.same_values.Given as goal
+
+abbrev pub invariant-loop-i : goal.invariant-loop-i
+invariant-loop-i l = (l.i ≤ l.n) × (every (same_at l.n l.state) (count_up l.i (l.n - l.i)) ≡ every (same_at l.n l.state) (count_up 0 l.n))
+
+abbrev pub decreases-loop-i : goal.decreases-loop-i
+decreases-loop-i l = l.n - l.i
