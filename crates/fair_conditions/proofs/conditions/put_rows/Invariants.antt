@@ -1,0 +1,14 @@
+use Prim.Native.Nat.{◌-◌, ◌<◌}
+use lib.ListN.{get_or}
+use Rattle.buffers.proofs.WritingLaws.{written-length}
+use Rattle.fair_conditions.proofs.SortLaws.{among-at}
+use Rattle.fair_conditions.proofs.PutLaws.{RowsPut, rows_start, rows-go-on, rows_end}
+use borrow.Author.Rules.{rules}
+use native.Mathlib.Omega.{arith}
+use Rattle.fair_conditions.proofs.conditions.put_rows.Given as goal
+
+abbrev pub invariant-loop-i : goal.invariant-loop-i
+invariant-loop-i l = RowsPut l.initial.out l.at l.kept l.sorted l.count l.version l.n l.out l.next l.i
+
+abbrev pub decreases-loop-i : goal.decreases-loop-i
+decreases-loop-i l = l.count - l.i

@@ -1,0 +1,20 @@
+use mathlib.Core.Path.{◌≡◌, refl, sym, ap, ◌∙◌, subst}
+use mathlib.Core.List.{List}
+use Prim.Native.Nat.{ℕ, ◌+◌, ◌*◌, ◌-◌, ◌≤◌, ◌<◌}
+use lib.ListN.{length, get_or, take, set, length-set}
+use lib.Seq.{get_or-set_other}
+use Rattle.fair_rows.specs.FairRows.{Order, order}
+use Rattle.fair_conditions.specs.Held.{kept_numbers, kept_row, carried_on, left_behind, slip}
+use Rattle.fair_conditions.proofs.SortLaws.{Through, rows-order, among-at, through-starts, through-stops, through-goes-on, through-ends, carried-small}
+use borrow.Author.Rules.{rules}
+use native.Mathlib.Omega.{arith}
+use Rattle.fair_conditions.proofs.sorting.insert.Given as goal
+
+abbrev pub invariant-loop-i : goal.invariant-loop-i
+invariant-loop-i l =
+    ((l.i ≤ l.count) × (l.carried < 8))
+    × ((length l.sorted ≡ length l.initial.sorted)
+    × (((j : ℕ) → l.i ≤ j → j < l.count → get_or l.sorted j 0 < 8) × Through (kept_row l.kept l.n) (slip (kept_row l.kept l.n) l.k (take l.count l.initial.sorted)) l.sorted l.count l.i l.carried))
+
+abbrev pub decreases-loop-i : goal.decreases-loop-i
+decreases-loop-i l = l.count - l.i
