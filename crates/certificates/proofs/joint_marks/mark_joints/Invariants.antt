@@ -1,0 +1,27 @@
+use mathlib.Core.Path.{◌≡◌, refl, sym, ap, ◌∙◌}
+use mathlib.Core.List.{List}
+use Prim.Native.Nat.{◌-◌, ◌≤◌}
+use native.Mathlib.Omega.{arith}
+use lib.ListN.{length}
+use Rattle.formats.specs.Joint.{joints}
+use Rattle.models.specs.Index.{components_from}
+use Rattle.hypotheses.specs.Tables.{Stacked}
+use Rattle.hypotheses.specs.Listing.{Task, joint_tasks_for, mark_tasks}
+use Rattle.papers.proofs.JoinedLaws.{joined_on, joined-none}
+use Rattle.certificates.specs.Passed.{marked_from, leaving_tasks, Underway, Fresh}
+use Rattle.certificates.proofs.FreshLaws.{fresh-length}
+use Rattle.certificates.proofs.MarkLoops.{Comes}
+use Rattle.certificates.proofs.JointMarks.{part-underway, turn_on, turn-stops, marked-end, joints-left}
+use Rattle.certificates.proofs.joint_marks.mark_joints.Given as goal
+
+abbrev pub invariant-loop-location : goal.invariant-loop-location
+invariant-loop-location l =
+    (l.location ≤ l.locations)
+    × (Underway l.second l.marking
+    × (Fresh l.sums
+    × ((length l.table ≡ length l.initial.table)
+    × (Stacked l.table 0
+    × Comes l.second (mark_tasks (joined_on (leaving_tasks l.model l.index l.second l.regions) l.locations 0) l.second l.initial.marking.place l.initial.marking.done) (joined_on (leaving_tasks l.model l.index l.second l.regions) l.locations l.location) l.marking.place l.marking.done))))
+
+abbrev pub decreases-loop-location : goal.decreases-loop-location
+decreases-loop-location l = l.locations - l.location

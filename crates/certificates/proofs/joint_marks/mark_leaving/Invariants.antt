@@ -1,0 +1,30 @@
+use mathlib.Core.Path.{◌≡◌, refl, sym, ap, ◌∙◌}
+use mathlib.Core.List.{List}
+use Prim.Native.Nat.{ℕ, ◌-◌, ◌≤◌}
+use native.Mathlib.Omega.{arith}
+use lib.ListN.{length}
+use Rattle.models.specs.Index.{components_from}
+use Rattle.certificates.specs.declared.Leaving.{Leaving}
+use Rattle.formats.specs.Joint.{joints_of}
+use Rattle.hypotheses.specs.Listing.{Task, joint_tasks_for, here_lines, mark_tasks}
+use Rattle.hypotheses.proofs.TableLaws.{pushed, lines_start, stacked-less}
+use Rattle.papers.specs.Standing.{Stands}
+use Rattle.papers.proofs.StandingLaws.{stands_at_lem}
+use Rattle.papers.proofs.JoinedLaws.{joined_on, joined-none, joined-whole}
+use Rattle.certificates.specs.Passed.{marked_from, leaving_tasks, Ready}
+use Rattle.certificates.proofs.FreshLaws.{fresh-length}
+use Rattle.certificates.proofs.MarkLoops.{Comes}
+use Rattle.certificates.proofs.JointMarks.{turn_on, turn-stops, marked-end, ready-again}
+use Rattle.certificates.proofs.joint_marks.mark_leaving.Given as goal
+
+abbrev pub invariant-loop-e : goal.invariant-loop-e
+invariant-loop-e l =
+    let at : Leaving = record { l.location = l.location; l.modes = l.modes; l.here = l.here; l.marking = l.marking } in
+    let events : ℕ → List Task = (λ l.e. joint_tasks_for (l.model) (l.index) (l.second) (l.regions) (joints_of (components_from (l.model) (l.index)) (l.location) l.e)) in
+    (l.e ≤ 16)
+    × (Ready l.model l.index l.second l.regions at l.table l.sums
+    × ((length l.table ≡ length l.initial.table)
+    × Comes l.second (mark_tasks (joined_on events 16 0) l.second l.initial.marking.place l.initial.marking.done) (joined_on events 16 l.e) l.marking.place l.marking.done))
+
+abbrev pub decreases-loop-e : goal.decreases-loop-e
+decreases-loop-e l = 16 - l.e

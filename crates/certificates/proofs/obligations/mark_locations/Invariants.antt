@@ -1,0 +1,56 @@
+use mathlib.Core.Path.{◌≡◌, refl, sym, ap, ◌∙◌, subst}
+use mathlib.Core.List.{List, [], ◌∷◌, ◌++◌, append-nil}
+use Prim.Native.Nat.{◌+◌, ◌-◌, ◌≤◌, ◌<◌}
+use native.Mathlib.Omega.{arith}
+use lib.ListN.{length}
+use Rattle.formats.specs.Joint.{count_up, join_all}
+use Rattle.models.specs.Index.{entry, model_from}
+use Rattle.papers.specs.Paper.{regions_of}
+use lib.ListN.{get_or, drop}
+use Rattle.hypotheses.specs.declared.Group.{Group}
+use Rattle.hypotheses.specs.Tables.{Stacked}
+use Rattle.hypotheses.specs.Listing.{Task, no_task, tasks_of, location_tasks, location_tasks_for, mark_tasks, GoodGroup}
+use Rattle.hypotheses.proofs.TableLaws.{stacked-less}
+use Rattle.papers.proofs.StandingLaws.{stands_at_lem}
+use Rattle.papers.proofs.JoinedLaws.{joined-none, joined-whole}
+use Rattle.certificates.specs.Passed.{stands_at, Underway, Fresh}
+use Rattle.certificates.proofs.FreshLaws.{fresh-length}
+use Rattle.certificates.proofs.MarkLaws.{tasks-length, one-task, one-good, goal-low}
+use Rattle.certificates.proofs.MarkLoops.{locations_left, groups_left, location-groups, Comes, comes-same, comes-in, comes-out, goals-out, goal-first}
+use Rattle.certificates.proofs.JointMarks.{part-underway, part-on, part-stops, marked-end}
+use borrow.Author.Rules.{rules}
+use Rattle.certificates.proofs.obligations.mark_locations.Given as goal
+
+abbrev pub invariant-loop-goal : goal.invariant-loop-goal
+invariant-loop-goal l =
+    Underway l.second (record { l.number = l.number; l.place = l.place; l.done = l.done })
+    × ((l.goal ≤ l.goals)
+    × (Fresh l.sums
+    × Comes l.second (mark_tasks (locations_left l.model l.index l.second l.regions l.locations 0) l.second l.at 0) (drop l.goal (tasks_of l.model l.second (entry l.index 0) l.table l.group) ++ (groups_left l.model l.index l.second l.regions l.location l.groups (l.g + 1) ++ locations_left l.model l.index l.second l.regions l.locations (l.location + 1))) l.place l.done))
+
+abbrev pub decreases-loop-goal : goal.decreases-loop-goal
+decreases-loop-goal l = l.goals - l.goal
+
+abbrev pub invariant-loop-g : goal.invariant-loop-g
+invariant-loop-g l =
+    Underway l.second (record { l.number = l.number; l.place = l.place; l.done = l.done })
+    × ((l.g ≤ l.groups)
+    × (Fresh l.sums
+    × ((length l.table ≡ length l.initial.table)
+    × (Stacked l.table 0
+    × Comes l.second (mark_tasks (locations_left l.model l.index l.second l.regions l.locations 0) l.second l.at 0) (groups_left l.model l.index l.second l.regions l.location l.groups l.g ++ locations_left l.model l.index l.second l.regions l.locations (l.location + 1)) l.place l.done))))
+
+abbrev pub decreases-loop-g : goal.decreases-loop-g
+decreases-loop-g l = l.groups - l.g
+
+abbrev pub invariant-marking : goal.invariant-marking
+invariant-marking l =
+    Underway l.second (record { l.number = l.number; l.place = l.place; l.done = l.done })
+    × ((l.location ≤ l.locations)
+    × (Fresh l.sums
+    × ((length l.table ≡ length l.initial.table)
+    × (Stacked l.table 0
+    × Comes l.second (mark_tasks (locations_left l.model l.index l.second l.regions l.locations 0) l.second l.at 0) (locations_left l.model l.index l.second l.regions l.locations l.location) l.place l.done))))
+
+abbrev pub decreases-marking : goal.decreases-marking
+decreases-marking l = l.locations - l.location

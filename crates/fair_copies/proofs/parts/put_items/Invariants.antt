@@ -1,0 +1,16 @@
+use mathlib.Core.Path.{◌≡◌, refl, ◌∙◌}
+use Prim.Native.Nat.{◌+◌, ◌*◌, ◌-◌, ◌≤◌}
+use lib.ListN.{length}
+use Rattle.buffers.specs.Written.{Written}
+use Rattle.buffers.proofs.WritingLaws.{written-length}
+use Rattle.fair_copies.specs.Items.{item_bytes, items_bytes, GoodItem}
+use Rattle.fair_copies.proofs.EachPut.{EachPut, each-starts, each-goes-on, each-ends}
+use native.Mathlib.Omega.{arith}
+use Rattle.fair_copies.proofs.parts.put_items.Given as goal
+
+abbrev pub invariant-loop-i : goal.invariant-loop-i
+invariant-loop-i l =
+    EachPut (λ j. item_bytes l.model l.index l.items (l.items.first + l.items.step * j)) 1639 l.initial.out l.at l.items.count l.out l.next l.i × ((length l.kept ≡ length l.initial.kept) × (length l.sorted ≡ length l.initial.sorted))
+
+abbrev pub decreases-loop-i : goal.decreases-loop-i
+decreases-loop-i l = l.items.count - l.i

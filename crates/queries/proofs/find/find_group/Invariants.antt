@@ -1,0 +1,22 @@
+use mathlib.Core.Path.{◌≡◌, refl, sym, ap, ◌∙◌, subst}
+use mathlib.Core.List.{List, [], ◌++◌, append-nil}
+use Prim.Native.Nat.{◌+◌, ◌-◌, ◌≤◌, ◌<◌}
+use native.Mathlib.Omega.{arith}
+use borrow.Author.Rules.{rules}
+use lib.ListN.{length}
+use Rattle.models.specs.Index.{entry, model_from}
+use Rattle.rules.specs.Obligations.{Obligation, location_obligations}
+use Rattle.papers.specs.Paper.{regions_of}
+use Rattle.queries.specs.Finding.{one_at, group_obligations}
+use Rattle.papers.proofs.JoinedLaws.{joined_on}
+use Rattle.papers.proofs.StandingLaws.{stands_at_lem}
+use Rattle.queries.proofs.FindLaws.{one_on_lem, inside_on, inside-end, location-groups}
+use Rattle.queries.proofs.find.find_group.Given as goal
+
+abbrev pub invariant-loop-at : goal.invariant-loop-at
+invariant-loop-at l = (l.at ≤ l.groups)
+    × ((one_at (joined_on (group_obligations (model_from l.model l.index) (regions_of l.model l.index l.second l.regions) l.location) l.groups l.at ++ []) l.left ≡ one_at (location_obligations (model_from l.model l.index) (regions_of l.model l.index l.second l.regions) l.location) l.o)
+    × (l.left < length (joined_on (group_obligations (model_from l.model l.index) (regions_of l.model l.index l.second l.regions) l.location) l.groups l.at)))
+
+abbrev pub decreases-loop-at : goal.decreases-loop-at
+decreases-loop-at l = l.groups - l.at

@@ -1,0 +1,47 @@
+-- What is left of all joint switches begins with those of the location that the search stands at. Assumes nothing.
+use mathlib.Core.Path.{sym, subst}
+use mathlib.Core.List.{List}
+use Prim.Native.Nat.{◌-◌, ◌≤◌}
+use native.Mathlib.Omega.{arith}
+use borrow.Author.Rules.{rules}
+use Rattle.formats.specs.Joint.{JointSwitch, joints_of, joints, join_all, count_up}
+use Rattle.models.specs.Index.{components_from, model_from}
+use Rattle.papers.specs.Paper.{regions_of}
+use Rattle.papers.proofs.JoinedLaws.{joined_on}
+use Rattle.queries.specs.Finding.{Passing}
+use Rattle.queries.proofs.FindLaws.{passing-starts, few-here, in-location, in-joint, in_rest, in-none, joints-by-location}
+use Rattle.queries.proofs.find.find_jump.Goals as goal
+
+pub loop-location-init : goal.loop-location-init
+loop-location-init c =
+    let a = c.args in
+    let components = components_from a.model.now a.index.now in
+    let m = model_from a.model.now a.index.now in
+    let region_at = regions_of a.model.now a.index.now a.second.now a.regions.now in
+    (omega arith, subst (λ (xs : List JointSwitch). Passing m region_at (joints components) xs 0 a.o 0 a.o) (sym (joints-by-location components a.locations c.requires.locations_value.0)) (passing-starts m region_at (joints components) 0 a.o))
+
+pub find_leaving-requires : goal.find_leaving-requires
+find_leaving-requires c =
+    let h = c.loop-location-test.true in record { good_paper = c.requires.good_paper; location_bound = (omega (arith, h, c.requires.locations_value.0), few-here _ _ _ c.args.locations _ h c.loop-location.invariant.1 (omega (arith, c.requires.locations_value.1))) }
+
+pub returns-in-AtLocation : goal.returns-in-AtLocation
+returns-in-AtLocation c =
+    in-location _ _ _ _ _ c.loop-location-test.true c.loop-location.invariant.1 c.find_leaving.ensures c.in-AtLocation.l c.in-AtLocation.g c.in-AtLocation.line c.in-AtLocation.is
+
+pub returns-in-AtJoint : goal.returns-in-AtJoint
+returns-in-AtJoint c =
+    in-joint _ _ _ _ _ c.loop-location-test.true c.loop-location.invariant.1 c.find_leaving.ensures c.in-AtJoint.j c.in-AtJoint.l c.in-AtJoint.e c.in-AtJoint.x c.in-AtJoint.line c.in-AtJoint.is
+
+pub overflow_add-location : goal.overflow_add-location
+overflow_add-location c = omega (arith, c.loop-location-test.true, c.ranges.locations)
+
+pub loop-location-smaller : goal.loop-location-smaller
+loop-location-smaller c = omega (arith, c.loop-location-test.true)
+
+pub loop-location-preserved : goal.loop-location-preserved
+loop-location-preserved c =
+    let h = c.loop-location-test.true in
+    (omega (arith, h), in_rest _ _ _ _ _ h c.loop-location.invariant.1 c.find_leaving.ensures c.in-Beyond.next c.in-Beyond.rest c.in-Beyond.is)
+
+pub returns : goal.returns
+returns c = in-none _ _ _ _ _ c.loop-location-test.false c.loop-location.invariant.1

@@ -1,0 +1,52 @@
+-- What is left of the location's joint switches begins with those of the event that the search stands at. Assumes nothing.
+use mathlib.Core.Path.{sym, subst}
+use mathlib.Core.List.{List}
+use Prim.Native.Nat.{◌-◌, ◌≤◌}
+use native.Mathlib.Omega.{arith}
+use borrow.Author.Rules.{rules}
+use Rattle.formats.specs.Joint.{JointSwitch, joints_of, join_all, count_up}
+use Rattle.models.specs.Index.{components_from, model_from}
+use Rattle.papers.specs.Paper.{regions_of}
+use Rattle.papers.proofs.JoinedLaws.{joined_on}
+use Rattle.papers.proofs.StandingLaws.{stands_at_lem}
+use Rattle.queries.specs.Finding.{Passing, leaving_from}
+use Rattle.queries.proofs.FindLaws.{passing-starts, few-here, in-location, in-joint, in_rest, in-none, events-whole}
+use Rattle.queries.proofs.find.find_leaving.Goals as goal
+
+pub modes_at-modes-requires : goal.modes_at-modes-requires
+modes_at-modes-requires c = record { good_index = c.requires.good_paper.good; location_bound = c.requires.location_bound.0 }
+
+pub loop-e-init : goal.loop-e-init
+loop-e-init c =
+    let a = c.args in
+    let m = model_from a.model.now a.index.now in
+    let region_at = regions_of a.model.now a.index.now a.second.now a.regions.now in
+    let all = leaving_from a.model.now a.index.now a.location in
+    (omega arith, subst (λ (xs : List JointSwitch). Passing m region_at all xs a.from.at a.from.left a.from.at a.from.left) (sym (events-whole (components_from a.model.now a.index.now) a.location)) (passing-starts m region_at all a.from.at a.from.left))
+
+pub find_event-requires : goal.find_event-requires
+find_event-requires c =
+    let modes = c.modes_at-modes in
+    let h = c.loop-e-test.true in record { good_paper = c.requires.good_paper; stands = (stands_at_lem c.args.model.now c.args.index.now c.args.location modes.result _ c.requires.good_paper.good c.requires.location_bound.0 modes.ensures, (omega (arith, h), few-here _ _ _ 16 _ h c.loop-e.invariant.1 c.requires.location_bound.1)) }
+
+pub returns-in-AtLocation : goal.returns-in-AtLocation
+returns-in-AtLocation c =
+    in-location _ _ _ 16 _ c.loop-e-test.true c.loop-e.invariant.1 c.find_event.ensures c.in-AtLocation.l c.in-AtLocation.g c.in-AtLocation.line c.in-AtLocation.is
+
+pub returns-in-AtJoint : goal.returns-in-AtJoint
+returns-in-AtJoint c =
+    in-joint _ _ _ 16 _ c.loop-e-test.true c.loop-e.invariant.1 c.find_event.ensures c.in-AtJoint.j c.in-AtJoint.l c.in-AtJoint.k c.in-AtJoint.x c.in-AtJoint.line c.in-AtJoint.is
+
+pub overflow_add-e : goal.overflow_add-e
+overflow_add-e c = omega (arith, c.loop-e-test.true)
+
+pub loop-e-smaller : goal.loop-e-smaller
+loop-e-smaller c = omega (arith, c.loop-e-test.true)
+
+pub loop-e-preserved : goal.loop-e-preserved
+loop-e-preserved c =
+    let h = c.loop-e-test.true in
+    (omega (arith, h), in_rest _ _ _ 16 _ h c.loop-e.invariant.1 c.find_event.ensures c.in-Beyond.next c.in-Beyond.rest c.in-Beyond.is)
+
+pub returns : goal.returns
+returns c = in-none _ _ _ 16 _ c.loop-e-test.false c.loop-e.invariant.1

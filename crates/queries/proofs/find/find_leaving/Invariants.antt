@@ -1,0 +1,21 @@
+use mathlib.Core.Path.{sym, subst}
+use mathlib.Core.List.{List}
+use Prim.Native.Nat.{◌-◌, ◌≤◌}
+use native.Mathlib.Omega.{arith}
+use borrow.Author.Rules.{rules}
+use Rattle.formats.specs.Joint.{JointSwitch, joints_of, join_all, count_up}
+use Rattle.models.specs.Index.{components_from, model_from}
+use Rattle.papers.specs.Paper.{regions_of}
+use Rattle.papers.proofs.JoinedLaws.{joined_on}
+use Rattle.papers.proofs.StandingLaws.{stands_at_lem}
+use Rattle.queries.specs.Finding.{Passing, leaving_from}
+use Rattle.queries.proofs.FindLaws.{passing-starts, few-here, in-location, in-joint, in_rest, in-none, events-whole}
+use Rattle.queries.proofs.find.find_leaving.Given as goal
+
+abbrev pub invariant-loop-e : goal.invariant-loop-e
+invariant-loop-e l =
+    (l.e ≤ 16)
+    × Passing (model_from l.model l.index) (regions_of l.model l.index l.second l.regions) (join_all (joints_of (components_from l.model l.index) l.location) (count_up 0 16)) (joined_on (joints_of (components_from l.model l.index) l.location) 16 l.e) l.initial.number l.initial.left l.number l.left
+
+abbrev pub decreases-loop-e : goal.decreases-loop-e
+decreases-loop-e l = 16 - l.e

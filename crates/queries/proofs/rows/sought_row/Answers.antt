@@ -1,0 +1,58 @@
+-- By cases on what was found. Assumes nothing.
+use mathlib.Core.Path.{◌≡◌, sym, ap, ◌∙◌, subst}
+use mathlib.Core.List.{List}
+use borrow.Author.Rules.{rules}
+use Prim.Native.Nat.{ℕ}
+use Rattle.formats.specs.Rows.{Condition}
+use Rattle.formats.specs.Model.{Model}
+use Rattle.formats.specs.Joint.{JointSwitch}
+use Rattle.models.specs.Index.{model_from}
+use Rattle.queries.specs.declared.Sought.{Sought}
+use Rattle.queries.specs.declared.Located.{Located}
+use Rattle.papers.specs.Paper.{regions_of}
+use Rattle.rules.specs.Roles.{Role, joint_roles, kind_roles, roles_of}
+use Rattle.queries.specs.Finding.{located_at, located_of, sought_one, group_hypotheses, group_one, joint_here, joint_hypotheses, joint_one, KnownSought}
+use Rattle.queries.proofs.HeldLaws.{group-roles}
+use Rattle.queries.proofs.rows.sought_row.Goals.{Start}
+use Rattle.queries.proofs.rows.sought_row.Goals as goal
+
+-- what is told of what was found, and what is known of it
+module _ (s : Start) where
+  abbrev m : Model
+  m = model_from s.args.model.now s.args.index.now
+
+  abbrev region_at : ℕ → Condition
+  region_at = regions_of s.args.model.now s.args.index.now s.args.second.now s.args.regions.now
+
+  abbrev tells : Sought → Located
+  tells x = located_of (roles_of m region_at) (sought_one s.args.model.now s.args.index.now region_at x) s.args.h
+
+  known : {x : Sought} → s.args.sought ≡ x → KnownSought s.args.model.now s.args.index.now x
+  known e = subst (KnownSought s.args.model.now s.args.index.now) e s.requires.known_sought
+
+pub location_row-requires : goal.location_row-requires
+unfolding KnownSought
+location_row-requires c = record { good_paper = c.requires.good_paper; location_bound = known (goal.at.location_row-requires c).Start c.in-AtLocation.is }
+
+pub joint_row-requires : goal.joint_row-requires
+unfolding KnownSought
+joint_row-requires c = record { good_paper = c.requires.good_paper; location_bound = (known (goal.at.joint_row-requires c).Start c.in-AtJoint.is).0 }
+
+pub returns-in-AtLocation : goal.returns-in-AtLocation
+unfolding located_of sought_one group_one roles_of
+returns-in-AtLocation c =
+    c.location_row.ensures
+    ∙ ap (λ (rs : List Role). located_at (group_hypotheses (m (goal.at.returns-in-AtLocation c).Start) (region_at (goal.at.returns-in-AtLocation c).Start) c.in-AtLocation.location c.in-AtLocation.g) rs c.args.h) (sym (group-roles (m (goal.at.returns-in-AtLocation c).Start) (region_at (goal.at.returns-in-AtLocation c).Start) c.in-AtLocation.location c.in-AtLocation.g c.in-AtLocation.field-2))
+    ∙ sym (ap (tells (goal.at.returns-in-AtLocation c).Start) c.in-AtLocation.is)
+
+pub returns-in-AtJoint : goal.returns-in-AtJoint
+unfolding located_of sought_one joint_one roles_of kind_roles model_from KnownSought
+returns-in-AtJoint c =
+    let here = joint_here c.args.model.now c.args.index.now c.in-AtJoint.source c.in-AtJoint.e c.in-AtJoint.x in
+    c.joint_row.ensures
+    ∙ ap (λ (j : JointSwitch). located_at (joint_hypotheses (m (goal.at.returns-in-AtJoint c).Start) (region_at (goal.at.returns-in-AtJoint c).Start) here) (joint_roles (m (goal.at.returns-in-AtJoint c).Start) (region_at (goal.at.returns-in-AtJoint c).Start) j) c.args.h) (sym (known (goal.at.returns-in-AtJoint c).Start c.in-AtJoint.is).1)
+    ∙ sym (ap (tells (goal.at.returns-in-AtJoint c).Start) c.in-AtJoint.is)
+
+pub returns-in-Beyond : goal.returns-in-Beyond
+unfolding located_of sought_one
+returns-in-Beyond c = c.refused_row.ensures ∙ sym (ap (tells (goal.at.returns-in-Beyond c).Start) c.in-Beyond.is)

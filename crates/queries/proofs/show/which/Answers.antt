@@ -1,0 +1,24 @@
+-- A refusal as it is, else the obligation that was found. Assumes nothing.
+use borrow.Author.Rules.{rules}
+use Rattle.queries.specs.Finding.{OpenFor, which_refused}
+use Rattle.queries.proofs.ShowLaws.{is_open, which-found, which-stopped}
+use Rattle.queries.proofs.show.which.Goals.{In-Open}
+use Rattle.queries.proofs.show.which.Goals as goal
+
+-- both sheets, once they are open
+opened : (c : In-Open) → OpenFor c.args.limits c.args.model.now c.open_regions.new.index c.args.second.now c.open_regions.new.regions
+opened c = is_open _ _ _ _ _ 0 0 c.in-Open.is c.open_regions.ensures
+
+pub find-sought-requires : goal.find-sought-requires
+find-sought-requires c = let w = opened (goal.at.find-sought-requires c).In-Open in record { good_paper = w.good; index_len_bound = w.joined }
+
+pub sought_which-requires : goal.sought_which-requires
+sought_which-requires c = (opened (goal.at.sought_which-requires c).In-Open).good
+
+pub returns-in-Refused : goal.returns-in-Refused
+unfolding which_refused
+returns-in-Refused c =
+    which-stopped _ _ _ _ _ _ 0 c.in-Refused.number c.in-Refused.sheet c.in-Refused.place c.in-Refused.is c.open_regions.ensures
+
+pub returns-in-Open : goal.returns-in-Open
+returns-in-Open c = which-found _ _ _ _ _ _ 0 _ (opened (goal.at.returns-in-Open c).In-Open) c.find-sought.ensures.result_value c.sought_which.ensures
