@@ -19,8 +19,8 @@ use Rattle.certificates.proofs.joint_marks.mark_leaving.Given as goal
 
 abbrev pub invariant-loop-e : goal.invariant-loop-e
 invariant-loop-e l =
-    let at : Leaving = record { l.location = l.location; l.modes = l.modes; l.here = l.here; l.marking = l.marking } in
-    let events : ℕ → List Task = (λ l.e. joint_tasks_for (l.model) (l.index) (l.second) (l.regions) (joints_of (components_from (l.model) (l.index)) (l.location) l.e)) in
+    let at : Leaving = record { location = l.location; modes = l.modes; here = l.here; marking = l.marking } in
+    let events : ℕ → List Task = (λ e. joint_tasks_for l.model l.index l.second l.regions (joints_of (components_from l.model l.index) l.location e)) in
     (l.e ≤ 16)
     × (Ready l.model l.index l.second l.regions at l.table l.sums
     × ((length l.table ≡ length l.initial.table)

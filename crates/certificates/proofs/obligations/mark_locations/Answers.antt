@@ -112,7 +112,7 @@ module _ (c : After-mark_group-marked) where
   marked : c.mark_group-marked.result ≡ stands_at (mark_tasks (one (goal.at.After-mark_group-marked c).At-loop-goal ∷ []) c.args.second.now c.loop-goal.place c.loop-goal.done)
   unfolding entry
   marked =
-      let table = c.group_at-group.last.1.1.1.1.1.1.1.0 in
+      let table = c.group_at-group.new.table in
       let tasks : Group → List Task = λ g. tasks_of c.args.model.now c.args.second.now (entry c.args.index.now 0) table g in
       c.mark_group-marked.ensures.value
       ∙ ap (λ (g : Group). stands_at (mark_tasks (tasks g) c.args.second.now c.loop-goal.place c.loop-goal.done)) c.one_of.ensures
@@ -123,7 +123,7 @@ module _ (c : After-mark_group-marked) where
 
   come : Comes c.args.second.now (mark_tasks (locations_left c.args.model.now c.args.index.now c.args.second.now c.args.regions.now c.args.locations 0) c.args.second.now c.args.at 0) ((one (goal.at.After-mark_group-marked c).At-loop-goal ∷ []) ++ (drop (c.loop-goal.goal + 1) (part (goal.at.After-mark_group-marked c).At-loop-goal) ++ rest)) c.loop-goal.place c.loop-goal.done
   unfolding entry
-  come = goal-first _ _ (part (goal.at.After-mark_group-marked c).At-loop-goal) rest c.loop-goal.goal (short (goal.at.After-mark_group-marked c).In-loop-goal) _ _ c.loop-goal.inv.1.1.1
+  come = goal-first _ _ (part (goal.at.After-mark_group-marked c).At-loop-goal) rest c.loop-goal.goal (short (goal.at.After-mark_group-marked c).In-loop-goal) _ _ c.loop-goal.invariant.1.1.1
 
 pub loop-goal-preserved : goal.loop-goal-preserved
 unfolding entry

@@ -23,7 +23,7 @@ use Rattle.certificates.proofs.obligations.mark_locations.Given as goal
 
 abbrev pub invariant-loop-goal : goal.invariant-loop-goal
 invariant-loop-goal l =
-    Underway l.second (record { l.number = l.number; l.place = l.place; l.done = l.done })
+    Underway l.second (record { number = l.number; place = l.place; done = l.done })
     × ((l.goal ≤ l.goals)
     × (Fresh l.sums
     × Comes l.second (mark_tasks (locations_left l.model l.index l.second l.regions l.locations 0) l.second l.at 0) (drop l.goal (tasks_of l.model l.second (entry l.index 0) l.table l.group) ++ (groups_left l.model l.index l.second l.regions l.location l.groups (l.g + 1) ++ locations_left l.model l.index l.second l.regions l.locations (l.location + 1))) l.place l.done))
@@ -33,7 +33,7 @@ decreases-loop-goal l = l.goals - l.goal
 
 abbrev pub invariant-loop-g : goal.invariant-loop-g
 invariant-loop-g l =
-    Underway l.second (record { l.number = l.number; l.place = l.place; l.done = l.done })
+    Underway l.second (record { number = l.number; place = l.place; done = l.done })
     × ((l.g ≤ l.groups)
     × (Fresh l.sums
     × ((length l.table ≡ length l.initial.table)
@@ -45,7 +45,7 @@ decreases-loop-g l = l.groups - l.g
 
 abbrev pub invariant-marking : goal.invariant-marking
 invariant-marking l =
-    Underway l.second (record { l.number = l.number; l.place = l.place; l.done = l.done })
+    Underway l.second (record { number = l.number; place = l.place; done = l.done })
     × ((l.location ≤ l.locations)
     × (Fresh l.sums
     × ((length l.table ≡ length l.initial.table)

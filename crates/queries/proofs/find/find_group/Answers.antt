@@ -61,4 +61,4 @@ loop-at-preserved c =
 
 pub returns : goal.returns
 unfolding entry
-returns c = let both = absurd (inside-end _ _ _ _ c.loop-at-test.false c.loop-at.invariant.1.1) in record { leads_to_group = both.0; at_bound = both.1 }
+returns c = absurd (inside-end _ _ _ _ c.loop-at-test.false c.loop-at.invariant.1.1)

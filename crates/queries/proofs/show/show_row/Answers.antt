@@ -13,6 +13,13 @@ use Rattle.queries.proofs.show.show_row.Goals as goal
 found : (c : After-find_row-located) → c.find_row-located.result.row ≡ row_found (find_hypothesis (stated c.args.locations c.args.joints) c.args.model.now c.args.second.now c.args.o c.args.h)
 found c = row-located _ _ _ _ _ c.find_row-located.ensures.value
 
+pub slice_bounds-result-end : goal.slice_bounds-result-end
+slice_bounds-result-end c = inside-model _ _ _ _ _ (found (goal.at.slice_bounds-result-end c).After-find_row-located) c.find_row-located.ensures.row_inside [] _ _ c.in-InModel.is
+
+pub slice_bounds-result-end-in-InSecond : goal.slice_bounds-result-end-in-InSecond
+slice_bounds-result-end-in-InSecond c =
+    inside-second _ _ _ _ _ (found (goal.at.slice_bounds-result-end-in-InSecond c).After-find_row-located) c.find_row-located.ensures.row_inside [] _ _ c.in-InSecond.is
+
 pub returns-in-InModel : goal.returns-in-InModel
 returns-in-InModel c = let both = shown-in-model _ _ _ _ _ (found (goal.at.returns-in-InModel c).After-find_row-located) c.find_row-located.ensures.row_inside _ _ _ c.in-InModel.is (part-size _ c.in-InModel.place c.in-InModel.size) in record { result_value = both.0; part_is = both.1 }
 
