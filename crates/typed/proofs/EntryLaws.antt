@@ -11,7 +11,7 @@ use mir.Syntax.{w32, w64}
 use mir.Val.{SFits, to_z, of_z}
 use mir.Facts.{to_z-of_z}
 use borrow.Author.Tests.{ltb-true, ltb-false, le-leb, lt-leb, leb-true}
-use Rattle.farkas.proofs.Bits.{fits, read_back}
+use Rattle.farkas.proofs.Bits.{read_back}
 use Rattle.typed.specs.declared.forms.Entry.TheVariants.{Fits, Outside}
 use Rattle.typed.specs.Forms.{s32, entry_of}
 
@@ -22,9 +22,6 @@ small (negsuc n) f = let h : n < 2 ^ 31 = f.sfits in omega arith
 -- a number of 32 bits, read as one of 64
 pub widened : (z : ℤ) → SFits w32 z → to_z w64 (of_z w64 (to_z w32 (of_z w32 z))) ≡ z
 widened z f = ap (λ u. to_z w64 (of_z w64 u)) (to_z-of_z f) ∙ read_back z (omega (arith, small z f))
-
-pub widens : (z : ℤ) → SFits w32 z → SFits w64 (to_z w32 (of_z w32 z))
-widens z f = rw (to_z-of_z f) (fits z (omega (arith, small z f)))
 
 pub room : (x m y : ℤ) → SFits w32 x → SFits w32 m → SFits w32 y → nat_abs x + nat_abs m * nat_abs y < 2 ^ 63
 room x m y f g h = omega (arith, small x f, mul-le-mul (small m g) (small y h))

@@ -37,7 +37,7 @@ module _ (end : ℕ) where
       → Follows (rest_of end left.reached) (start_of end left.reached) end (λ k. rest k left) r
       → Follows steps (at + 1) end whole r
   operand at s steps first rest whole {left} {r} is l m f g = record {
-    same = λ k. elim k [ zero ↦ λ h. absurd (omega arith) | suc j ↦ λ h. g.same j (omega (arith, rest_below left (at + 1) f.place)) ∙ ap (rest j) (f.same j (omega arith)) ∙ sym (is j) ];
+    same = λ k. elim k as (λ k. steps < k → r ≡ whole k) [ zero ↦ λ h. absurd (omega arith) | suc j ↦ λ h. g.same j (omega (arith, rest_below left (at + 1) f.place)) ∙ ap (rest j) (f.same j (omega arith)) ∙ sym (is j) ];
     place = λ q e. let b = g.place q e in (start-least left (at + 1) q f.place b.0 b.1, b.1);
   }
 
@@ -64,7 +64,7 @@ module _ (end : ℕ) where
   operator q place s first join rest whole {right} {both} {r} is ends l m n f e g =
       let lies : (p : ℕ) → both.reached ≡ At p → (place + 1 + 1 ≤ p) × (p ≤ end) = λ p h. f.place p (ends right p (ap (λ w. w.reached) (sym e) ∙ h)) in
       record {
-        same = λ k. elim k [ zero ↦ λ h. absurd (omega arith) | suc j ↦ λ h. g.same j (omega (arith, rest_below both (place + 1 + 1) lies)) ∙ ap (rest j) (e ∙ ap join (f.same j (omega arith))) ∙ sym (is j) ];
+        same = λ k. elim k as (λ k. 3 * (end - q) + 1 < k → r ≡ whole k) [ zero ↦ λ h. absurd (omega arith) | suc j ↦ λ h. g.same j (omega (arith, rest_below both (place + 1 + 1) lies)) ∙ ap (rest j) (e ∙ ap join (f.same j (omega arith))) ∙ sym (is j) ];
         place = λ p h. let b = g.place p h in (omega (arith, start-least both (place + 1 + 1) p lies b.0 b.1), b.1);
       }
 
@@ -72,7 +72,7 @@ module _ (end : ℕ) where
   pub ends : (u : Reached) (whole : ℕ → Worked) {r : Worked} → r.reached ≡ u → ((q : ℕ) → r.reached ≡ At q → q ≤ end) → ((j : ℕ) → whole (suc j) ≡ r) → Follows (rest_of end u) (start_of end u) end whole r
   unfolding rest_of start_of
   ends u whole {r} e h is = record {
-    same = λ k. elim k [ zero ↦ λ g. absurd (omega arith) | suc j ↦ λ g. sym (is j) ];
+    same = λ k. elim k as (λ k. rest_of end u < k → r ≡ whole k) [ zero ↦ λ g. absurd (omega arith) | suc j ↦ λ g. sym (is j) ];
     place = λ q f. (subst (λ v. start_of end v ≤ q) (sym f ∙ e) (omega arith), h q f);
   }
 
@@ -83,6 +83,6 @@ module _ (end : ℕ) where
       → ((q : ℕ) → r.reached ≡ At q → (at + 1 ≤ q) × (q ≤ end))
       → Follows (3 * (end - at) + 1) (at + 1) end whole r
   factor at whole {r} is h = record {
-    same = λ k. elim k [ zero ↦ λ g. absurd (omega arith) | suc j ↦ λ g. sym (is j (omega arith)) ];
+    same = λ k. elim k as (λ k. 3 * (end - at) + 1 < k → r ≡ whole k) [ zero ↦ λ g. absurd (omega arith) | suc j ↦ λ g. sym (is j (omega arith)) ];
     place = h;
   }

@@ -2,15 +2,12 @@
 use mathlib.Core.Path.{◌≡◌, sym, ap, ◌∙◌}
 use mathlib.Core.Logic.{⊎_elim}
 use mathlib.Core.Bool.{true, false, cond}
-use mathlib.Core.List.{List, [], ◌∷◌}
+use mathlib.Core.List.{List}
 use Prim.Native.Nat.{ℕ, ◌+◌, ◌^◌, ◌≤◌, ◌<◌}
 use native.Mathlib.Omega.{arith}
 use lib.IntN.{pos}
 use lib.ListN.{drop}
-use types.Run.{OneOf}
-use denote.Enum.Declared.{tag_of}
 use borrow.Author.Tests.{lt-ltb, le-ltb}
-use Rattle.typed.specs.contracts.signs.Sign.{the_type}
 use Rattle.typed.specs.declared.signs.Sign.{Sign}
 use Rattle.typed.specs.declared.signs.Sign.TheVariants.{Close}
 use Rattle.typed.specs.declared.forms.Form.{Form}
@@ -89,5 +86,5 @@ module _ (text : List ℕ) (w : Worked) (q place : ℕ) (s : Sign) (e : w.reache
   unfolding by_close
   bracket-closed h = close-turn ∙ ap (λ x. by_close x (reaches (place + 1) w.form) (refused place)) h
 
-  pub bracket-open : OneOf (0 ∷ 1 ∷ 2 ∷ 3 ∷ 5 ∷ 6 ∷ 7 ∷ 8 ∷ 9 ∷ 10 ∷ []) (tag_of the_type s) → closed_at text w ≡ refused place
+  pub bracket-open : (s ≡ Close → ⊥) → closed_at text w ≡ refused place
   bracket-open h = close-turn ∙ no-close s _ (refused place) h

@@ -1,5 +1,4 @@
 pub mod SignLaws
-pub mod ArmLaws
 pub mod ScanLaws
 pub mod AcceptLaws
 pub mod ParseLaws

@@ -1,6 +1,6 @@
 -- Where what was worked out ends: after an operator where its right operand ends, after a sign one further. Assumes nothing.
 use mathlib.Core.Path.{◌≡◌, refl, sym, ap, ◌∙◌, subst}
-use mathlib.Core.Logic.{⊎_elim}
+use mathlib.Core.Logic.{◌⊎◌, inl, inr, ⊎_elim}
 use mathlib.Core.Bool.{Bool, true, false, cond, ◌&&◌}
 use mathlib.Core.List.{List, [], ◌∷◌}
 use Prim.Native.Nat.{ℕ, suc, ◌+◌, ◌^◌, ◌≤◌, ◌<◌}
@@ -9,9 +9,6 @@ use lib.Dec.{T, ltb}
 use lib.IntN.{ℤ}
 use lib.ListN.{length, drop, length-drop}
 use Rattle.farkas.specs.Lists.{every}
-use types.Run.{OneOf, miss}
-use denote.Enum.Declared.{tag_of}
-use Rattle.typed.specs.contracts.signs.Sign.{the_type}
 use Rattle.typed.specs.declared.signs.Sign.{Sign}
 use Rattle.typed.specs.declared.signs.Sign.TheVariants.{Blank, Digit, Letter, Open, Close, Plus, Minus, Times, Less, Equal, Other}
 use Rattle.typed.specs.declared.forms.Form.{Form}
@@ -47,19 +44,10 @@ stands Equal = true
 stands Other = false
 
 -- a plus or a minus does
-pub sum-stands : (s : Sign) → OneOf (5 ∷ 6 ∷ []) (tag_of the_type s) → T (stands s)
+pub sum-stands : (s : Sign) → ((s ≡ Plus) ⊎ (s ≡ Minus)) → T (stands s)
 unfolding stands
-sum-stands Blank h = tt
-sum-stands (Digit d) h = tt
-sum-stands (Letter v) h = tt
-sum-stands Open h = tt
-sum-stands Close h = tt
-sum-stands Plus h = tt
-sum-stands Minus h = tt
-sum-stands Times h = tt
-sum-stands Less h = tt
-sum-stands Equal h = tt
-sum-stands Other h = absurd (miss (5 ∷ 6 ∷ []) 10 tt h)
+sum-stands s (inl e) = subst (λ z. T (stands z)) (sym e) tt
+sum-stands s (inr e) = subst (λ z. T (stands z)) (sym e) tt
 
 pub inside : (text : List ℕ) (p : ℕ) (x : Sign) → sign_at text p ≡ x → T (stands x) → p < length text
 unfolding stands

@@ -6,11 +6,8 @@ use mathlib.Core.List.{List, [], ◌∷◌}
 use Prim.Native.Nat.{ℕ, zero, suc, ◌+◌, ◌*◌, ◌^◌, ◌≤◌, ◌<◌}
 use native.Mathlib.Omega.{arith}
 use lib.ListN.{length, drop, drop_of_length-le}
-use types.Run.{OneOf, miss}
-use denote.Enum.Declared.{tag_of}
 use borrow.Author.Tests.{lt-ltb, le-ltb}
 use Rattle.farkas.proofs.Order.{compare}
-use Rattle.typed.specs.contracts.signs.Sign.{the_type}
 use Rattle.typed.specs.declared.signs.Sign.{Sign}
 use Rattle.typed.specs.declared.signs.Sign.TheVariants.{Blank, Digit, Letter, Open, Close, Plus, Minus, Times, Less, Equal, Other}
 use Rattle.typed.specs.declared.reading.Digits.{Digits}
@@ -19,9 +16,9 @@ use Rattle.typed.specs.Working.{lead_by, lead, skip, on_digit, digit_count, deci
 use Rattle.typed.proofs.SignLaws.{signs-from}
 
 -- the arm of a match that names no blank, or no digit
-not-blank : (s : Sign) (n : ℕ) → OneOf (1 ∷ 2 ∷ 3 ∷ 4 ∷ 5 ∷ 6 ∷ 7 ∷ 8 ∷ 9 ∷ 10 ∷ []) (tag_of the_type s) → lead_by s n ≡ zero
+not-blank : (s : Sign) (n : ℕ) → (s ≡ Blank → ⊥) → lead_by s n ≡ zero
 unfolding lead_by
-not-blank Blank n h = absurd (miss (1 ∷ 2 ∷ 3 ∷ 4 ∷ 5 ∷ 6 ∷ 7 ∷ 8 ∷ 9 ∷ 10 ∷ []) 0 tt h)
+not-blank Blank n h = absurd (h refl)
 not-blank (Digit d) n h = refl
 not-blank (Letter v) n h = refl
 not-blank Open n h = refl
@@ -33,10 +30,10 @@ not-blank Less n h = refl
 not-blank Equal n h = refl
 not-blank Other n h = refl
 
-not_digit_lem : {A : Type 0} (s : Sign) (f : ℕ → A) (x : A) → OneOf (0 ∷ 2 ∷ 3 ∷ 4 ∷ 5 ∷ 6 ∷ 7 ∷ 8 ∷ 9 ∷ 10 ∷ []) (tag_of the_type s) → on_digit s f x ≡ x
+not_digit_lem : {A : Type 0} (s : Sign) (f : ℕ → A) (x : A) → ((d : ℕ) → s ≡ Digit d → ⊥) → on_digit s f x ≡ x
 unfolding on_digit
 not_digit_lem Blank f x h = refl
-not_digit_lem (Digit d) f x h = absurd (miss (0 ∷ 2 ∷ 3 ∷ 4 ∷ 5 ∷ 6 ∷ 7 ∷ 8 ∷ 9 ∷ 10 ∷ []) 1 tt h)
+not_digit_lem (Digit d) f x h = absurd (h d refl)
 not_digit_lem (Letter v) f x h = refl
 not_digit_lem Open f x h = refl
 not_digit_lem Close f x h = refl
@@ -53,7 +50,7 @@ module _ (text : List ℕ) (p : ℕ) where
   unfolding skip lead lead_by
   skip-more s e h f = ap (λ xs. p + lead xs) (signs-from text p h) ∙ ap (λ x. p + lead_by x (lead (signs (drop (p + 1) text)))) (sym e ∙ f) ∙ omega arith
 
-  pub skip_stop : (s : Sign) → s ≡ sign_at text p → p < length text → OneOf (1 ∷ 2 ∷ 3 ∷ 4 ∷ 5 ∷ 6 ∷ 7 ∷ 8 ∷ 9 ∷ 10 ∷ []) (tag_of the_type s) → skip text p ≡ p
+  pub skip_stop : (s : Sign) → s ≡ sign_at text p → p < length text → (s ≡ Blank → ⊥) → skip text p ≡ p
   unfolding skip lead
   skip_stop s e h k = ap (λ xs. p + lead xs) (signs-from text p h) ∙ ap (λ x. p + lead_by x (lead (signs (drop (p + 1) text)))) (sym e) ∙ ap (λ n. p + n) (not-blank s (lead (signs (drop (p + 1) text))) k) ∙ omega arith
 
@@ -126,7 +123,7 @@ module _ (text : List ℕ) (v p : ℕ) where
       digits_from (Digit d ∷ xs) (signs-from text p h ∙ ap (λ x. x ∷ xs) (sym e ∙ f))
       ∙ λ k. record { value = (capped-decimal xs (10 * v + d) ∙ ap (λ n. capped (decimal n xs)) (sym g)) k; next = z k }
 
-  pub digits-stop : (s : Sign) → s ≡ sign_at text p → p < length text → OneOf (0 ∷ 2 ∷ 3 ∷ 4 ∷ 5 ∷ 6 ∷ 7 ∷ 8 ∷ 9 ∷ 10 ∷ []) (tag_of the_type s) → v ≤ 2 ^ 31 → digits_on text v p ≡ record { value = v; next = p }
+  pub digits-stop : (s : Sign) → s ≡ sign_at text p → p < length text → ((d : ℕ) → s ≡ Digit d → ⊥) → v ≤ 2 ^ 31 → digits_on text v p ≡ record { value = v; next = p }
   unfolding decimal digit_count
   digits-stop s e h k b =
       let xs = signs (drop (p + 1) text) in

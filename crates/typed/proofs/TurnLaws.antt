@@ -1,11 +1,9 @@
 -- One turn of each reader, by the sign that it finds. Assumes nothing.
 use mathlib.Core.Path.{◌≡◌, refl, sym, ap, ◌∙◌}
-use mathlib.Core.List.{List, [], ◌∷◌}
+use mathlib.Core.Logic.{◌⊎◌, inl, inr}
+use mathlib.Core.List.{List}
 use Prim.Native.Nat.{ℕ, suc, ◌+◌}
 use lib.IntN.{pos, negsuc}
-use types.Run.{OneOf, miss}
-use denote.Enum.Declared.{tag_of}
-use Rattle.typed.specs.contracts.signs.Sign.{the_type}
 use Rattle.typed.specs.declared.signs.Sign.{Sign}
 use Rattle.typed.specs.declared.signs.Sign.TheVariants.{Blank, Digit, Letter, Open, Close, Plus, Minus, Times, Less, Equal, Other}
 use Rattle.typed.specs.declared.forms.Form.{Form}
@@ -16,52 +14,28 @@ use Rattle.typed.specs.Turns.{by_sum, sense_of, by_product, by_close, by_factor}
 use Rattle.typed.specs.Forms.{refused, onwards, next, joined, multiplied, variable_at, zero_form}
 use Rattle.typed.specs.Working.{skip, whole_at, closed_at, expression_at, sums_at, term_at, products_at, factor_at}
 
--- a plus or a minus, and neither
-pub is_sum : {A : Type 0} (s : Sign) (x y : A) → OneOf (5 ∷ 6 ∷ []) (tag_of the_type s) → by_sum s x y ≡ x
+-- what a match that names some signs says of the sign: a plus or a minus, and neither
+pub is_sum : {A : Type 0} (s : Sign) (x y : A) → ((s ≡ Plus) ⊎ (s ≡ Minus)) → by_sum s x y ≡ x
 unfolding by_sum
-is_sum Blank x y h = absurd (miss (5 ∷ 6 ∷ []) 0 tt h)
-is_sum (Digit d) x y h = absurd (miss (5 ∷ 6 ∷ []) 1 tt h)
-is_sum (Letter v) x y h = absurd (miss (5 ∷ 6 ∷ []) 2 tt h)
-is_sum Open x y h = absurd (miss (5 ∷ 6 ∷ []) 3 tt h)
-is_sum Close x y h = absurd (miss (5 ∷ 6 ∷ []) 4 tt h)
-is_sum Plus x y h = refl
-is_sum Minus x y h = refl
-is_sum Times x y h = absurd (miss (5 ∷ 6 ∷ []) 7 tt h)
-is_sum Less x y h = absurd (miss (5 ∷ 6 ∷ []) 8 tt h)
-is_sum Equal x y h = absurd (miss (5 ∷ 6 ∷ []) 9 tt h)
-is_sum Other x y h = absurd (miss (5 ∷ 6 ∷ []) 10 tt h)
+is_sum s x y (inl e) = ap (λ z. by_sum z x y) e
+is_sum s x y (inr e) = ap (λ z. by_sum z x y) e
 
-pub no-sum : {A : Type 0} (s : Sign) (x y : A) → OneOf (0 ∷ 1 ∷ 2 ∷ 3 ∷ 4 ∷ 7 ∷ 8 ∷ 9 ∷ 10 ∷ []) (tag_of the_type s) → by_sum s x y ≡ y
+pub no-sum : {A : Type 0} (s : Sign) (x y : A) → (s ≡ Plus → ⊥) → (s ≡ Minus → ⊥) → by_sum s x y ≡ y
 unfolding by_sum
-no-sum Blank x y h = refl
-no-sum (Digit d) x y h = refl
-no-sum (Letter v) x y h = refl
-no-sum Open x y h = refl
-no-sum Close x y h = refl
-no-sum Plus x y h = absurd (miss (0 ∷ 1 ∷ 2 ∷ 3 ∷ 4 ∷ 7 ∷ 8 ∷ 9 ∷ 10 ∷ []) 5 tt h)
-no-sum Minus x y h = absurd (miss (0 ∷ 1 ∷ 2 ∷ 3 ∷ 4 ∷ 7 ∷ 8 ∷ 9 ∷ 10 ∷ []) 6 tt h)
-no-sum Times x y h = refl
-no-sum Less x y h = refl
-no-sum Equal x y h = refl
-no-sum Other x y h = refl
-
--- no minus
-pub no_minus : (s : Sign) → OneOf (0 ∷ 1 ∷ 2 ∷ 3 ∷ 4 ∷ 5 ∷ 7 ∷ 8 ∷ 9 ∷ 10 ∷ []) (tag_of the_type s) → pos 1 ≡ sense_of s
-unfolding sense_of
-no_minus Blank h = refl
-no_minus (Digit d) h = refl
-no_minus (Letter v) h = refl
-no_minus Open h = refl
-no_minus Close h = refl
-no_minus Plus h = refl
-no_minus Minus h = absurd (miss (0 ∷ 1 ∷ 2 ∷ 3 ∷ 4 ∷ 5 ∷ 7 ∷ 8 ∷ 9 ∷ 10 ∷ []) 6 tt h)
-no_minus Times h = refl
-no_minus Less h = refl
-no_minus Equal h = refl
-no_minus Other h = refl
+no-sum Blank x y h k = refl
+no-sum (Digit d) x y h k = refl
+no-sum (Letter v) x y h k = refl
+no-sum Open x y h k = refl
+no-sum Close x y h k = refl
+no-sum Plus x y h k = absurd (h refl)
+no-sum Minus x y h k = absurd (k refl)
+no-sum Times x y h k = refl
+no-sum Less x y h k = refl
+no-sum Equal x y h k = refl
+no-sum Other x y h k = refl
 
 -- no times
-pub no-product : {A : Type 0} (s : Sign) (x y : A) → OneOf (0 ∷ 1 ∷ 2 ∷ 3 ∷ 4 ∷ 5 ∷ 6 ∷ 8 ∷ 9 ∷ 10 ∷ []) (tag_of the_type s) → by_product s x y ≡ y
+pub no-product : {A : Type 0} (s : Sign) (x y : A) → (s ≡ Times → ⊥) → by_product s x y ≡ y
 unfolding by_product
 no-product Blank x y h = refl
 no-product (Digit d) x y h = refl
@@ -70,19 +44,19 @@ no-product Open x y h = refl
 no-product Close x y h = refl
 no-product Plus x y h = refl
 no-product Minus x y h = refl
-no-product Times x y h = absurd (miss (0 ∷ 1 ∷ 2 ∷ 3 ∷ 4 ∷ 5 ∷ 6 ∷ 8 ∷ 9 ∷ 10 ∷ []) 7 tt h)
+no-product Times x y h = absurd (h refl)
 no-product Less x y h = refl
 no-product Equal x y h = refl
 no-product Other x y h = refl
 
 -- no closing bracket
-pub no-close : {A : Type 0} (s : Sign) (x y : A) → OneOf (0 ∷ 1 ∷ 2 ∷ 3 ∷ 5 ∷ 6 ∷ 7 ∷ 8 ∷ 9 ∷ 10 ∷ []) (tag_of the_type s) → by_close s x y ≡ y
+pub no-close : {A : Type 0} (s : Sign) (x y : A) → (s ≡ Close → ⊥) → by_close s x y ≡ y
 unfolding by_close
 no-close Blank x y h = refl
 no-close (Digit d) x y h = refl
 no-close (Letter v) x y h = refl
 no-close Open x y h = refl
-no-close Close x y h = absurd (miss (0 ∷ 1 ∷ 2 ∷ 3 ∷ 5 ∷ 6 ∷ 7 ∷ 8 ∷ 9 ∷ 10 ∷ []) 4 tt h)
+no-close Close x y h = absurd (h refl)
 no-close Plus x y h = refl
 no-close Minus x y h = refl
 no-close Times x y h = refl
@@ -91,19 +65,19 @@ no-close Equal x y h = refl
 no-close Other x y h = refl
 
 -- no factor begins so
-pub no-factor : {A : Type 0} (s : Sign) (x : A) (f : ℕ → A) (y z w : A) → OneOf (0 ∷ 4 ∷ 5 ∷ 7 ∷ 8 ∷ 9 ∷ 10 ∷ []) (tag_of the_type s) → by_factor s x f y z w ≡ w
+pub no-factor : {A : Type 0} (s : Sign) (x : A) (f : ℕ → A) (y z w : A) → ((d : ℕ) → s ≡ Digit d → ⊥) → ((v : ℕ) → s ≡ Letter v → ⊥) → (s ≡ Open → ⊥) → (s ≡ Minus → ⊥) → by_factor s x f y z w ≡ w
 unfolding by_factor
-no-factor Blank x f y z w h = refl
-no-factor (Digit d) x f y z w h = absurd (miss (0 ∷ 4 ∷ 5 ∷ 7 ∷ 8 ∷ 9 ∷ 10 ∷ []) 1 tt h)
-no-factor (Letter v) x f y z w h = absurd (miss (0 ∷ 4 ∷ 5 ∷ 7 ∷ 8 ∷ 9 ∷ 10 ∷ []) 2 tt h)
-no-factor Open x f y z w h = absurd (miss (0 ∷ 4 ∷ 5 ∷ 7 ∷ 8 ∷ 9 ∷ 10 ∷ []) 3 tt h)
-no-factor Close x f y z w h = refl
-no-factor Plus x f y z w h = refl
-no-factor Minus x f y z w h = absurd (miss (0 ∷ 4 ∷ 5 ∷ 7 ∷ 8 ∷ 9 ∷ 10 ∷ []) 6 tt h)
-no-factor Times x f y z w h = refl
-no-factor Less x f y z w h = refl
-no-factor Equal x f y z w h = refl
-no-factor Other x f y z w h = refl
+no-factor Blank x f y z w h k l m = refl
+no-factor (Digit d) x f y z w h k l m = absurd (h d refl)
+no-factor (Letter v) x f y z w h k l m = absurd (k v refl)
+no-factor Open x f y z w h k l m = absurd (l refl)
+no-factor Close x f y z w h k l m = refl
+no-factor Plus x f y z w h k l m = refl
+no-factor Minus x f y z w h k l m = absurd (m refl)
+no-factor Times x f y z w h k l m = refl
+no-factor Less x f y z w h k l m = refl
+no-factor Equal x f y z w h k l m = refl
+no-factor Other x f y z w h k l m = refl
 
 -- what is worked out next, by what was reached
 pub next-at : (w : Worked) (f : ℕ → Form → Worked) (q : ℕ) → w.reached ≡ At q → next w f ≡ f q w.form
@@ -124,7 +98,7 @@ module _ (n : ℕ) (text : List ℕ) (w : Worked) (j : ℕ) where
         ∙ ap (λ p. by_sum (sign_at text p) (sums_at j n text (joined p w.form (sense_of (sign_at text p)) (term_at j n text (p + 1)))) w) (sym f)
         ∙ ap (λ x. by_sum x (sums_at j n text (joined place w.form (sense_of x) (term_at j n text (place + 1)))) w) (sym g)
 
-    pub sum_goes : OneOf (5 ∷ 6 ∷ []) (tag_of the_type s) → sums_at (suc j) n text w ≡ sums_at j n text (joined place w.form (sense_of s) (term_at j n text (place + 1)))
+    pub sum_goes : ((s ≡ Plus) ⊎ (s ≡ Minus)) → sums_at (suc j) n text w ≡ sums_at j n text (joined place w.form (sense_of s) (term_at j n text (place + 1)))
     sum_goes h = sum-turn ∙ is_sum s _ w h
 
     pub sum-plus : s ≡ Plus → sums_at (suc j) n text w ≡ sums_at j n text (joined place w.form (pos 1) (term_at j n text (place + 1)))
@@ -135,8 +109,8 @@ module _ (n : ℕ) (text : List ℕ) (w : Worked) (j : ℕ) where
     unfolding by_sum sense_of
     sum-minus h = sum-turn ∙ ap (λ x. by_sum x (sums_at j n text (joined place w.form (sense_of x) (term_at j n text (place + 1)))) w) h
 
-    pub sum-ends : OneOf (0 ∷ 1 ∷ 2 ∷ 3 ∷ 4 ∷ 7 ∷ 8 ∷ 9 ∷ 10 ∷ []) (tag_of the_type s) → sums_at (suc j) n text w ≡ w
-    sum-ends h = sum-turn ∙ no-sum s _ w h
+    pub sum-ends : (s ≡ Plus → ⊥) → (s ≡ Minus → ⊥) → sums_at (suc j) n text w ≡ w
+    sum-ends h k = sum-turn ∙ no-sum s _ w h k
 
     pub product-turn : products_at (suc j) n text w ≡ by_product s (products_at j n text (multiplied place w.form (factor_at j n text (place + 1)))) w
     unfolding products_at
@@ -149,7 +123,7 @@ module _ (n : ℕ) (text : List ℕ) (w : Worked) (j : ℕ) where
     unfolding by_product
     product-times h = product-turn ∙ ap (λ x. by_product x (products_at j n text (multiplied place w.form (factor_at j n text (place + 1)))) w) h
 
-    pub product-ends : OneOf (0 ∷ 1 ∷ 2 ∷ 3 ∷ 4 ∷ 5 ∷ 6 ∷ 8 ∷ 9 ∷ 10 ∷ []) (tag_of the_type s) → products_at (suc j) n text w ≡ w
+    pub product-ends : (s ≡ Times → ⊥) → products_at (suc j) n text w ≡ w
     product-ends h = product-turn ∙ no-product s _ w h
 
   pub sum-fault : (p : ℕ) → w.reached ≡ Fault p → sums_at (suc j) n text w ≡ w
@@ -187,6 +161,6 @@ module _ (n : ℕ) (text : List ℕ) (j at place : ℕ) (s : Sign) (f : place �
   unfolding by_factor factor_by
   factor-minus h = factor-turn ∙ ap factor_by h
 
-  pub factor-none : OneOf (0 ∷ 4 ∷ 5 ∷ 7 ∷ 8 ∷ 9 ∷ 10 ∷ []) (tag_of the_type s) → factor_at (suc j) n text at ≡ refused place
+  pub factor-none : ((d : ℕ) → s ≡ Digit d → ⊥) → ((v : ℕ) → s ≡ Letter v → ⊥) → (s ≡ Open → ⊥) → (s ≡ Minus → ⊥) → factor_at (suc j) n text at ≡ refused place
   unfolding factor_by
-  factor-none h = factor-turn ∙ no-factor s _ _ _ _ (refused place) h
+  factor-none h k l m = factor-turn ∙ no-factor s _ _ _ _ (refused place) h k l m

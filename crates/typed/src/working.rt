@@ -9,7 +9,7 @@ use crate::reading::{close_bracket, number, skip, variable};
 use crate::signs::{Sign, sense, sign_at};
 
 // An expression from a place on: a term, and what is added to it or taken from it.
-#[cycle(expression_factor_products_sums_term)]
+#[cycle(readers)]
 fn expression(text: &[u8], n: u8, at: usize) -> Worked
     requires { n ≤ 8 }
     ensures { ReadsExpression n text.now at result }
@@ -19,7 +19,7 @@ fn expression(text: &[u8], n: u8, at: usize) -> Worked
 }
 
 // What is added to an expression that was read so far, or taken from it.
-#[cycle(expression_factor_products_sums_term)]
+#[cycle(readers)]
 fn sums(text: &[u8], n: u8, left: Worked) -> Worked
     requires { (n ≤ 8) × Lies 0 (length text.now) left }
     ensures { ReadsSums n text.now left result }
@@ -43,7 +43,7 @@ fn sums(text: &[u8], n: u8, left: Worked) -> Worked
 }
 
 // A term from a place on: a factor, and what it is multiplied with.
-#[cycle(expression_factor_products_sums_term)]
+#[cycle(readers)]
 fn term(text: &[u8], n: u8, at: usize) -> Worked
     requires { n ≤ 8 }
     ensures { ReadsTerm n text.now at result }
@@ -53,7 +53,7 @@ fn term(text: &[u8], n: u8, at: usize) -> Worked
 }
 
 // What a term that was read so far is multiplied with.
-#[cycle(expression_factor_products_sums_term)]
+#[cycle(readers)]
 fn products(text: &[u8], n: u8, left: Worked) -> Worked
     requires { (n ≤ 8) × Lies 0 (length text.now) left }
     ensures { ReadsProducts n text.now left result }
@@ -76,7 +76,7 @@ fn products(text: &[u8], n: u8, left: Worked) -> Worked
 }
 
 // A factor from a place on: a number, a letter, a bracket, or a minus and a factor.
-#[cycle(expression_factor_products_sums_term)]
+#[cycle(readers)]
 fn factor(text: &[u8], n: u8, at: usize) -> Worked
     requires { n ≤ 8 }
     ensures { ReadsFactor n text.now at result }
