@@ -1,4 +1,3 @@
 pub mod Demand
 pub mod ListPlan
-pub mod Element
 pub mod CopiedModel

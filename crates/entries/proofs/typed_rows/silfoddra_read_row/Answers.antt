@@ -6,19 +6,12 @@ use mir.Syntax.{w32}
 use mir.Val.{SFits}
 use Rattle.rules.specs.Marking.{answer}
 use Rattle.entries.specs.ReadRow.{handed_back, read_row}
-use Rattle.entries.proofs.typed_rows.silfoddra_read_row.Statement.{statement}
-use Rattle.entries.proofs.typed_rows.silfoddra_read_row.Tie as tie
+use Rattle.entries.proofs.typed_rows.silfoddra_read_row.Goals as goal
 
-read-row-requires : tie.Need-read-row-requires
-read-row-requires c κs = search rules
-
-returns : tie.Need-returns
+pub returns : goal.returns
 unfolding read_row answer
 returns c =
-    let row = c.before.before.read-row.result in
+    let row = c.read_row-row.result in
     let fits : SFits w32 row.bound = search rules in
     ap (λ z. handed_back (record { number = row.number; place = row.place; coefficients = row.coefficients; bound = z })) (to_z-of_z fits)
-    ∙ ap handed_back c.before.before.read-row.ensures
-
-pub silfoddra-read-row-spec : {M : Type 1} → statement M
-silfoddra-read-row-spec = tie.close (tie.spec read-row-requires returns)
+    ∙ ap handed_back c.read_row-row.ensures
