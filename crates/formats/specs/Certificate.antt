@@ -1,7 +1,7 @@
 -- The certificate sheet's fields (01, Certificate): regions, then proofs. Assumes nothing.
 use Rattle.std.specs.Prelude.{Bool, cond, List, [], ◌∷◌, ℕ, zero, suc, ◌-◌, ◌^◌, leb, eqb}
 use Rattle.farkas.specs.Farkas.{Entry, Proof}
-use Rattle.formats.specs.Reading.{Reader, ◌>>=◌, ◌>>◌, give, u8, u32, must, within, below, many}
+use Rattle.formats.specs.Reading.{Reader, ◌>>=◌, give, u8, u32, must, within, below, many}
 use Rattle.formats.specs.Rows.{Condition, read_condition}
 use Rattle.formats.specs.Model.{Model}
 use Rattle.formats.specs.Locations.{location_count}

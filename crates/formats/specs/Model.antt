@@ -1,6 +1,6 @@
 -- The model's body (01, Model), field by field. Assumes nothing.
 use Rattle.std.specs.Prelude.{Bool, cond, ◌||◌, List, ℕ, ◌*◌, ◌/◌, ◌%◌, ◌^◌, ltb, eqb, length}
-use Rattle.formats.specs.Reading.{Reader, ◌>>=◌, ◌>>◌, give, u8, u16, must, within, below, many, each}
+use Rattle.formats.specs.Reading.{Reader, ◌>>=◌, give, u8, u16, must, within, below, many, each}
 use Rattle.formats.specs.Rows.{Condition, read_condition}
 
 -- "Per mode: u8 start, 0 or 1; initial, invariant and flow condition"

@@ -2,7 +2,7 @@
 use Rattle.std.specs.Prelude.{Bool, List, ℕ, ℤ}
 use Rattle.farkas.specs.Rows.{Row}
 use Rattle.formats.specs.Versions.{row_bytes, strict_at}
-use Rattle.formats.specs.Reading.{got, Reader, ◌>>=◌, ◌>>◌, give, here, u8, s32, within, many}
+use Rattle.formats.specs.Reading.{got, Reader, ◌>>=◌, give, here, u8, s32, within, many}
 
 -- "A row is n coefficients a and a bound b, all s32", with the place of its first byte and how many bytes it has
 pub record SheetRow : Type 0 where

@@ -1,6 +1,6 @@
 -- The run sheet's fields (01, Run sheet). Assumes nothing.
 use Rattle.std.specs.Prelude.{◌||◌, List, ℕ, zero, suc, ◌-◌, ◌^◌, ltb, eqb, ℤ, pos, negsuc, length}
-use Rattle.formats.specs.Reading.{Reader, ◌>>=◌, ◌>>◌, give, here, u8, u16, u32, s32, must, within, within_signed, below, many, each}
+use Rattle.formats.specs.Reading.{Reader, ◌>>=◌, give, here, u8, u16, u32, s32, must, within, within_signed, below, many, each}
 use Rattle.formats.specs.Model.{Model}
 use Rattle.formats.specs.Locations.{location_count}
 use Rattle.formats.specs.Joint.{stays}

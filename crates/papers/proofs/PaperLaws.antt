@@ -1,5 +1,4 @@
 -- A paper once its sheets are read: limits, lengths, regions, and where a location stands. Assumes nothing.
-use Rattle.fields.specs.declared.Next.TheVariants as next
 use mathlib.Core.Path.{◌≡◌, refl, sym, ap, ◌∙◌, subst}
 use mathlib.Core.Bool.{Bool, true, false, ◌&&◌}
 use mathlib.Core.List.{List}
@@ -11,7 +10,6 @@ use Rattle.formats.specs.Reading.{Got, got, refused, ◌>>=◌, header, big_endi
 use Rattle.formats.specs.Rows.{Condition}
 use Rattle.formats.specs.Model.{Model}
 use Rattle.formats.specs.Locations.{location_count}
-use Rattle.formats.specs.Joint.{joints}
 use Rattle.models.specs.Index.{entry, components_from, model_from}
 use Rattle.joint_switches.specs.Counted.{Counted}
 use Rattle.formats.specs.declared.Limits.{Limits}

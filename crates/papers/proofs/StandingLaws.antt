@@ -18,7 +18,6 @@ pub use Rattle.joint_switches.proofs.TableLaws.{have-modes, known-present}
 use Rattle.rules.specs.Runs.{present, modes_fit}
 use Rattle.papers.specs.Standing.{KnownModes, GoodModes, Stands}
 use Rattle.farkas.specs.Lists.{every}
-use Rattle.formats.specs.RunSheet.{flow}
 
 -- the present modes, by the numbers of an index
 pub mode-at : (s index : List ℕ) (k mode : ℕ) → mode < entry index (component_place k + 1) → mode_of (component_at s index k) mode ≡ mode_from s (entry index 11) (entry index 0) index (mode_place (component_place k) mode)

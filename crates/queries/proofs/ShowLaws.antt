@@ -34,7 +34,6 @@ use Rattle.hypotheses.specs.Tables.{line}
 use Rattle.papers.specs.Paper.{regions_of}
 use Rattle.rules.specs.Beside.{Found, found, unfound, no_obligation, find_in, find_after, find_hypothesis, found_answer, show_answer, sheet_of, part_of, show_part}
 use Rattle.queries.specs.Finding.{Told, OpenFor, OpensTo, which_tells, which_refused, which_in, which_after, which_obligation, shown_as, hypothesis_answer, stands_in, row_found, RowInside, PartIs, hypothesis_found, located, no_row, role_at, located_at, located_of, hypothesis_located, which_of, told_refused, told_in, told_after, told_for, one_at, kind_number, group_kind, group_line, group_which, roles_for, paper_obligations, row_answer, row_length}
-use Rattle.hypotheses.proofs.HypothesisLines.{told}
 use Rattle.hypotheses.proofs.RoleLines.{roles}
 use Rattle.rules.proofs.MarkedRanges.{found_within}
 use Rattle.queries.proofs.FindLaws.{one-gone}

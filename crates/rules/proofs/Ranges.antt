@@ -16,7 +16,7 @@ use mir.Facts.{and_yes}
 use Rattle.farkas.specs.Farkas.{Entry, Proof}
 use Rattle.farkas.specs.Lists.{All}
 use Rattle.formats.specs.Versions.{version_fits, kind_fits}
-use Rattle.formats.specs.Reading.{got, Reader, u8, u16, u32, s32, must, within, within_signed, each, header, read_paper, here, finished, sized}
+use Rattle.formats.specs.Reading.{got, Reader, u8, u16, u32, s32, must, within_signed, each, header, read_paper, here, finished, sized}
 use Rattle.formats.specs.Rows.{Condition, read_condition}
 use Rattle.formats.specs.Model.{Mode, Switch, Component, Unsafe, Model, has_event, read_mode, read_switch, read_component, read_unsafe, read_model_body}
 use Rattle.formats.specs.Locations.{location_count}

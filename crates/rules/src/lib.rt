@@ -2,7 +2,6 @@
 // acceptance means.
 #![tactic(auto)]
 
-
 // What every marking entry answers: document 01, "What is handed back".
 #[repr(C)]
 #[derive(Clone, Copy)]

@@ -10,7 +10,6 @@ use lib.Arith.{le-zero}
 use lib.IntN.{ℤ}
 use lib.ListN.{length}
 use borrow.Author.Tests.{eq-eqb, ne_eqb}
-use Rattle.farkas.specs.Lists.{none}
 use Rattle.formats.specs.Reading.{Got, got, refused, finished}
 use Rattle.formats.specs.Model.{Model}
 use Rattle.formats.specs.declared.Limits.{Limits}

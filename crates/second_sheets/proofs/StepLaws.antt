@@ -23,7 +23,7 @@ use Rattle.formats.specs.Model.{Component, Model}
 use Rattle.formats.specs.Locations.{location_count}
 use Rattle.formats.specs.Joint.{stays, count_up}
 use Rattle.models.specs.Index.{entry, component_place, switch_from, switch_place, component_from, components_from, model_from}
-use Rattle.formats.specs.RunSheet.{Step, flow, jump, read_values, Opening, read_opening, read_flow, read_jump, read_step_of, read_step}
+use Rattle.formats.specs.RunSheet.{flow, jump, read_values, Opening, read_opening, read_flow, read_jump, read_step_of, read_step}
 use Rattle.second_sheets.specs.RunAnswers.{switches_in, held_switches, switch_byte, switch_bytes, held_bytes, step_of, read_with, step_as, held_with, held_step, opening_as, read_opening_fields, read_opening_of}
 use Rattle.formats.proofs.Gives.{Gives, gives-bind, gives-give, gives-any, bind-got}
 use Rattle.fields.proofs.Skipping.{bind-refused}

@@ -2,7 +2,6 @@
 use mathlib.Core.Path.{refl}
 use native.Mathlib.Omega.{arith}
 use Rattle.buffers.proofs.OverLaws.{over-one, over-past}
-use borrow.Author.Rules.{rules}
 use Rattle.buffers.proofs.put_byte.Goals as goal
 
 pub returns-then-out-at : goal.returns-then-out-at

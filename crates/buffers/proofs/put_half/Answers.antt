@@ -1,5 +1,4 @@
 -- One byte after the other. Assumes nothing.
-use borrow.Author.Rules.{rules}
 use mathlib.Core.List.{[], ◌∷◌}
 use Rattle.buffers.specs.Over.{half}
 use Rattle.buffers.proofs.WritingLaws.{left-all, left-on, left-last, as_written, as-told}

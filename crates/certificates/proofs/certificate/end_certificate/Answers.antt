@@ -1,7 +1,6 @@
 -- By cases: bytes left, or the whole sheet read. Assumes nothing.
 use mathlib.Core.Path.{◌≡◌, ◌∙◌}
 use native.Mathlib.Omega.{arith}
-use borrow.Author.Rules.{rules}
 use Rattle.formats.specs.Reading.{got, refused}
 use Rattle.formats.specs.Reading as reading
 use Rattle.fields.proofs.ChainLaws.{told_at, told-refused}

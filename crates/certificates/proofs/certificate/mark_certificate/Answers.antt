@@ -1,6 +1,5 @@
 -- The paper is opened, then the certificate's body is marked. Assumes nothing.
 use mathlib.Core.Path.{ap, ◌∙◌}
-use borrow.Author.Rules.{rules}
 use Rattle.rules.specs.declared.Answer.{Answer}
 use Rattle.certificates.proofs.CloseLaws.{certificate-refused, certificate-open}
 use Rattle.certificates.proofs.certificate.mark_certificate.Goals as goal

@@ -1,7 +1,6 @@
 -- By cases: a proof that was refused, or all proofs passed. Assumes nothing.
 use mathlib.Core.Path.{◌∙◌}
 use native.Mathlib.Omega.{arith}
-use borrow.Author.Rules.{rules}
 use Rattle.models.specs.Index.{entry, model_from}
 use Rattle.second_sheets.specs.CertificateAnswers.{regions_from}
 use Rattle.rules.specs.Obligations.{obligations}

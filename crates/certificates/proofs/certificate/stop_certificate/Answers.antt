@@ -1,7 +1,6 @@
 -- The obligations are counted, then the score follows. Assumes nothing.
 use mathlib.Core.Path.{ap, ◌∙◌}
 use Prim.Native.Nat.{ℕ}
-use borrow.Author.Rules.{rules}
 use Rattle.rules.specs.Marking.{answer, refused_score}
 use Rattle.certificates.proofs.certificate.stop_certificate.Goals as goal
 

@@ -1,17 +1,14 @@
 -- The locations that are left, marked from here, are the whole. Assumes nothing.
 use mathlib.Core.Path.{◌≡◌, refl, sym, ap, ◌∙◌}
 use mathlib.Core.List.{List}
-use Prim.Native.Nat.{◌-◌, ◌≤◌}
 use native.Mathlib.Omega.{arith}
 use lib.ListN.{length}
 use Rattle.formats.specs.Joint.{joints}
 use Rattle.models.specs.Index.{components_from}
-use Rattle.hypotheses.specs.Tables.{Stacked}
-use Rattle.hypotheses.specs.Listing.{Task, joint_tasks_for, mark_tasks}
+use Rattle.hypotheses.specs.Listing.{Task, joint_tasks_for}
 use Rattle.papers.proofs.JoinedLaws.{joined_on, joined-none}
-use Rattle.certificates.specs.Passed.{marked_from, leaving_tasks, Underway, Fresh}
+use Rattle.certificates.specs.Passed.{marked_from, leaving_tasks}
 use Rattle.certificates.proofs.FreshLaws.{fresh-length}
-use Rattle.certificates.proofs.MarkLoops.{Comes}
 use Rattle.certificates.proofs.JointMarks.{part-underway, turn_on, turn-stops, marked-end, joints-left}
 use Rattle.certificates.proofs.joint_marks.mark_joints.Goals.{At-loop-location, Start}
 use Rattle.certificates.proofs.joint_marks.mark_joints.Goals as goal

@@ -1,17 +1,11 @@
-use mathlib.Core.Path.{◌≡◌, refl, sym, ap, ◌∙◌}
-use mathlib.Core.List.{List}
+use mathlib.Core.Path.{◌≡◌}
 use Prim.Native.Nat.{◌-◌, ◌≤◌}
-use native.Mathlib.Omega.{arith}
 use lib.ListN.{length}
-use Rattle.formats.specs.Joint.{joints}
-use Rattle.models.specs.Index.{components_from}
 use Rattle.hypotheses.specs.Tables.{Stacked}
-use Rattle.hypotheses.specs.Listing.{Task, joint_tasks_for, mark_tasks}
-use Rattle.papers.proofs.JoinedLaws.{joined_on, joined-none}
-use Rattle.certificates.specs.Passed.{marked_from, leaving_tasks, Underway, Fresh}
-use Rattle.certificates.proofs.FreshLaws.{fresh-length}
+use Rattle.hypotheses.specs.Listing.{mark_tasks}
+use Rattle.papers.proofs.JoinedLaws.{joined_on}
+use Rattle.certificates.specs.Passed.{leaving_tasks, Underway, Fresh}
 use Rattle.certificates.proofs.MarkLoops.{Comes}
-use Rattle.certificates.proofs.JointMarks.{part-underway, turn_on, turn-stops, marked-end, joints-left}
 use Rattle.certificates.proofs.joint_marks.mark_joints.Given as goal
 
 abbrev pub invariant-loop-location : goal.invariant-loop-location

@@ -1,20 +1,17 @@
 -- The events that are left, marked from here, are the whole; the location's own lines stay in the table. Assumes nothing.
 use mathlib.Core.Path.{◌≡◌, refl, sym, ap, ◌∙◌}
 use mathlib.Core.List.{List}
-use Prim.Native.Nat.{ℕ, ◌-◌, ◌≤◌}
 use native.Mathlib.Omega.{arith}
 use lib.ListN.{length}
 use Rattle.models.specs.Index.{components_from}
-use Rattle.certificates.specs.declared.Leaving.{Leaving}
 use Rattle.formats.specs.Joint.{joints_of}
-use Rattle.hypotheses.specs.Listing.{Task, joint_tasks_for, here_lines, mark_tasks}
+use Rattle.hypotheses.specs.Listing.{Task, joint_tasks_for, here_lines}
 use Rattle.hypotheses.proofs.TableLaws.{pushed, lines_start, stacked-less}
 use Rattle.papers.specs.Standing.{Stands}
 use Rattle.papers.proofs.StandingLaws.{stands_at_lem}
 use Rattle.papers.proofs.JoinedLaws.{joined_on, joined-none, joined-whole}
 use Rattle.certificates.specs.Passed.{marked_from, leaving_tasks, Ready}
 use Rattle.certificates.proofs.FreshLaws.{fresh-length}
-use Rattle.certificates.proofs.MarkLoops.{Comes}
 use Rattle.certificates.proofs.JointMarks.{turn_on, turn-stops, marked-end, ready-again}
 use Rattle.certificates.proofs.joint_marks.mark_leaving.Goals.{After-modes_at-modes, At-loop-e, Start}
 use Rattle.certificates.proofs.joint_marks.mark_leaving.Goals as goal

@@ -1,11 +1,11 @@
 -- The joint switches that are left, marked from here, are the whole. Assumes nothing.
 use mathlib.Core.Path.{◌≡◌, refl, sym, ap, ◌∙◌}
 use mathlib.Core.List.{List, ◌++◌}
-use Prim.Native.Nat.{ℕ, ◌+◌, ◌*◌, ◌-◌, ◌≤◌, ◌<◌}
+use Prim.Native.Nat.{ℕ, ◌+◌, ◌<◌}
 use native.Mathlib.Omega.{arith}
 use lib.ListN.{length}
 use Rattle.formats.specs.Locations.{location_count, modes_at}
-use Rattle.models.specs.Index.{components_from, model_from, Kept}
+use Rattle.models.specs.Index.{components_from, model_from}
 use Rattle.models.proofs.IndexLaws.{kept-none, kept_then}
 use Rattle.models.specs.Counts.{per_component}
 use Rattle.papers.specs.Paper.{regions_of}

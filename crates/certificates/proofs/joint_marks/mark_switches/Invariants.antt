@@ -1,24 +1,13 @@
-use mathlib.Core.Path.{◌≡◌, refl, sym, ap, ◌∙◌}
-use mathlib.Core.List.{List, ◌++◌}
-use Prim.Native.Nat.{ℕ, ◌+◌, ◌*◌, ◌-◌, ◌≤◌, ◌<◌}
-use native.Mathlib.Omega.{arith}
+use mathlib.Core.Path.{◌≡◌}
+use Prim.Native.Nat.{◌+◌, ◌*◌, ◌-◌, ◌≤◌}
 use lib.ListN.{length}
-use Rattle.formats.specs.Locations.{location_count, modes_at}
-use Rattle.models.specs.Index.{components_from, model_from, Kept}
-use Rattle.models.proofs.IndexLaws.{kept-none, kept_then}
-use Rattle.models.specs.Counts.{per_component}
+use Rattle.models.specs.Index.{Kept}
 use Rattle.papers.specs.Paper.{regions_of}
 use Rattle.certificates.specs.declared.Leaving.{Leaving}
-use Rattle.formats.specs.Rows.{Condition}
-use Rattle.formats.specs.Joint.{switches_of, joints_of}
-use Rattle.models.specs.Counts.{KnownSwitches}
-use borrow.Author.Rules.{rules}
-use Rattle.certificates.proofs.FreshLaws.{fresh-length}
-use Rattle.hypotheses.specs.Listing.{Task, jump_tasks, joint_tasks_for, mark_tasks}
-use Rattle.certificates.specs.Passed.{marked_from, Ready}
-use Rattle.certificates.proofs.MarkLoops.{Comes, comes-same}
-use Rattle.papers.proofs.LandedLaws.{landed-count, landed-known, landed-below}
-use Rattle.certificates.proofs.JointMarks.{jumps_left, jumps-start, jumps-end, landing-next, part-on, part-stops, marked-end, ready-again}
+use Rattle.hypotheses.specs.Listing.{mark_tasks}
+use Rattle.certificates.specs.Passed.{Ready}
+use Rattle.certificates.proofs.MarkLoops.{Comes}
+use Rattle.certificates.proofs.JointMarks.{jumps_left}
 use Rattle.certificates.proofs.joint_marks.mark_switches.Given as goal
 
 abbrev pub invariant-loop-x : goal.invariant-loop-x

@@ -1,20 +1,8 @@
-use mathlib.Core.Path.{◌≡◌, sym, ap, ◌∙◌, subst}
-use mathlib.Core.List.{List}
-use Prim.Native.Nat.{ℕ, ◌+◌, ◌*◌, ◌-◌, ◌≤◌, ◌<◌}
-use native.Mathlib.Omega.{arith}
-use lib.ListN.{length, get_or, drop}
-use Rattle.fields.specs.declared.Next.TheVariants as next
-use Rattle.papers.specs.Paper.{held_next}
-use Rattle.hypotheses.specs.declared.Group.{Group}
-use Rattle.hypotheses.specs.Tables.{mark_with}
-use Rattle.sums.specs.Summing.{rows_in, goal_at}
-use Rattle.hypotheses.specs.Listing.{Task, no_task, tasks_of, mark_task, mark_tasks}
-use Rattle.certificates.specs.Passed.{goal_place, stands_at, Fresh}
-use Rattle.certificates.proofs.FreshLaws.{fresh-length, fresh-part, fresh-wide, fresh-again, fresh-long}
-use Rattle.certificates.proofs.MarkLaws.{tasks-length, task-advances, proof-task, goal-low, refused-number, stopped-at}
-use Rattle.certificates.proofs.MarkLoops.{Comes, goals-left, goals-over, goal-on, goal-stops}
-use borrow.Author.Rules.{rules}
-use Rattle.formats.specs.Versions.{row_bytes}
+use Prim.Native.Nat.{◌+◌, ◌-◌, ◌≤◌}
+use lib.ListN.{length, drop}
+use Rattle.hypotheses.specs.Listing.{tasks_of, mark_tasks}
+use Rattle.certificates.specs.Passed.{Fresh}
+use Rattle.certificates.proofs.MarkLoops.{Comes}
 use Rattle.certificates.proofs.obligations.mark_group.Given as goal
 
 abbrev pub invariant-loop-goal : goal.invariant-loop-goal

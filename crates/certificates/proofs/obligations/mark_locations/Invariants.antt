@@ -1,24 +1,13 @@
-use mathlib.Core.Path.{◌≡◌, refl, sym, ap, ◌∙◌, subst}
-use mathlib.Core.List.{List, [], ◌∷◌, ◌++◌, append-nil}
-use Prim.Native.Nat.{◌+◌, ◌-◌, ◌≤◌, ◌<◌}
-use native.Mathlib.Omega.{arith}
+use mathlib.Core.Path.{◌≡◌}
+use mathlib.Core.List.{◌++◌}
+use Prim.Native.Nat.{◌+◌, ◌-◌, ◌≤◌}
 use lib.ListN.{length}
-use Rattle.formats.specs.Joint.{count_up, join_all}
-use Rattle.models.specs.Index.{entry, model_from}
-use Rattle.papers.specs.Paper.{regions_of}
-use lib.ListN.{get_or, drop}
-use Rattle.hypotheses.specs.declared.Group.{Group}
+use Rattle.models.specs.Index.{entry}
+use lib.ListN.{drop}
 use Rattle.hypotheses.specs.Tables.{Stacked}
-use Rattle.hypotheses.specs.Listing.{Task, no_task, tasks_of, location_tasks, location_tasks_for, mark_tasks, GoodGroup}
-use Rattle.hypotheses.proofs.TableLaws.{stacked-less}
-use Rattle.papers.proofs.StandingLaws.{stands_at_lem}
-use Rattle.papers.proofs.JoinedLaws.{joined-none, joined-whole}
-use Rattle.certificates.specs.Passed.{stands_at, Underway, Fresh}
-use Rattle.certificates.proofs.FreshLaws.{fresh-length}
-use Rattle.certificates.proofs.MarkLaws.{tasks-length, one-task, one-good, goal-low}
-use Rattle.certificates.proofs.MarkLoops.{locations_left, groups_left, location-groups, Comes, comes-same, comes-in, comes-out, goals-out, goal-first}
-use Rattle.certificates.proofs.JointMarks.{part-underway, part-on, part-stops, marked-end}
-use borrow.Author.Rules.{rules}
+use Rattle.hypotheses.specs.Listing.{tasks_of, mark_tasks}
+use Rattle.certificates.specs.Passed.{Underway, Fresh}
+use Rattle.certificates.proofs.MarkLoops.{locations_left, groups_left, Comes}
 use Rattle.certificates.proofs.obligations.mark_locations.Given as goal
 
 abbrev pub invariant-loop-goal : goal.invariant-loop-goal

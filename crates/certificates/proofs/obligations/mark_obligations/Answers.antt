@@ -14,7 +14,6 @@ use Rattle.certificates.proofs.FreshLaws.{no-segments}
 use Rattle.certificates.proofs.MarkLoops.{Comes}
 use Rattle.certificates.proofs.JointMarks.{all_come, part-on, part-stops, part-underway, marked-end}
 use Rattle.certificates.proofs.RowlessLaws.{nothing_left, no-joints}
-use borrow.Author.Rules.{rules}
 use Rattle.certificates.proofs.obligations.mark_obligations.Goals.{Else-marked-ne0, Start}
 use Rattle.certificates.proofs.obligations.mark_obligations.Goals as goal
 

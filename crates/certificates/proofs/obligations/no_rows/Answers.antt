@@ -1,8 +1,7 @@
 -- The regions that are left decide. Assumes nothing.
-use mathlib.Core.Path.{◌≡◌, refl, sym, ◌∙◌}
-use Prim.Native.Nat.{◌-◌, ◌≤◌}
+use mathlib.Core.Path.{refl, sym, ◌∙◌}
 use native.Mathlib.Omega.{arith}
-use Rattle.certificates.proofs.RowlessLaws.{rowless_on, rows_none, rows-some, rows_seen, rows_all}
+use Rattle.certificates.proofs.RowlessLaws.{rows_none, rows-some, rows_seen, rows_all}
 use borrow.Author.Rules.{rules}
 use Rattle.certificates.proofs.obligations.no_rows.Goals as goal
 

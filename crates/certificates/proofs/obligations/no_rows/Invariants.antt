@@ -1,8 +1,6 @@
-use mathlib.Core.Path.{◌≡◌, refl, sym, ◌∙◌}
+use mathlib.Core.Path.{◌≡◌}
 use Prim.Native.Nat.{◌-◌, ◌≤◌}
-use native.Mathlib.Omega.{arith}
-use Rattle.certificates.proofs.RowlessLaws.{rowless_on, rows_none, rows-some, rows_seen, rows_all}
-use borrow.Author.Rules.{rules}
+use Rattle.certificates.proofs.RowlessLaws.{rowless_on}
 use Rattle.certificates.proofs.obligations.no_rows.Given as goal
 
 abbrev pub invariant-loop-l : goal.invariant-loop-l

@@ -1,11 +1,10 @@
 -- A turn takes the next batch where this one is written whole, and writes one record more. Assumes nothing.
 use mathlib.Core.Path.{◌≡◌}
-use mathlib.Core.List.{List}
 use Prim.Native.Nat.{◌<◌}
 use native.Mathlib.Omega.{arith}
 use borrow.Author.Rules.{rules}
 use lib.ListN.{length}
-use Rattle.entries.proofs.ListPlan.{Plan, Written, plan, written_none, written-length, written-batch, written_next, written_all}
+use Rattle.entries.proofs.ListPlan.{Written, plan, written_none, written-batch, written_next}
 use Rattle.entries.proofs.table.silfoddra_joint_list.Goals.{then-j-at, else-j-at}
 use Rattle.entries.proofs.table.silfoddra_joint_list.Goals as goal
 
@@ -22,8 +21,8 @@ loop-i-preserved c =
     let long = c.loop-i.invariant.1.1 in
     let more = c.loop-i-test.true in
     let here : Written p c.loop-i.i c.if-j-at.j c.if-j-at.at c.loop-i.table × ((c.if-j-at.j < c.if-j-at.at.count) × (length c.if-j-at.at.words ≡ 64)) =
-        elim c.if-j-at.branch [
-          | then-j-at v ↦ let b = written-batch p w long more v.if-j-at.true v.next_batch-at.result v.next_batch-at.ensures in rw (v.at-is, v.j-is) (b.0, (b.1, search rules))
-          | else-j-at v ↦ rw (v.at-is, v.j-is) (w, (omega (arith, w.inside, v.if-j-at.false), long))
-        ] in
+    elim c.if-j-at.branch [
+      | then-j-at v ↦ let b = written-batch p w long more v.if-j-at.true v.next_batch-at.result v.next_batch-at.ensures in rw (v.at-is, v.j-is) (b.0, (b.1, search rules))
+      | else-j-at v ↦ rw (v.at-is, v.j-is) (w, (omega (arith, w.inside, v.if-j-at.false), long))
+    ] in
     (p, (written_next p here.0 here.1.1 more here.1.0 c.unpacked.result c.unpacked.ensures, here.1.1))

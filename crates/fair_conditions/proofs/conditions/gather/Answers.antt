@@ -9,8 +9,7 @@ use Rattle.formats.specs.Versions.{row_bytes}
 use Rattle.formats.proofs.Versions.{numbers-within}
 use Rattle.fair_rows.specs.FairRows.{fair_rows}
 use Rattle.fair_conditions.specs.Held.{Among, rows_by}
-use Rattle.fair_conditions.proofs.GatherLaws.{Gathered, gather-starts, gather-goes-on, gather-ends, among-all}
-use borrow.Author.Rules.{rules}
+use Rattle.fair_conditions.proofs.GatherLaws.{gather-starts, gather-goes-on, gather-ends, among-all}
 use native.Mathlib.Omega.{arith}
 use Rattle.fair_conditions.proofs.conditions.gather.Goals.{In-loop-j}
 use Rattle.fair_conditions.proofs.conditions.gather.Goals as goal

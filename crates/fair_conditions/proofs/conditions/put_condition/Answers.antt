@@ -9,7 +9,6 @@ use Rattle.writing.specs.Writing.{write_row}
 use Rattle.buffers.proofs.WritingLaws.{left-all, left-on, left-last, left_as, as_written}
 use Rattle.fair_conditions.specs.Held.{rows_by, stretch_rows, stretch_bytes}
 use Rattle.fair_conditions.proofs.PutLaws.{condition-written}
-use borrow.Author.Rules.{rules}
 use native.Mathlib.Omega.{arith}
 use Rattle.fair_conditions.proofs.conditions.put_condition.Goals as goal
 

@@ -1,8 +1,6 @@
 -- Number by number, what is left is written after what is there. Assumes nothing.
-use Prim.Native.Nat.{◌-◌}
 use Rattle.buffers.proofs.WritingLaws.{written-length, as-word}
-use Rattle.fair_conditions.proofs.PutLaws.{NumbersPut, numbers-start, numbers-go-on, numbers-end}
-use borrow.Author.Rules.{rules}
+use Rattle.fair_conditions.proofs.PutLaws.{numbers-start, numbers-go-on, numbers-end}
 use native.Mathlib.Omega.{arith}
 use Rattle.fair_conditions.proofs.conditions.put_numbers.Goals as goal
 

@@ -1,8 +1,5 @@
 use Prim.Native.Nat.{◌-◌}
-use Rattle.buffers.proofs.WritingLaws.{written-length, as-word}
-use Rattle.fair_conditions.proofs.PutLaws.{NumbersPut, numbers-start, numbers-go-on, numbers-end}
-use borrow.Author.Rules.{rules}
-use native.Mathlib.Omega.{arith}
+use Rattle.fair_conditions.proofs.PutLaws.{NumbersPut}
 use Rattle.fair_conditions.proofs.conditions.put_numbers.Given as goal
 
 abbrev pub invariant-loop-i : goal.invariant-loop-i

@@ -1,10 +1,5 @@
-use Prim.Native.Nat.{◌-◌, ◌<◌}
-use lib.ListN.{get_or}
-use Rattle.buffers.proofs.WritingLaws.{written-length}
-use Rattle.fair_conditions.proofs.SortLaws.{among-at}
-use Rattle.fair_conditions.proofs.PutLaws.{RowsPut, rows_start, rows-go-on, rows_end}
-use borrow.Author.Rules.{rules}
-use native.Mathlib.Omega.{arith}
+use Prim.Native.Nat.{◌-◌}
+use Rattle.fair_conditions.proofs.PutLaws.{RowsPut}
 use Rattle.fair_conditions.proofs.conditions.put_rows.Given as goal
 
 abbrev pub invariant-loop-i : goal.invariant-loop-i

@@ -7,7 +7,6 @@ use Rattle.farkas.specs.Words.{numbers_at}
 use Rattle.fair_rows.specs.FairRows.{quotient}
 use Rattle.fair_conditions.specs.Held.{kept_numbers, KeptOutside, kept_row}
 use Rattle.fair_conditions.proofs.GatherLaws.{row-dropped, row-taken, among-stays, among-slips, among-all}
-use borrow.Author.Rules.{rules}
 use native.Mathlib.Omega.{arith}
 use Rattle.fair_conditions.proofs.conditions.take_row.Goals as goal
 

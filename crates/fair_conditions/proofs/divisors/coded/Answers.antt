@@ -1,7 +1,6 @@
 -- A raised number lowered again, as two's complement. Assumes nothing.
 use native.Mathlib.Omega.{arith}
 use Rattle.fair_conditions.proofs.NumberLaws.{coded-low, coded-high}
-use borrow.Author.Rules.{rules}
 use Rattle.fair_conditions.proofs.divisors.coded.Goals as goal
 
 pub returns-then-raised-lt-SIGN_BIT : goal.returns-then-raised-lt-SIGN_BIT

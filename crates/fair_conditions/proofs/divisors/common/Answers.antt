@@ -1,7 +1,6 @@
 -- A turn keeps the common divisors. Assumes nothing.
 use native.Mathlib.Nat.{mod-lt}
-use Rattle.fair_conditions.proofs.CommonLaws.{Alike, alike-starts, alike-goes-on, alike-ends}
-use borrow.Author.Rules.{rules}
+use Rattle.fair_conditions.proofs.CommonLaws.{alike-starts, alike-goes-on, alike-ends}
 use native.Mathlib.Omega.{arith}
 use Rattle.fair_conditions.proofs.divisors.common.Goals as goal
 

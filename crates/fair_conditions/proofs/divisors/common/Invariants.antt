@@ -1,7 +1,4 @@
-use native.Mathlib.Nat.{mod-lt}
-use Rattle.fair_conditions.proofs.CommonLaws.{Alike, alike-starts, alike-goes-on, alike-ends}
-use borrow.Author.Rules.{rules}
-use native.Mathlib.Omega.{arith}
+use Rattle.fair_conditions.proofs.CommonLaws.{Alike}
 use Rattle.fair_conditions.proofs.divisors.common.Given as goal
 
 abbrev pub invariant-loop-y : goal.invariant-loop-y

@@ -1,12 +1,11 @@
 -- The common divisors of the numbers from place i on. Assumes nothing.
 use mathlib.Core.Path.{◌≡◌, sym, ap, ◌∙◌, subst}
 use mathlib.Core.List.{List}
-use Prim.Native.Nat.{ℕ, ◌+◌, ◌*◌, ◌-◌, ◌≤◌}
+use Prim.Native.Nat.{ℕ, ◌+◌, ◌*◌, ◌-◌}
 use lib.IntN.{ℤ, nat_abs}
-use Rattle.farkas.specs.Words.{signed, signed_at, numbers_at}
+use Rattle.farkas.specs.Words.{signed, signed_at}
 use Rattle.fair_conditions.specs.Held.{Common, CommonOf}
 use Rattle.fair_conditions.proofs.CommonLaws.{common-none, common-turn, numbers-none, numbers-all}
-use borrow.Author.Rules.{rules}
 use native.Mathlib.Omega.{arith}
 use Rattle.fair_conditions.proofs.divisors.common_of.Goals as goal
 

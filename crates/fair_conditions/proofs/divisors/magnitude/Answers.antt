@@ -1,7 +1,6 @@
 -- Below 2^31 the number itself, from there on 2^32 less it. Assumes nothing.
 use native.Mathlib.Omega.{arith}
 use Rattle.fair_conditions.proofs.NumberLaws.{size_low, size-high}
-use borrow.Author.Rules.{rules}
 use Rattle.fair_conditions.proofs.divisors.magnitude.Goals as goal
 
 pub returns-then-code-lt-SIGN_BIT : goal.returns-then-code-lt-SIGN_BIT

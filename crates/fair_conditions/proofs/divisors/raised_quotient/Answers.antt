@@ -2,7 +2,6 @@
 use native.Mathlib.Nat.{div-le_self}
 use native.Mathlib.Omega.{arith}
 use Rattle.fair_conditions.proofs.NumberLaws.{raised-low, raised-high, quotient-small}
-use borrow.Author.Rules.{rules}
 use Rattle.fair_conditions.proofs.divisors.raised_quotient.Goals as goal
 
 pub overflow_add-result : goal.overflow_add-result

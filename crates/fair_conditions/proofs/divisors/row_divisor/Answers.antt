@@ -7,7 +7,6 @@ use Rattle.farkas.specs.Words.{signed, signed_at}
 use Rattle.fair_conditions.specs.Held.{Common}
 use Rattle.fair_conditions.proofs.NumberLaws.{sign_low, sign_high}
 use Rattle.fair_conditions.proofs.CommonLaws.{divisor-dropped, divisor-below, divisor-found}
-use borrow.Author.Rules.{rules}
 use native.Mathlib.Omega.{arith}
 use Rattle.fair_conditions.proofs.divisors.row_divisor.Goals as goal
 

@@ -1,10 +1,7 @@
 -- What is left stands as the whole does. Assumes nothing.
-use mathlib.Core.Path.{◌≡◌, sym, ap, ◌∙◌}
-use Prim.Native.Nat.{◌-◌, ◌≤◌}
-use Rattle.fair_rows.specs.FairRows.{order}
-use Rattle.fair_conditions.specs.Held.{kept_numbers, standing}
-use Rattle.fair_conditions.proofs.SortLaws.{order_left, order-starts, order-lower, order-higher, order-goes-on, order-ends}
-use borrow.Author.Rules.{rules}
+use mathlib.Core.Path.{sym, ap, ◌∙◌}
+use Rattle.fair_conditions.specs.Held.{standing}
+use Rattle.fair_conditions.proofs.SortLaws.{order-starts, order-lower, order-higher, order-goes-on, order-ends}
 use native.Mathlib.Omega.{arith}
 use Rattle.fair_conditions.proofs.sorting.compare.Goals as goal
 

@@ -1,10 +1,8 @@
-use mathlib.Core.Path.{◌≡◌, sym, ap, ◌∙◌}
+use mathlib.Core.Path.{◌≡◌}
 use Prim.Native.Nat.{◌-◌, ◌≤◌}
 use Rattle.fair_rows.specs.FairRows.{order}
-use Rattle.fair_conditions.specs.Held.{kept_numbers, standing}
-use Rattle.fair_conditions.proofs.SortLaws.{order_left, order-starts, order-lower, order-higher, order-goes-on, order-ends}
-use borrow.Author.Rules.{rules}
-use native.Mathlib.Omega.{arith}
+use Rattle.fair_conditions.specs.Held.{kept_numbers}
+use Rattle.fair_conditions.proofs.SortLaws.{order_left}
 use Rattle.fair_conditions.proofs.sorting.compare.Given as goal
 
 abbrev pub invariant-loop-i : goal.invariant-loop-i

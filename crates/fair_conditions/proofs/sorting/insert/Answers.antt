@@ -1,13 +1,12 @@
 -- Each turn lets the lower of two rows stay and carries the other on. Assumes nothing.
 use mathlib.Core.Path.{◌≡◌, refl, sym, ap, ◌∙◌, subst}
 use mathlib.Core.List.{List}
-use Prim.Native.Nat.{ℕ, ◌+◌, ◌*◌, ◌-◌, ◌≤◌, ◌<◌}
+use Prim.Native.Nat.{ℕ, ◌+◌, ◌*◌, ◌<◌}
 use lib.ListN.{length, get_or, take, set, length-set}
 use lib.Seq.{get_or-set_other}
 use Rattle.fair_rows.specs.FairRows.{Order, order}
 use Rattle.fair_conditions.specs.Held.{kept_numbers, kept_row, carried_on, left_behind, slip}
 use Rattle.fair_conditions.proofs.SortLaws.{Through, rows-order, among-at, through-starts, through-stops, through-goes-on, through-ends, carried-small}
-use borrow.Author.Rules.{rules}
 use native.Mathlib.Omega.{arith}
 use Rattle.fair_conditions.proofs.sorting.insert.Goals.{After-meet-carried}
 use Rattle.fair_conditions.proofs.sorting.insert.Goals as goal
@@ -40,9 +39,12 @@ returns-then-carried c =
     let a = c.args in
     let l = c.loop-i in
     let m = c.meet-carried in
-    let f = kept_row a.kept.now a.n in record { sorted_after = ap (take a.count) m.ensures.sorted_after
+    let f = kept_row a.kept.now a.n in record {
+      sorted_after = ap (take a.count) m.ensures.sorted_after
           ∙ through-stops f (slip f a.k (take a.count a.sorted.now)) l.sorted a.count l.i l.carried (omega (arith, l.invariant.1.0)) c.loop-i-test.true
-          (stood (goal.at.returns-then-carried c).After-meet-carried) (rows-order a.kept.now a.n l.carried (get_or l.sorted l.i 0)) l.invariant.0.1 (small (goal.at.returns-then-carried c).After-meet-carried) (sym m.ensures.value ∙ c.if-carried.true) l.invariant.1.1.1; upper_bound = omega arith }
+          (stood (goal.at.returns-then-carried c).After-meet-carried) (rows-order a.kept.now a.n l.carried (get_or l.sorted l.i 0)) l.invariant.0.1 (small (goal.at.returns-then-carried c).After-meet-carried) (sym m.ensures.value ∙ c.if-carried.true) l.invariant.1.1.1;
+      upper_bound = omega arith;
+    }
 
 pub loop-i-preserved : goal.loop-i-preserved
 loop-i-preserved c =

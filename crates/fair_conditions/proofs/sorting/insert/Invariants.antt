@@ -1,13 +1,8 @@
-use mathlib.Core.Path.{◌≡◌, refl, sym, ap, ◌∙◌, subst}
-use mathlib.Core.List.{List}
-use Prim.Native.Nat.{ℕ, ◌+◌, ◌*◌, ◌-◌, ◌≤◌, ◌<◌}
-use lib.ListN.{length, get_or, take, set, length-set}
-use lib.Seq.{get_or-set_other}
-use Rattle.fair_rows.specs.FairRows.{Order, order}
-use Rattle.fair_conditions.specs.Held.{kept_numbers, kept_row, carried_on, left_behind, slip}
-use Rattle.fair_conditions.proofs.SortLaws.{Through, rows-order, among-at, through-starts, through-stops, through-goes-on, through-ends, carried-small}
-use borrow.Author.Rules.{rules}
-use native.Mathlib.Omega.{arith}
+use mathlib.Core.Path.{◌≡◌}
+use Prim.Native.Nat.{ℕ, ◌-◌, ◌≤◌, ◌<◌}
+use lib.ListN.{length, get_or, take}
+use Rattle.fair_conditions.specs.Held.{kept_row, slip}
+use Rattle.fair_conditions.proofs.SortLaws.{Through}
 use Rattle.fair_conditions.proofs.sorting.insert.Given as goal
 
 abbrev pub invariant-loop-i : goal.invariant-loop-i

@@ -6,7 +6,6 @@ use lib.Seq.{set-get_or}
 use Rattle.fair_rows.specs.FairRows.{Order, order}
 use Rattle.fair_conditions.specs.Held.{kept_numbers, standing, carried_on, left_behind}
 use Rattle.fair_conditions.proofs.SortLaws.{stands-as}
-use borrow.Author.Rules.{rules}
 use native.Mathlib.Omega.{arith}
 use Rattle.fair_conditions.proofs.sorting.meet.Goals.{After-compare-stands}
 use Rattle.fair_conditions.proofs.sorting.meet.Goals as goal

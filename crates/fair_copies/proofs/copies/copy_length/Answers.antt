@@ -1,6 +1,5 @@
 -- What the body's writer tells of the place after it. Assumes nothing.
 use Rattle.fair_copies.proofs.CopyLaws.{copy-length}
-use borrow.Author.Rules.{rules}
 use native.Mathlib.Omega.{arith}
 use Rattle.fair_copies.proofs.copies.copy_length.Goals as goal
 

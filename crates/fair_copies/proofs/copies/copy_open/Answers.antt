@@ -4,7 +4,6 @@ use lib.ListN.{length}
 use Rattle.models.specs.Index.{model_from}
 use Rattle.fair_models.specs.FairCopy.{fair_copy}
 use Rattle.fair_copies.proofs.CopyLaws.{lacks, lacks-nothing, answer-short, answer-copied, buffer-kept, buffer-copied}
-use borrow.Author.Rules.{rules}
 use native.Mathlib.Omega.{arith}
 use Rattle.fair_copies.proofs.copies.copy_open.Goals.{Start}
 use Rattle.fair_copies.proofs.copies.copy_open.Goals as goal

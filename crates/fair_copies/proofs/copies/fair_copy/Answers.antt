@@ -5,7 +5,6 @@ use Rattle.rules.specs.declared.Answer.{Answer}
 use Rattle.models.specs.Index.{model_from}
 use Rattle.papers.specs.Opening.{opened_model}
 use Rattle.fair_copies.proofs.CopyLaws.{copyable, open-short, shut-answer, shut-buffer, open-answer, open-buffer}
-use borrow.Author.Rules.{rules}
 use native.Mathlib.Omega.{arith}
 use Rattle.fair_copies.proofs.copies.fair_copy.Goals as goal
 

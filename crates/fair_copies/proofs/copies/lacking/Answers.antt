@@ -5,7 +5,6 @@ use lib.ListN.{length}
 use Rattle.models.specs.Index.{model_from}
 use Rattle.fair_models.specs.FairCopy.{fair_copy}
 use Rattle.fair_copies.proofs.CopyLaws.{fits_all, fits_not}
-use borrow.Author.Rules.{rules}
 use native.Mathlib.Omega.{arith}
 use Rattle.fair_copies.proofs.copies.lacking.Goals.{Start}
 use Rattle.fair_copies.proofs.copies.lacking.Goals as goal

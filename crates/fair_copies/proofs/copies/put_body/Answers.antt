@@ -1,7 +1,6 @@
 -- The paper number, then the fields. Assumes nothing.
 use mathlib.Core.Path.{◌∙◌}
 use native.Mathlib.Omega.{arith}
-use borrow.Author.Rules.{rules}
 use Rattle.buffers.proofs.WritingLaws.{left-all, left-on, left-last, left_as}
 use Rattle.fair_copies.proofs.CopyLaws.{body-parts}
 use Rattle.fair_copies.proofs.copies.put_body.Goals as goal

@@ -4,7 +4,6 @@ use Rattle.models.specs.Index.{model_from}
 use Rattle.formats.proofs.Versions.{version-small}
 use Rattle.buffers.proofs.WritingLaws.{as-half}
 use Rattle.fair_copies.proofs.CopyLaws.{headed}
-use borrow.Author.Rules.{rules}
 use native.Mathlib.Omega.{arith}
 use Rattle.fair_copies.proofs.copies.put_copy.Goals as goal
 

@@ -9,7 +9,6 @@ use Rattle.fair_copies.specs.declared.parts.Items.{Items}
 use Rattle.fair_copies.specs.Items.{items_bytes, GoodItems}
 use Rattle.fair_copies.proofs.PartLaws.{three-small, conditions-good}
 use Rattle.fair_copies.proofs.CopyLaws.{fields-parts}
-use borrow.Author.Rules.{rules}
 use native.Mathlib.Omega.{arith}
 use Rattle.fair_copies.proofs.copies.put_fields.Goals as goal
 

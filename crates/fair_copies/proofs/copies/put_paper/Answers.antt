@@ -2,8 +2,6 @@
 use mathlib.Core.Path.{sym, ap, ◌∙◌, subst}
 use Prim.Native.Nat.{ℕ}
 use native.Mathlib.Omega.{arith}
-use borrow.Author.Rules.{rules}
-use borrow.Author.Tests.{not-true, not-false}
 use Rattle.formats.specs.Versions.{has_paper}
 use Rattle.models.specs.Index.{version_in, paper_in}
 use Rattle.buffers.specs.Over.{word}

@@ -8,7 +8,6 @@ use Rattle.buffers.proofs.WritingLaws.{left-all, left-on, left-last, left_as, as
 use Rattle.fair_copies.specs.declared.parts.Items.{Items}
 use Rattle.fair_copies.specs.Items.{items_bytes, GoodItems}
 use Rattle.fair_copies.proofs.PartLaws.{component-parts, two-small, modes-good, switches-good}
-use borrow.Author.Rules.{rules}
 use native.Mathlib.Omega.{arith}
 use Rattle.fair_copies.proofs.parts.put_component.Goals.{Start}
 use Rattle.fair_copies.proofs.parts.put_component.Goals as goal

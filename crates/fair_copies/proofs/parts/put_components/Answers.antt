@@ -1,14 +1,12 @@
 -- Component by component. Assumes nothing.
-use mathlib.Core.Path.{◌≡◌, refl, ◌∙◌, subst}
-use Prim.Native.Nat.{ℕ, ◌+◌, ◌*◌, ◌-◌, ◌≤◌, ◌<◌}
-use lib.ListN.{length}
+use mathlib.Core.Path.{refl, ◌∙◌, subst}
+use Prim.Native.Nat.{ℕ, ◌+◌, ◌*◌, ◌≤◌, ◌<◌}
 use Rattle.formats.specs.Joint.{count_up, join_all}
 use Rattle.models.specs.Index.{entry}
 use Rattle.buffers.specs.Written.{Written}
 use Rattle.buffers.proofs.WritingLaws.{written-length}
 use Rattle.fair_copies.specs.Copyable.{component_bytes}
-use Rattle.fair_copies.proofs.EachPut.{EachPut, each-starts, each-goes-on, each-ends}
-use borrow.Author.Rules.{rules}
+use Rattle.fair_copies.proofs.EachPut.{each-starts, each-goes-on, each-ends}
 use native.Mathlib.Omega.{arith}
 use Rattle.fair_copies.proofs.parts.put_components.Goals.{After-loop-k}
 use Rattle.fair_copies.proofs.parts.put_components.Goals as goal

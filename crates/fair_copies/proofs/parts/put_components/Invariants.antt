@@ -1,14 +1,8 @@
-use mathlib.Core.Path.{◌≡◌, refl, ◌∙◌, subst}
-use Prim.Native.Nat.{ℕ, ◌+◌, ◌*◌, ◌-◌, ◌≤◌, ◌<◌}
+use mathlib.Core.Path.{◌≡◌}
+use Prim.Native.Nat.{◌-◌}
 use lib.ListN.{length}
-use Rattle.formats.specs.Joint.{count_up, join_all}
-use Rattle.models.specs.Index.{entry}
-use Rattle.buffers.specs.Written.{Written}
-use Rattle.buffers.proofs.WritingLaws.{written-length}
 use Rattle.fair_copies.specs.Copyable.{component_bytes}
-use Rattle.fair_copies.proofs.EachPut.{EachPut, each-starts, each-goes-on, each-ends}
-use borrow.Author.Rules.{rules}
-use native.Mathlib.Omega.{arith}
+use Rattle.fair_copies.proofs.EachPut.{EachPut}
 use Rattle.fair_copies.proofs.parts.put_components.Given as goal
 
 abbrev pub invariant-loop-k : goal.invariant-loop-k

@@ -1,13 +1,12 @@
 -- Byte by byte. Assumes nothing.
-use mathlib.Core.Path.{◌≡◌, subst}
+use mathlib.Core.Path.{subst}
 use mathlib.Core.List.{List, [], ◌∷◌}
-use Prim.Native.Nat.{ℕ, ◌+◌, ◌-◌}
+use Prim.Native.Nat.{ℕ, ◌+◌}
 use Rattle.formats.specs.Joint.{count_up}
 use Rattle.models.specs.Index.{entry}
 use Rattle.buffers.specs.Written.{Written}
 use Rattle.buffers.proofs.WritingLaws.{as_written, written-length}
-use Rattle.fair_copies.proofs.EachPut.{EachPut, each-starts, each-goes-on, each-ends, joined_bytes}
-use borrow.Author.Rules.{rules}
+use Rattle.fair_copies.proofs.EachPut.{each-starts, each-goes-on, each-ends, joined_bytes}
 use native.Mathlib.Omega.{arith}
 use Rattle.fair_copies.proofs.parts.put_entries.Goals as goal
 

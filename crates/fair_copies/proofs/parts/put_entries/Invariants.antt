@@ -1,13 +1,8 @@
-use mathlib.Core.Path.{◌≡◌, subst}
-use mathlib.Core.List.{List, [], ◌∷◌}
-use Prim.Native.Nat.{ℕ, ◌+◌, ◌-◌}
-use Rattle.formats.specs.Joint.{count_up}
+use mathlib.Core.Path.{◌≡◌}
+use mathlib.Core.List.{[], ◌∷◌}
+use Prim.Native.Nat.{◌+◌, ◌-◌}
 use Rattle.models.specs.Index.{entry}
-use Rattle.buffers.specs.Written.{Written}
-use Rattle.buffers.proofs.WritingLaws.{as_written, written-length}
-use Rattle.fair_copies.proofs.EachPut.{EachPut, each-starts, each-goes-on, each-ends, joined_bytes}
-use borrow.Author.Rules.{rules}
-use native.Mathlib.Omega.{arith}
+use Rattle.fair_copies.proofs.EachPut.{EachPut}
 use Rattle.fair_copies.proofs.parts.put_entries.Given as goal
 
 abbrev pub invariant-loop-i : goal.invariant-loop-i

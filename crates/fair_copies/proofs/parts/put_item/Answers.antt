@@ -1,6 +1,5 @@
 -- Its first numbers, then its conditions. Assumes nothing.
 use Rattle.buffers.proofs.WritingLaws.{left-all, left-on, left-last}
-use borrow.Author.Rules.{rules}
 use native.Mathlib.Omega.{arith}
 use Rattle.fair_copies.proofs.parts.put_item.Goals as goal
 

@@ -1,11 +1,10 @@
 -- Item by item. Assumes nothing.
-use mathlib.Core.Path.{◌≡◌, refl, ◌∙◌}
-use Prim.Native.Nat.{◌+◌, ◌*◌, ◌-◌, ◌≤◌}
-use lib.ListN.{length}
+use mathlib.Core.Path.{refl, ◌∙◌}
+use Prim.Native.Nat.{◌+◌, ◌*◌, ◌≤◌}
 use Rattle.buffers.specs.Written.{Written}
 use Rattle.buffers.proofs.WritingLaws.{written-length}
 use Rattle.fair_copies.specs.Items.{item_bytes, items_bytes, GoodItem}
-use Rattle.fair_copies.proofs.EachPut.{EachPut, each-starts, each-goes-on, each-ends}
+use Rattle.fair_copies.proofs.EachPut.{each-starts, each-goes-on, each-ends}
 use native.Mathlib.Omega.{arith}
 use Rattle.fair_copies.proofs.parts.put_items.Goals.{After-loop-i, In-loop-i}
 use Rattle.fair_copies.proofs.parts.put_items.Goals as goal

@@ -1,11 +1,8 @@
-use mathlib.Core.Path.{◌≡◌, refl, ◌∙◌}
-use Prim.Native.Nat.{◌+◌, ◌*◌, ◌-◌, ◌≤◌}
+use mathlib.Core.Path.{◌≡◌}
+use Prim.Native.Nat.{◌+◌, ◌*◌, ◌-◌}
 use lib.ListN.{length}
-use Rattle.buffers.specs.Written.{Written}
-use Rattle.buffers.proofs.WritingLaws.{written-length}
-use Rattle.fair_copies.specs.Items.{item_bytes, items_bytes, GoodItem}
-use Rattle.fair_copies.proofs.EachPut.{EachPut, each-starts, each-goes-on, each-ends}
-use native.Mathlib.Omega.{arith}
+use Rattle.fair_copies.specs.Items.{item_bytes}
+use Rattle.fair_copies.proofs.EachPut.{EachPut}
 use Rattle.fair_copies.proofs.parts.put_items.Given as goal
 
 abbrev pub invariant-loop-i : goal.invariant-loop-i

@@ -9,7 +9,6 @@ use Rattle.models.specs.Index.{entry, span_rows}
 use Rattle.buffers.specs.Written.{Written}
 use Rattle.buffers.proofs.WritingLaws.{as-put}
 use Rattle.fair_models.specs.FairCopy.{fair_condition}
-use borrow.Author.Rules.{rules}
 use native.Mathlib.Omega.{arith}
 use Rattle.fair_copies.proofs.parts.put_span.Goals as goal
 
@@ -19,12 +18,15 @@ overflow_cast-rows c = omega (arith, c.number_at-rows.ensures, c.requires.model_
 pub put_condition-requires : goal.put_condition-requires
 put_condition-requires c =
     let a = c.args in
-    let g = c.requires.model_len_bound.1.1 in record { good_stretch = record {
+    let g = c.requires.model_len_bound.1.1 in record {
+      good_stretch = record {
         within = λ j h. subst (λ (v : ℕ). c.number_at-first.result + row_bytes v a.n * (j + 1) ≤ length a.model.now) (sym c.version_of-version.ensures) (subst (λ (p : ℕ). p + row_bytes (entry a.index.now 11) a.n * (j + 1) ≤ length a.model.now) (sym c.number_at-first.ensures) (g.within j (omega (arith, c.number_at-rows.ensures))));
         short = c.requires.model_len_bound.0;
         wide = c.requires.at_bound.1.0;
         few = omega (arith, c.number_at-rows.ensures, g.few);
-      }; at_bound = (omega (arith, c.requires.at_bound.0), c.requires.at_bound.1.1) }
+      };
+      at_bound = (omega (arith, c.requires.at_bound.0), c.requires.at_bound.1.1);
+    }
 
 pub returns : goal.returns
 unfolding span_rows

@@ -1,11 +1,10 @@
 -- Condition by condition. Assumes nothing.
-use mathlib.Core.Path.{◌≡◌, refl, ◌∙◌}
-use Prim.Native.Nat.{◌+◌, ◌*◌, ◌-◌, ◌≤◌}
-use lib.ListN.{length}
+use mathlib.Core.Path.{refl, ◌∙◌}
+use Prim.Native.Nat.{◌+◌, ◌*◌, ◌≤◌}
 use Rattle.buffers.specs.Written.{Written}
 use Rattle.buffers.proofs.WritingLaws.{written-length}
 use Rattle.fair_copies.specs.Items.{span_bytes, spans_bytes}
-use Rattle.fair_copies.proofs.EachPut.{EachPut, each-starts, each-goes-on, each-ends}
+use Rattle.fair_copies.proofs.EachPut.{each-starts, each-goes-on, each-ends}
 use native.Mathlib.Omega.{arith}
 use Rattle.fair_copies.proofs.parts.put_spans.Goals.{After-loop-i}
 use Rattle.fair_copies.proofs.parts.put_spans.Goals as goal

@@ -2,7 +2,6 @@
 use mathlib.Core.Path.{◌≡◌, sym, ap, ◌∙◌}
 use Prim.Native.Nat.{ℕ}
 use native.Mathlib.Omega.{arith}
-use borrow.Author.Rules.{rules}
 use Rattle.formats.specs.Reading.{got, u8, within, many}
 use Rattle.formats.specs.Rows.{read_row, read_condition}
 use Rattle.fields.specs.Places.{rows_from}

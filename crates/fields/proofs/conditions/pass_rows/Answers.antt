@@ -1,7 +1,6 @@
 -- All bytes are there, or the first cut number is a whole number of fields on. Assumes nothing.
 use mathlib.Core.Path.{sym, ap, ◌∙◌}
 use native.Mathlib.Omega.{arith}
-use borrow.Author.Rules.{rules}
 use Rattle.fields.specs.Places.{rows_from}
 use Rattle.formats.specs.Reading.{got}
 use Prim.Native.Nat.{ℕ, ◌+◌}

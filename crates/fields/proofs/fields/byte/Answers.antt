@@ -6,7 +6,6 @@ use native.Mathlib.Omega.{arith}
 use Rattle.formats.specs.Reading.{got, u8}
 use Rattle.fields.specs.Answers.{got_field}
 use Rattle.formats.proofs.FieldLaws.{field-got, field_cut, byte_at}
-use borrow.Author.Rules.{rules}
 use Rattle.fields.proofs.fields.byte.Goals as goal
 
 -- src/fields.rt:17:22

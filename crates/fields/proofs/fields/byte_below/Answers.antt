@@ -1,6 +1,5 @@
 -- The byte, then the test. Assumes nothing.
 use mathlib.Core.Path.{ap, ◌∙◌}
-use borrow.Author.Rules.{rules}
 use lib.Dec.{ltb}
 use Rattle.formats.specs.Reading.{passing, must, below}
 use Rattle.fields.proofs.fields.byte_below.Goals as goal

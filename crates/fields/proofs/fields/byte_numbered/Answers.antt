@@ -1,6 +1,5 @@
 -- The byte, then the test: below the count, or 255, or neither. Assumes nothing.
 use mathlib.Core.Path.{sym, ap, ◌∙◌}
-use borrow.Author.Rules.{rules}
 use Rattle.formats.specs.Reading.{passing, must}
 use Rattle.fields.specs.Answers.{got_field}
 use Rattle.fields.proofs.AnswerLaws.{field-value, field-refused}

@@ -3,7 +3,6 @@ use mathlib.Core.Path.{ap, ◌∙◌}
 use mathlib.Core.Bool.{◌&&◌}
 use lib.Dec.{leb}
 use Rattle.formats.specs.Reading.{passing, must, within}
-use borrow.Author.Rules.{rules}
 use Rattle.fields.proofs.fields.half_within.Goals as goal
 
 pub returns : goal.returns

@@ -6,7 +6,6 @@ use Rattle.formats.specs.Reading.{passing}
 use Rattle.fields.specs.Answers.{got_field}
 use Rattle.fields.proofs.AnswerLaws.{field-value, field-refused}
 use Rattle.formats.proofs.FieldLaws.{range-low, range-high, range-in}
-use borrow.Author.Rules.{rules}
 use Rattle.fields.proofs.fields.in_range.Goals as goal
 
 pub returns-then-value-least : goal.returns-then-value-least

@@ -1,6 +1,5 @@
 -- By the cases of the field, then by its value below the count or not. Assumes nothing.
 use mathlib.Core.Path.{sym, ap, ◌∙◌}
-use borrow.Author.Rules.{rules}
 use lib.Dec.{ltb}
 use Rattle.formats.specs.Reading.{passing}
 use Rattle.fields.specs.Answers.{got_field}

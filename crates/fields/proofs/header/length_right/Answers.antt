@@ -1,6 +1,5 @@
 -- The tests of the length one by one. Assumes nothing.
 use native.Mathlib.Omega.{arith}
-use borrow.Author.Rules.{rules}
 use Rattle.fields.proofs.HeaderLaws.{length-short, length-long, length-told}
 use Rattle.fields.proofs.header.length_right.Goals as goal
 

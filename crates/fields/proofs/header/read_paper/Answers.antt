@@ -1,7 +1,6 @@
 -- A word where the version has it. Assumes nothing.
 use mathlib.Core.Path.{sym, ap, ◌∙◌}
 use mathlib.Core.Bool.{Bool}
-use borrow.Author.Rules.{rules}
 use Rattle.formats.specs.Reading.{give, paper_if, read_paper}
 use Rattle.fields.specs.Answers.{got_field}
 use Rattle.fields.proofs.header.read_paper.Goals as goal

@@ -1,6 +1,5 @@
 -- A word for each coefficient, and one for the bound. Assumes nothing.
 use mathlib.Core.Path.{refl}
-use borrow.Author.Rules.{rules}
 use Rattle.formats.specs.Versions.{row_bytes}
 use Rattle.fields.proofs.versions.row_bytes.Goals as goal
 

@@ -1,11 +1,9 @@
 -- Region and invariants, invariants on x', flow rows, the time and what follows it. Assumes nothing.
 use native.Mathlib.Omega.{arith}
-use borrow.Author.Rules.{rules}
 use Rattle.papers.proofs.StandingLaws.{invariant-good, flow-good}
 use Rattle.hypotheses.specs.Listing.{flow_lines}
 use Rattle.hypotheses.proofs.TableLaws.{pushed, pushed_then, as-promised}
 use Rattle.hypotheses.proofs.ModeLines.{few-rows}
-use borrow.Author.Rules.{rules}
 use Rattle.hypotheses.proofs.groups.flow_table.Goals as goal
 
 pub push_modes-after-requires : goal.push_modes-after-requires

@@ -2,10 +2,8 @@
 use mathlib.Core.Path.{◌≡◌, sym, ap, ◌∙◌}
 use Prim.Native.Nat.{◌+◌}
 use native.Mathlib.Omega.{arith}
-use borrow.Author.Rules.{rules}
 use Prim.Native.Nat.{◌-◌}
 use Rattle.hypotheses.specs.Listing.{group_tasks_for}
-use borrow.Author.Rules.{rules}
 use Rattle.hypotheses.proofs.groups.group_at.Goals as goal
 
 pub returns-then-g-eq0 : goal.returns-then-g-eq0

@@ -1,12 +1,10 @@
 -- The target's invariants, the jump rows, the staying variables. Assumes nothing.
 use native.Mathlib.Omega.{arith}
-use borrow.Author.Rules.{rules}
 use Rattle.models.specs.Counts.{per_component}
 use Rattle.papers.proofs.StandingLaws.{invariant-good}
 use Rattle.hypotheses.specs.Listing.{landing_lines}
 use Rattle.hypotheses.proofs.TableLaws.{pushed, pushed_then, as-promised}
 use Rattle.hypotheses.proofs.ModeLines.{few-rows, few-jumps}
-use borrow.Author.Rules.{rules}
 use Rattle.hypotheses.proofs.groups.jump_table.Goals as goal
 
 pub push_modes-after-requires : goal.push_modes-after-requires

@@ -1,6 +1,5 @@
 -- The time, then the variables. Assumes nothing.
 use native.Mathlib.Omega.{arith}
-use borrow.Author.Rules.{rules}
 use Rattle.hypotheses.proofs.TableLaws.{pushed, pushed_then, as-promised}
 use Rattle.hypotheses.proofs.groups.push_time.Goals as goal
 

@@ -4,7 +4,6 @@ use Prim.Native.Nat.{◌*◌}
 use native.Mathlib.Omega.{arith}
 use Rattle.models.specs.Index.{entry}
 use Rattle.hypotheses.specs.Listing.{region_group}
-use borrow.Author.Rules.{rules}
 use Rattle.hypotheses.proofs.groups.region_group.Goals as goal
 
 pub overflow_cast-from-2 : goal.overflow_cast-from-2

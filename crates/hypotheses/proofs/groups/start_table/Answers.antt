@@ -1,11 +1,9 @@
 -- The initial rows, then the invariants. Assumes nothing.
 use native.Mathlib.Omega.{arith}
-use borrow.Author.Rules.{rules}
 use Rattle.papers.proofs.StandingLaws.{initial-good, invariant-good}
 use Rattle.hypotheses.specs.Listing.{start_lines}
 use Rattle.hypotheses.proofs.TableLaws.{pushed, pushed_then, as-promised}
 use Rattle.hypotheses.proofs.ModeLines.{few-rows}
-use borrow.Author.Rules.{rules}
 use Rattle.hypotheses.proofs.groups.start_table.Goals as goal
 
 pub push_modes-at-requires : goal.push_modes-at-requires

@@ -3,7 +3,6 @@ use mathlib.Core.Path.{refl}
 use Prim.Native.Nat.{◌*◌}
 use native.Mathlib.Omega.{arith}
 use Rattle.models.specs.Index.{entry}
-use borrow.Author.Rules.{rules}
 use Rattle.hypotheses.proofs.tables.lines.Goals as goal
 
 pub overflow_cast-result : goal.overflow_cast-result

@@ -3,7 +3,6 @@ use native.Mathlib.Omega.{arith}
 use lib.ListN.{length-set}
 use Rattle.models.specs.Index.{entry}
 use Rattle.hypotheses.proofs.TableLaws.{after, pushed-one, as-promised}
-use borrow.Author.Rules.{rules}
 use Rattle.hypotheses.proofs.tables.push.Goals as goal
 
 pub overflow_add-table : goal.overflow_add-table

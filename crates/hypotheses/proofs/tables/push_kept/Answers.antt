@@ -1,7 +1,6 @@
 -- Two numbers of the index, handed on. Assumes nothing.
 use Rattle.models.specs.Index.{entry}
 use Rattle.hypotheses.specs.Listing.{kept_lines}
-use borrow.Author.Rules.{rules}
 use Rattle.hypotheses.proofs.tables.push_kept.Goals as goal
 
 pub push-requires : goal.push-requires

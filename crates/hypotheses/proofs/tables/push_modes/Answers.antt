@@ -1,13 +1,13 @@
 -- What was pushed, with the modes from this component on, is the whole. Assumes nothing.
 use mathlib.Core.Path.{◌≡◌, sym, ap, subst}
-use Prim.Native.Nat.{ℕ, ◌+◌, ◌-◌, ◌≤◌, ◌<◌}
+use Prim.Native.Nat.{ℕ, ◌+◌, ◌≤◌, ◌<◌}
 use native.Mathlib.Omega.{arith}
 use borrow.Author.Rules.{rules}
 use lib.ListN.{length, get_or}
 use Rattle.models.specs.Index.{entry, component_place, mode_place}
 use Rattle.hypotheses.specs.Listing.{kept_lines}
-use Rattle.hypotheses.proofs.TableLaws.{pushed, pushed-as, as-promised, Pushing, pushing-none, pushing-on, pushing-end}
-use Rattle.hypotheses.proofs.ModeLines.{mode-within, modes_on, modes-next, modes-end}
+use Rattle.hypotheses.proofs.TableLaws.{pushed, pushed-as, as-promised, pushing-none, pushing-on, pushing-end}
+use Rattle.hypotheses.proofs.ModeLines.{mode-within, modes-next, modes-end}
 use Rattle.hypotheses.proofs.tables.push_modes.Goals.{In-loop-k, Start}
 use Rattle.hypotheses.proofs.tables.push_modes.Goals as goal
 

@@ -1,12 +1,7 @@
-use mathlib.Core.Path.{◌≡◌, sym, ap, subst}
-use Prim.Native.Nat.{ℕ, ◌+◌, ◌-◌, ◌≤◌, ◌<◌}
-use native.Mathlib.Omega.{arith}
-use borrow.Author.Rules.{rules}
-use lib.ListN.{length, get_or}
-use Rattle.models.specs.Index.{entry, component_place, mode_place}
-use Rattle.hypotheses.specs.Listing.{kept_lines}
-use Rattle.hypotheses.proofs.TableLaws.{pushed, pushed-as, as-promised, Pushing, pushing-none, pushing-on, pushing-end}
-use Rattle.hypotheses.proofs.ModeLines.{mode-within, modes_on, modes-next, modes-end}
+use Prim.Native.Nat.{◌-◌}
+use Rattle.models.specs.Index.{entry}
+use Rattle.hypotheses.proofs.TableLaws.{Pushing}
+use Rattle.hypotheses.proofs.ModeLines.{modes_on}
 use Rattle.hypotheses.proofs.tables.push_modes.Given as goal
 
 abbrev pub invariant-loop-k : goal.invariant-loop-k

@@ -1,13 +1,9 @@
-use mathlib.Core.Path.{◌≡◌, ap}
-use mathlib.Core.Bool.{Bool}
-use Prim.Native.Nat.{◌-◌, ◌<◌}
-use native.Mathlib.Omega.{arith}
-use borrow.Author.Rules.{rules}
+use Prim.Native.Nat.{◌-◌}
 use Rattle.models.specs.Index.{entry}
 use Rattle.papers.specs.Blanks.{stays_at}
-use Rattle.hypotheses.specs.Listing.{variable_line, variable_at, variable_lines}
-use Rattle.hypotheses.proofs.TableLaws.{pushed, pushed-as, as-promised, Pushing, pushing-none, pushing-on, pushing-end}
-use Rattle.papers.proofs.JoinedLaws.{joined_on, joined-first, joined-none, joined-whole}
+use Rattle.hypotheses.specs.Listing.{variable_at}
+use Rattle.hypotheses.proofs.TableLaws.{Pushing}
+use Rattle.papers.proofs.JoinedLaws.{joined_on}
 use Rattle.hypotheses.proofs.tables.push_owned.Given as goal
 
 abbrev pub invariant-loop-v : goal.invariant-loop-v

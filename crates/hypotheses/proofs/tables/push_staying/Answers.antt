@@ -1,7 +1,5 @@
 -- Owners alone where no blank is kept; else the variables that a jump keeps. Assumes nothing.
 use mathlib.Core.Path.{◌≡◌, sym, ap, ◌∙◌}
-use borrow.Author.Rules.{rules}
-use borrow.Author.Tests.{not-true}
 use Rattle.formats.specs.Versions.{keeps_blanks}
 use Rattle.models.specs.Index.{entry}
 use Rattle.papers.specs.Blanks.{KnownIn}

@@ -1,11 +1,10 @@
 -- What was pushed, with the switches from this component on, is the whole. Assumes nothing.
-use Prim.Native.Nat.{◌-◌, ◌≤◌, ◌<◌}
+use Prim.Native.Nat.{◌≤◌, ◌<◌}
 use native.Mathlib.Omega.{arith}
-use borrow.Author.Rules.{rules}
 use lib.ListN.{length}
 use Rattle.models.specs.Index.{entry}
-use Rattle.hypotheses.proofs.TableLaws.{pushed, as-promised, Pushing, pushing-none, pushing-on, pushing-end}
-use Rattle.hypotheses.proofs.ModeLines.{switches_on, switches-next, switches-end}
+use Rattle.hypotheses.proofs.TableLaws.{pushed, as-promised, pushing-none, pushing-on, pushing-end}
+use Rattle.hypotheses.proofs.ModeLines.{switches-next, switches-end}
 use Rattle.hypotheses.proofs.tables.push_switches.Goals.{In-loop-k, Start}
 use Rattle.hypotheses.proofs.tables.push_switches.Goals as goal
 

@@ -1,10 +1,7 @@
-use Prim.Native.Nat.{◌-◌, ◌≤◌, ◌<◌}
-use native.Mathlib.Omega.{arith}
-use borrow.Author.Rules.{rules}
-use lib.ListN.{length}
+use Prim.Native.Nat.{◌-◌}
 use Rattle.models.specs.Index.{entry}
-use Rattle.hypotheses.proofs.TableLaws.{pushed, as-promised, Pushing, pushing-none, pushing-on, pushing-end}
-use Rattle.hypotheses.proofs.ModeLines.{switches_on, switches-next, switches-end}
+use Rattle.hypotheses.proofs.TableLaws.{Pushing}
+use Rattle.hypotheses.proofs.ModeLines.{switches_on}
 use Rattle.hypotheses.proofs.tables.push_switches.Given as goal
 
 abbrev pub invariant-loop-k : goal.invariant-loop-k

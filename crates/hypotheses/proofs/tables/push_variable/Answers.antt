@@ -1,7 +1,5 @@
 -- Two rows, or none. Assumes nothing.
 use mathlib.Core.Path.{sym}
-use borrow.Author.Rules.{rules}
-use borrow.Author.Tests.{not-true, not-false}
 use Rattle.hypotheses.proofs.TableLaws.{pushed, pushed_none, pushed-as, as-promised}
 use Rattle.hypotheses.proofs.ModeLines.{variable-free, variable-kept}
 use Rattle.hypotheses.proofs.tables.push_variable.Goals as goal

@@ -1,14 +1,13 @@
 -- What was pushed, with the variables from this one on, is the whole. Assumes nothing.
 use mathlib.Core.Path.{◌≡◌, ap}
 use mathlib.Core.Bool.{Bool}
-use Prim.Native.Nat.{◌-◌, ◌<◌}
+use Prim.Native.Nat.{◌<◌}
 use native.Mathlib.Omega.{arith}
-use borrow.Author.Rules.{rules}
 use Rattle.models.specs.Index.{entry}
 use Rattle.papers.specs.Blanks.{keeps_at}
 use Rattle.hypotheses.specs.Listing.{variable_line, variable_at, variable_lines}
-use Rattle.hypotheses.proofs.TableLaws.{pushed, pushed-as, as-promised, Pushing, pushing-none, pushing-on, pushing-end}
-use Rattle.papers.proofs.JoinedLaws.{joined_on, joined-first, joined-none, joined-whole}
+use Rattle.hypotheses.proofs.TableLaws.{pushed, pushed-as, as-promised, pushing-none, pushing-on, pushing-end}
+use Rattle.papers.proofs.JoinedLaws.{joined-first, joined-none, joined-whole}
 use Rattle.hypotheses.proofs.tables.push_variables.Goals.{In-loop-v}
 use Rattle.hypotheses.proofs.tables.push_variables.Goals as goal
 

@@ -1,6 +1,5 @@
 -- The model, then the count of its joint switches; the index is the sheet's. Assumes nothing.
 use mathlib.Core.Path.{ap, ◌∙◌}
-use borrow.Author.Rules.{rules}
 use Rattle.models.specs.Index.{model_from}
 use Rattle.rules.specs.declared.Answer.{Answer}
 use Rattle.joint_lists.proofs.ListLaws.{list-refused, list_read, index_of}

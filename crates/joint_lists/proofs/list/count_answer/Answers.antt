@@ -1,6 +1,5 @@
 -- The count that the index keeps. Assumes nothing.
 use native.Mathlib.Omega.{arith}
-use borrow.Author.Rules.{rules}
 use lib.ListN.{length}
 use Rattle.models.specs.Index.{entry, components_from}
 use Rattle.rules.specs.Marking.{answer}

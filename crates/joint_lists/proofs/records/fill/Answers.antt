@@ -1,12 +1,10 @@
 -- Each turn packs the record that stands first in what is left of the slot; a slot that is passed leaves the next one. Assumes nothing.
 use mathlib.Core.Path.{sym, ap, ◌∙◌}
-use Prim.Native.Nat.{◌-◌}
 use native.Mathlib.Omega.{arith}
-use borrow.Author.Rules.{rules}
 use Rattle.joint_switches.specs.declared.Landing.{Landing}
 use Rattle.joint_lists.specs.Batches.{record_by}
 use Rattle.joint_lists.proofs.RecordLaws.{records-here}
-use Rattle.joint_lists.proofs.BatchLaws.{Filling, filling-starts, filling-goes-on, filling-passes}
+use Rattle.joint_lists.proofs.BatchLaws.{filling-starts, filling-goes-on, filling-passes}
 use Rattle.joint_lists.proofs.records.fill.Goals as goal
 
 pub loop-y-init : goal.loop-y-init

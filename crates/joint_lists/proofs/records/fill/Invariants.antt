@@ -1,11 +1,5 @@
-use mathlib.Core.Path.{sym, ap, ◌∙◌}
 use Prim.Native.Nat.{◌-◌}
-use native.Mathlib.Omega.{arith}
-use borrow.Author.Rules.{rules}
-use Rattle.joint_switches.specs.declared.Landing.{Landing}
-use Rattle.joint_lists.specs.Batches.{record_by}
-use Rattle.joint_lists.proofs.RecordLaws.{records-here}
-use Rattle.joint_lists.proofs.BatchLaws.{Filling, filling-starts, filling-goes-on, filling-passes}
+use Rattle.joint_lists.proofs.BatchLaws.{Filling}
 use Rattle.joint_lists.proofs.records.fill.Given as goal
 
 abbrev pub invariant-loop-y : goal.invariant-loop-y

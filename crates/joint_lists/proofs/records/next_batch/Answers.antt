@@ -1,10 +1,8 @@
 -- Slot after slot is packed, until the words are full or the slots are passed. Assumes nothing.
 use mathlib.Core.Path.{◌∙◌}
-use Prim.Native.Nat.{◌+◌, ◌-◌}
 use native.Mathlib.Omega.{arith}
-use borrow.Author.Rules.{rules}
 use Rattle.models.specs.Index.{entry}
-use Rattle.joint_lists.proofs.BatchLaws.{Batching, batching-starts, batching-full, batching-over}
+use Rattle.joint_lists.proofs.BatchLaws.{batching-starts, batching-full, batching-over}
 use Rattle.joint_lists.proofs.records.next_batch.Goals as goal
 
 pub overflow_mul-slots : goal.overflow_mul-slots

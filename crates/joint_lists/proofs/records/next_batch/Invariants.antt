@@ -1,9 +1,5 @@
-use mathlib.Core.Path.{◌∙◌}
 use Prim.Native.Nat.{◌+◌, ◌-◌}
-use native.Mathlib.Omega.{arith}
-use borrow.Author.Rules.{rules}
-use Rattle.models.specs.Index.{entry}
-use Rattle.joint_lists.proofs.BatchLaws.{Batching, batching-starts, batching-full, batching-over}
+use Rattle.joint_lists.proofs.BatchLaws.{Batching}
 use Rattle.joint_lists.proofs.records.next_batch.Given as goal
 
 abbrev pub invariant-loop-slot : goal.invariant-loop-slot

@@ -1,6 +1,5 @@
 -- By the definition. Assumes nothing.
 use mathlib.Core.Path.{refl}
-use borrow.Author.Rules.{rules}
 use Rattle.joint_lists.specs.Batches.{unpacked_of}
 use Rattle.joint_lists.proofs.records.unpacked.Goals as goal
 

@@ -1,6 +1,5 @@
 -- By cases: in the scope or not. Assumes nothing.
 use mathlib.Core.Path.{sym}
-use borrow.Author.Rules.{rules}
 use Rattle.models.specs.Counts.{component_at}
 use Rattle.joint_switches.proofs.IntoLaws.{arrivals-member, arrivals-other}
 use Rattle.joint_switches.proofs.into.arrivals_of.Goals as goal

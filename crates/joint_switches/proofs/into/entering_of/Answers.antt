@@ -1,6 +1,5 @@
 -- The number that the table has. Assumes nothing.
 use native.Mathlib.Omega.{arith}
-use borrow.Author.Rules.{rules}
 use Rattle.models.specs.Counts.{component_at}
 use Rattle.models.proofs.GoodIndexLaws.{good-component}
 use Rattle.joint_switches.proofs.NumberedLaws.{entering-told, entering-few}

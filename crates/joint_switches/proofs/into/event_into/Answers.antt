@@ -1,7 +1,6 @@
 -- By cases: the index says that the event has no joint switch, or that it has some. Assumes nothing.
 use mathlib.Core.Path.{◌≡◌, sym, ◌∙◌}
 use native.Mathlib.Omega.{arith}
-use borrow.Author.Rules.{rules}
 use Rattle.formats.specs.JointTotals.{event_total}
 use Rattle.models.specs.Index.{entry, components_from}
 use Rattle.models.specs.Counts.{per_component}

@@ -1,10 +1,8 @@
 -- What has been counted are those of the events so far. Assumes nothing.
-use mathlib.Core.Path.{◌≡◌}
-use Prim.Native.Nat.{◌-◌, ◌≤◌}
+use Prim.Native.Nat.{◌≤◌}
 use native.Mathlib.Omega.{arith}
 use lib.ListN.{length}
-use Rattle.formats.specs.Joint.{count_up}
-use Rattle.formats.specs.JointTotals.{sum_over, event_into}
+use Rattle.formats.specs.JointTotals.{event_into}
 use Rattle.models.specs.Index.{entry, components_from}
 use Rattle.models.specs.Counts.{per_component}
 use Rattle.formats.proofs.SumLaws.{sum-next, sum-most}

@@ -1,13 +1,9 @@
 use mathlib.Core.Path.{◌≡◌}
 use Prim.Native.Nat.{◌-◌, ◌≤◌}
-use native.Mathlib.Omega.{arith}
-use lib.ListN.{length}
 use Rattle.formats.specs.Joint.{count_up}
 use Rattle.formats.specs.JointTotals.{sum_over, event_into}
-use Rattle.models.specs.Index.{entry, components_from}
+use Rattle.models.specs.Index.{components_from}
 use Rattle.models.specs.Counts.{per_component}
-use Rattle.formats.proofs.SumLaws.{sum-next, sum-most}
-use Rattle.joint_switches.proofs.IntoLaws.{event-starts, event-few, into-counted}
 use Rattle.joint_switches.proofs.into.joints_into.Given as goal
 
 abbrev pub invariant-loop-e : goal.invariant-loop-e

@@ -1,12 +1,8 @@
-use mathlib.Core.Path.{◌≡◌, ap, ◌∙◌}
-use Prim.Native.Nat.{ℕ, ◌-◌, ◌<◌, ◌≤◌}
-use native.Mathlib.Omega.{arith}
-use lib.Arith.{le-zero}
-use lib.ListN.{length}
+use mathlib.Core.Path.{◌≡◌}
+use Prim.Native.Nat.{◌≤◌}
 use Rattle.models.specs.Index.{entry}
 use Rattle.joint_switches.proofs.JointLoops.{components_on, numbers_on}
 use Rattle.formats.specs.JointTotals.{silent_into}
-use Rattle.joint_switches.proofs.IntoLaws.{silent-few, silent-starts, silent-goes-on}
 use Rattle.joint_switches.proofs.into.silent_into.Given as goal
 
 abbrev pub invariant-loop-k : goal.invariant-loop-k

@@ -1,12 +1,8 @@
-use mathlib.Core.Path.{◌≡◌, ap, ◌∙◌}
-use Prim.Native.Nat.{ℕ, ◌-◌, ◌≤◌, ◌<◌}
-use native.Mathlib.Omega.{arith}
-use lib.Arith.{le-zero}
-use lib.ListN.{length}
+use mathlib.Core.Path.{◌≡◌}
+use Prim.Native.Nat.{◌≤◌}
 use Rattle.formats.specs.JointTotals.{together_into}
 use Rattle.models.specs.Index.{entry}
 use Rattle.joint_switches.proofs.JointLoops.{components_on, numbers_on}
-use Rattle.joint_switches.proofs.IntoLaws.{together-starts, together-goes-on, together-few}
 use Rattle.joint_switches.proofs.into.together_into.Given as goal
 
 abbrev pub invariant-loop-k : goal.invariant-loop-k

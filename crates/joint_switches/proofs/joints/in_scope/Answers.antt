@@ -1,7 +1,6 @@
 -- The alphabet that an index keeps. Assumes nothing.
 use mathlib.Core.Path.{ap, ◌∙◌}
 use Prim.Native.Nat.{ℕ}
-use borrow.Author.Rules.{rules}
 use Rattle.formats.specs.Model.{has_event}
 use Rattle.models.specs.Index.{entry, component_place, component_from}
 use Rattle.models.specs.Counts.{component_at}

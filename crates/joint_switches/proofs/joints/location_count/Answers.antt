@@ -1,10 +1,9 @@
 -- What has been counted is the number of locations of the components from here on. Assumes nothing.
-use mathlib.Core.Path.{◌≡◌, ap, ◌∙◌}
-use Prim.Native.Nat.{ℕ, ◌-◌, ◌≤◌}
+use mathlib.Core.Path.{ap, ◌∙◌}
+use Prim.Native.Nat.{ℕ, ◌-◌}
 use native.Mathlib.Omega.{arith}
 use lib.Arith.{le-zero}
 use Rattle.formats.specs.Locations.{location_count}
-use Rattle.models.specs.Index.{entry}
 use Rattle.joint_switches.proofs.JointLoops.{components_on, count-starts, count-goes-on, count-few}
 use Rattle.joint_switches.proofs.joints.location_count.Goals as goal
 

@@ -1,10 +1,8 @@
-use mathlib.Core.Path.{◌≡◌, ap, ◌∙◌}
-use Prim.Native.Nat.{ℕ, ◌-◌, ◌≤◌}
-use native.Mathlib.Omega.{arith}
-use lib.Arith.{le-zero}
+use mathlib.Core.Path.{◌≡◌}
+use Prim.Native.Nat.{◌≤◌}
 use Rattle.formats.specs.Locations.{location_count}
 use Rattle.models.specs.Index.{entry}
-use Rattle.joint_switches.proofs.JointLoops.{components_on, count-starts, count-goes-on, count-few}
+use Rattle.joint_switches.proofs.JointLoops.{components_on}
 use Rattle.joint_switches.proofs.joints.location_count.Given as goal
 
 abbrev pub invariant-loop-k : goal.invariant-loop-k

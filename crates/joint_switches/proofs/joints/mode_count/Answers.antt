@@ -1,7 +1,6 @@
 -- The number that an index keeps. Assumes nothing.
 use mathlib.Core.Path.{sym}
 use native.Mathlib.Omega.{arith}
-use borrow.Author.Rules.{rules}
 use Rattle.models.specs.Index.{entry, component_place}
 use Rattle.models.proofs.GoodIndexLaws.{mode-length}
 use Rattle.joint_switches.proofs.joints.mode_count.Goals as goal

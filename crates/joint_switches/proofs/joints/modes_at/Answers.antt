@@ -1,14 +1,11 @@
 -- The digits that have been taken off are the modes of the components from here on. Assumes nothing.
-use mathlib.Core.Path.{◌≡◌, refl, sym}
-use mathlib.Core.List.{◌++◌}
-use Prim.Native.Nat.{◌-◌, ◌/◌, ◌≤◌}
+use mathlib.Core.Path.{refl, sym}
+use Prim.Native.Nat.{◌-◌}
 use native.Mathlib.Nat.{mod-lt, div-one}
 use native.Mathlib.Omega.{arith}
-use lib.ListN.{replicate}
 use Rattle.formats.specs.Locations.{location_count}
-use Rattle.models.specs.Index.{entry}
 use Rattle.models.proofs.GoodIndexLaws.{good-component}
-use Rattle.joint_switches.proofs.JointLoops.{quotient-left, components_on, modes_on, count-starts, count-goes-on, modes-start, modes-go-on, modes-end}
+use Rattle.joint_switches.proofs.JointLoops.{quotient-left, components_on, count-starts, count-goes-on, modes-start, modes-go-on, modes-end}
 use Rattle.joint_switches.proofs.joints.modes_at.Goals as goal
 
 pub component_count-k-requires : goal.component_count-k-requires

@@ -1,13 +1,10 @@
-use mathlib.Core.Path.{◌≡◌, refl, sym}
+use mathlib.Core.Path.{◌≡◌}
 use mathlib.Core.List.{◌++◌}
-use Prim.Native.Nat.{◌-◌, ◌/◌, ◌≤◌}
-use native.Mathlib.Nat.{mod-lt, div-one}
-use native.Mathlib.Omega.{arith}
+use Prim.Native.Nat.{◌/◌, ◌≤◌}
 use lib.ListN.{replicate}
 use Rattle.formats.specs.Locations.{location_count}
 use Rattle.models.specs.Index.{entry}
-use Rattle.models.proofs.GoodIndexLaws.{good-component}
-use Rattle.joint_switches.proofs.JointLoops.{quotient-left, components_on, modes_on, count-starts, count-goes-on, modes-start, modes-go-on, modes-end}
+use Rattle.joint_switches.proofs.JointLoops.{components_on, modes_on}
 use Rattle.joint_switches.proofs.joints.modes_at.Given as goal
 
 abbrev pub invariant-loop-k : goal.invariant-loop-k

@@ -1,11 +1,9 @@
 -- The mask that has been made is that of the components from here on. Assumes nothing.
-use mathlib.Core.Path.{◌≡◌, ap, ◌∙◌}
-use Prim.Native.Nat.{ℕ, ◌-◌, ◌≤◌}
+use mathlib.Core.Path.{ap, ◌∙◌}
+use Prim.Native.Nat.{ℕ, ◌-◌}
 use native.Mathlib.Omega.{arith}
-use borrow.Author.Rules.{rules}
 use lib.Arith.{le-zero}
 use Rattle.formats.specs.Joint.{scope_mask}
-use Rattle.models.specs.Index.{entry}
 use Rattle.joint_switches.proofs.JointLoops.{components_on, mask-starts, mask-goes-on, mask-few}
 use Rattle.joint_switches.proofs.joints.scope_mask.Goals as goal
 

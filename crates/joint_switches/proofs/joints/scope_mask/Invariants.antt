@@ -1,11 +1,8 @@
-use mathlib.Core.Path.{◌≡◌, ap, ◌∙◌}
-use Prim.Native.Nat.{ℕ, ◌-◌, ◌≤◌}
-use native.Mathlib.Omega.{arith}
-use borrow.Author.Rules.{rules}
-use lib.Arith.{le-zero}
+use mathlib.Core.Path.{◌≡◌}
+use Prim.Native.Nat.{◌≤◌}
 use Rattle.formats.specs.Joint.{scope_mask}
 use Rattle.models.specs.Index.{entry}
-use Rattle.joint_switches.proofs.JointLoops.{components_on, mask-starts, mask-goes-on, mask-few}
+use Rattle.joint_switches.proofs.JointLoops.{components_on}
 use Rattle.joint_switches.proofs.joints.scope_mask.Given as goal
 
 abbrev pub invariant-loop-k : goal.invariant-loop-k

@@ -1,13 +1,12 @@
 -- What has been counted, with the switches still to come from here on, is the whole; places of other components stay. Assumes nothing.
-use mathlib.Core.Path.{◌≡◌, refl, ◌∙◌}
-use Prim.Native.Nat.{◌+◌, ◌*◌, ◌-◌, ◌≤◌, ◌<◌}
+use mathlib.Core.Path.{refl, ◌∙◌}
+use Prim.Native.Nat.{◌+◌, ◌*◌, ◌<◌}
 use native.Mathlib.Omega.{arith}
 use lib.ListN.{length, get_or, length-set}
-use Rattle.models.specs.Index.{Kept}
 use Rattle.models.specs.Counts.{component_at}
 use Rattle.models.proofs.IndexLaws.{kept-none, kept_set, kept_then}
 use Rattle.joint_switches.proofs.TableLaws.{switch-within}
-use Rattle.joint_switches.proofs.NumberedLaws.{Counting, counting-starts, counting-ends, place-low, place-high, place-small, counting-few, counting-goes-on}
+use Rattle.joint_switches.proofs.NumberedLaws.{counting-starts, counting-ends, place-low, place-high, place-small, counting-few, counting-goes-on}
 use Rattle.joint_switches.proofs.numbered.count_part.Goals as goal
 
 pub switch_count-switches-requires : goal.switch_count-switches-requires

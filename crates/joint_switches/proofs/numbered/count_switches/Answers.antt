@@ -1,10 +1,6 @@
 -- The components so far are counted, and from the next one on the table is blank. Assumes nothing.
-use mathlib.Core.Path.{◌≡◌, refl, ◌∙◌}
-use Prim.Native.Nat.{ℕ, ◌*◌, ◌-◌, ◌≤◌, ◌<◌}
+use mathlib.Core.Path.{refl, ◌∙◌}
 use native.Mathlib.Omega.{arith}
-use lib.ListN.{length}
-use Rattle.joint_switches.specs.Numbered.{NumberedAt}
-use Rattle.joint_switches.specs.Tables.{Blank}
 use Rattle.joint_switches.proofs.NumberedLaws.{blank-later, numbers-go-on}
 use Rattle.joint_switches.proofs.numbered.count_switches.Goals as goal
 

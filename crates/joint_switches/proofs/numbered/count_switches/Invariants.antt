@@ -1,10 +1,8 @@
-use mathlib.Core.Path.{◌≡◌, refl, ◌∙◌}
+use mathlib.Core.Path.{◌≡◌}
 use Prim.Native.Nat.{ℕ, ◌*◌, ◌-◌, ◌≤◌, ◌<◌}
-use native.Mathlib.Omega.{arith}
 use lib.ListN.{length}
 use Rattle.joint_switches.specs.Numbered.{NumberedAt}
 use Rattle.joint_switches.specs.Tables.{Blank}
-use Rattle.joint_switches.proofs.NumberedLaws.{blank-later, numbers-go-on}
 use Rattle.joint_switches.proofs.numbered.count_switches.Given as goal
 
 abbrev pub invariant-loop-k : goal.invariant-loop-k

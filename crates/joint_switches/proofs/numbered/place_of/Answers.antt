@@ -2,7 +2,6 @@
 use mathlib.Core.Path.{ap}
 use Prim.Native.Nat.{ℕ, ◌+◌, ◌*◌}
 use native.Mathlib.Omega.{arith}
-use borrow.Author.Rules.{rules}
 use Rattle.models.specs.Index.{entry}
 use Rattle.joint_switches.proofs.TableLaws.{target_small, label_small, target_at, label_at, switch-within}
 use Rattle.joint_switches.proofs.NumberedLaws.{block-small, target-part, number-kept}

@@ -1,11 +1,11 @@
 -- The switches so far that leave the mode stand in the table, each in a line. Assumes nothing.
-use mathlib.Core.Path.{◌≡◌, refl, ◌∙◌}
-use Prim.Native.Nat.{◌-◌, ◌≤◌, ◌<◌}
+use mathlib.Core.Path.{refl, ◌∙◌}
+use Prim.Native.Nat.{◌≤◌, ◌<◌}
 use native.Mathlib.Omega.{arith}
 use lib.ListN.{length}
 use Rattle.models.specs.Counts.{component_at}
 use Rattle.models.proofs.GoodIndexLaws.{good-component}
-use Rattle.joint_switches.proofs.LineLaws.{Listing, listing-starts, listing-goes-on, listing-counted, listing-ways, listing-movers}
+use Rattle.joint_switches.proofs.LineLaws.{listing-starts, listing-goes-on, listing-counted, listing-ways, listing-movers}
 use Rattle.joint_switches.proofs.slots.list_leaving.Goals as goal
 
 pub switch_count-switches-requires : goal.switch_count-switches-requires

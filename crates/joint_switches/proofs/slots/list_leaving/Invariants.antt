@@ -1,10 +1,7 @@
-use mathlib.Core.Path.{◌≡◌, refl, ◌∙◌}
-use Prim.Native.Nat.{◌-◌, ◌≤◌, ◌<◌}
-use native.Mathlib.Omega.{arith}
+use mathlib.Core.Path.{◌≡◌}
+use Prim.Native.Nat.{◌-◌, ◌≤◌}
 use lib.ListN.{length}
-use Rattle.models.specs.Counts.{component_at}
-use Rattle.models.proofs.GoodIndexLaws.{good-component}
-use Rattle.joint_switches.proofs.LineLaws.{Listing, listing-starts, listing-goes-on, listing-counted, listing-ways, listing-movers}
+use Rattle.joint_switches.proofs.LineLaws.{Listing}
 use Rattle.joint_switches.proofs.slots.list_leaving.Given as goal
 
 abbrev pub invariant-loop-i : goal.invariant-loop-i

@@ -10,7 +10,7 @@ use Rattle.models.proofs.GoodIndexLaws.{good-component}
 use Rattle.joint_switches.proofs.JointLoops.{components_on}
 use Rattle.joint_switches.proofs.TableLaws.{known-present}
 use Rattle.joint_switches.proofs.SlotLaws.{known-below}
-use Rattle.joint_switches.proofs.SilentLaws.{Passed, passed_none, unit-goes-on, mode-part, silent-fits, passed_on, listed-silent}
+use Rattle.joint_switches.proofs.SilentLaws.{passed_none, unit-goes-on, mode-part, silent-fits, passed_on, listed-silent}
 use Rattle.joint_switches.proofs.slots.list_silent.Goals.{After-mode_count-unit}
 use Rattle.joint_switches.proofs.slots.list_silent.Goals as goal
 

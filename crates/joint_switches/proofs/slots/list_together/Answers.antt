@@ -1,6 +1,6 @@
 -- The ways of the components from here on stand in the table, and their product is counted. Assumes nothing.
 use mathlib.Core.Path.{◌≡◌, refl, sym, ◌∙◌}
-use Prim.Native.Nat.{◌*◌, ◌-◌, ◌≤◌, ◌<◌}
+use Prim.Native.Nat.{◌*◌, ◌-◌, ◌≤◌}
 use native.Mathlib.Omega.{arith}
 use lib.ListN.{length, get_or, set, length-set}
 use Rattle.formats.specs.Locations.{location_count}
@@ -10,7 +10,7 @@ use Rattle.joint_switches.specs.declared.slots.Part.{Part}
 use Rattle.joint_switches.specs.Slots.{together_in}
 use Rattle.formats.proofs.JointCounts.{none-later}
 use Rattle.joint_switches.proofs.JointLoops.{components_on, numbers_on, together_on, count-starts, count-goes-on, count-few, together-starts, together-goes-on, together-few}
-use Rattle.joint_switches.proofs.SlotLaws.{PartsFrom, part-is, known-below, part-fits, parts-go-on, listed-none, listed-together}
+use Rattle.joint_switches.proofs.SlotLaws.{part-is, known-below, part-fits, parts-go-on, listed-none, listed-together}
 use Rattle.joint_switches.proofs.slots.list_together.Goals.{After-mode_count-unit, After-slice_known-in-loop-k-1, In-loop-k}
 use Rattle.joint_switches.proofs.slots.list_together.Goals as goal
 

@@ -1,15 +1,10 @@
-use mathlib.Core.Path.{◌≡◌, refl, sym, ◌∙◌}
-use Prim.Native.Nat.{◌*◌, ◌-◌, ◌≤◌, ◌<◌}
-use native.Mathlib.Omega.{arith}
-use lib.ListN.{length, get_or, set, length-set}
+use mathlib.Core.Path.{◌≡◌}
+use Prim.Native.Nat.{◌≤◌, ◌<◌}
+use lib.ListN.{length}
 use Rattle.formats.specs.Locations.{location_count}
-use Rattle.models.specs.Index.{entry, components_from}
-use Rattle.models.specs.Counts.{per_component}
-use Rattle.joint_switches.specs.declared.slots.Part.{Part}
-use Rattle.joint_switches.specs.Slots.{together_in}
-use Rattle.formats.proofs.JointCounts.{none-later}
-use Rattle.joint_switches.proofs.JointLoops.{components_on, numbers_on, together_on, count-starts, count-goes-on, count-few, together-starts, together-goes-on, together-few}
-use Rattle.joint_switches.proofs.SlotLaws.{PartsFrom, part-is, known-below, part-fits, parts-go-on, listed-none, listed-together}
+use Rattle.models.specs.Index.{entry}
+use Rattle.joint_switches.proofs.JointLoops.{components_on, together_on}
+use Rattle.joint_switches.proofs.SlotLaws.{PartsFrom}
 use Rattle.joint_switches.proofs.slots.list_together.Given as goal
 
 abbrev pub invariant-loop-k : goal.invariant-loop-k

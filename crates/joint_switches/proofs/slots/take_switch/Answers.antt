@@ -1,9 +1,7 @@
 -- By cases: a line is put, or nothing is changed. Assumes nothing.
 use mathlib.Core.Path.{sym, ◌∙◌}
 use native.Mathlib.Omega.{arith}
-use borrow.Author.Rules.{rules}
 use lib.ListN.{length-set}
-use borrow.Author.Tests.{not-true, not-false}
 use Rattle.joint_switches.proofs.TableLaws.{switch-within}
 use Rattle.joint_switches.proofs.LineLaws.{landing-fits, not_taken, line_taken}
 use Rattle.joint_switches.proofs.slots.take_switch.Goals as goal

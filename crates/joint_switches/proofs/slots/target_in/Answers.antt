@@ -1,6 +1,5 @@
 -- The target that an index keeps. Assumes nothing.
 use native.Mathlib.Omega.{arith}
-use borrow.Author.Rules.{rules}
 use Rattle.models.specs.Index.{entry}
 use Rattle.joint_switches.proofs.TableLaws.{target_small, target_at, switch-within}
 use Rattle.joint_switches.proofs.slots.target_in.Goals as goal

@@ -1,12 +1,12 @@
 -- The digits that are taken off are those of the components from here on. Assumes nothing.
-use mathlib.Core.Path.{◌≡◌, refl}
-use Prim.Native.Nat.{ℕ, ◌+◌, ◌*◌, ◌-◌, ◌%◌, ◌≤◌, ◌<◌}
+use mathlib.Core.Path.{refl}
+use Prim.Native.Nat.{ℕ, ◌+◌, ◌*◌, ◌-◌, ◌%◌, ◌<◌}
 use native.Mathlib.Nat.{mod-lt}
 use native.Mathlib.Omega.{arith}
-use lib.ListN.{length, get_or, length-set}
+use lib.ListN.{get_or, length-set}
 use Rattle.formats.specs.Joint.{stays}
 use Rattle.models.specs.Index.{entry}
-use Rattle.joint_switches.proofs.DigitLaws.{Taking, taking-starts, taking-goes-on, taking-ends}
+use Rattle.joint_switches.proofs.DigitLaws.{taking-starts, taking-goes-on, taking-ends}
 use Rattle.joint_switches.proofs.slots.together_at.Goals.{After-shared_slice_known-in-loop-k-1, In-loop-k}
 use Rattle.joint_switches.proofs.slots.together_at.Goals as goal
 

@@ -1,11 +1,8 @@
-use mathlib.Core.Path.{◌≡◌, refl}
-use Prim.Native.Nat.{ℕ, ◌+◌, ◌*◌, ◌-◌, ◌%◌, ◌≤◌, ◌<◌}
-use native.Mathlib.Nat.{mod-lt}
-use native.Mathlib.Omega.{arith}
-use lib.ListN.{length, get_or, length-set}
-use Rattle.formats.specs.Joint.{stays}
+use mathlib.Core.Path.{◌≡◌}
+use Prim.Native.Nat.{◌+◌, ◌*◌, ◌≤◌}
+use lib.ListN.{length}
 use Rattle.models.specs.Index.{entry}
-use Rattle.joint_switches.proofs.DigitLaws.{Taking, taking-starts, taking-goes-on, taking-ends}
+use Rattle.joint_switches.proofs.DigitLaws.{Taking}
 use Rattle.joint_switches.proofs.slots.together_at.Given as goal
 
 abbrev pub invariant-loop-k : goal.invariant-loop-k

@@ -1,5 +1,4 @@
 -- By cases: in the scope or not. Assumes nothing.
-use borrow.Author.Rules.{rules}
 use Rattle.models.specs.Counts.{component_at}
 use Rattle.joint_switches.proofs.TotalLaws.{choices-member, choices-other}
 use Rattle.joint_switches.proofs.totals.choices_of.Goals as goal

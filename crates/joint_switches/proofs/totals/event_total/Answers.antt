@@ -1,6 +1,5 @@
 -- By cases: the scope mask has no ones, or it has some. Assumes nothing.
 use mathlib.Core.Path.{◌∙◌}
-use borrow.Author.Rules.{rules}
 use Rattle.models.specs.Index.{components_from}
 use Rattle.joint_switches.proofs.TotalLaws.{none-in-scope, some-in-scope}
 use Rattle.joint_switches.proofs.totals.event_total.Goals as goal

@@ -1,6 +1,5 @@
 -- A table of zeros is blank, and sixteen places are enough for the labels. Assumes nothing.
 use native.Mathlib.Omega.{arith}
-use borrow.Author.Rules.{rules}
 use Rattle.joint_switches.proofs.TableLaws.{zeros-blank}
 use Rattle.joint_switches.proofs.totals.event_totals.Goals as goal
 

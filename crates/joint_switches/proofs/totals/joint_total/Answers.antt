@@ -1,6 +1,5 @@
 -- What has been counted are those of the events so far. Assumes nothing.
-use mathlib.Core.Path.{◌≡◌, refl}
-use Prim.Native.Nat.{◌-◌, ◌≤◌}
+use mathlib.Core.Path.{refl}
 use native.Mathlib.Omega.{arith}
 use Rattle.formats.specs.Joint.{count_up}
 use Rattle.formats.specs.JointTotals.{sum_over, event_total}

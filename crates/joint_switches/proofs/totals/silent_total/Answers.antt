@@ -1,10 +1,8 @@
 -- What has been counted are those of the components from here on, and the locations of these. Assumes nothing.
 use mathlib.Core.Path.{◌≡◌, ap, ◌∙◌}
-use Prim.Native.Nat.{ℕ, ◌+◌, ◌*◌, ◌-◌, ◌≤◌}
+use Prim.Native.Nat.{ℕ, ◌+◌, ◌*◌, ◌-◌}
 use native.Mathlib.Omega.{arith}
 use lib.Arith.{le-zero}
-use Rattle.formats.specs.Locations.{location_count}
-use Rattle.models.specs.Index.{entry}
 use Rattle.joint_switches.proofs.JointLoops.{components_on, count-starts, count-goes-on, count-few}
 use Rattle.formats.specs.JointTotals.{silent_total}
 use Rattle.joint_switches.proofs.TotalLaws.{silent-starts, silent-goes-on, silent-few}

@@ -1,12 +1,9 @@
-use mathlib.Core.Path.{◌≡◌, ap, ◌∙◌}
-use Prim.Native.Nat.{ℕ, ◌+◌, ◌*◌, ◌-◌, ◌≤◌}
-use native.Mathlib.Omega.{arith}
-use lib.Arith.{le-zero}
+use mathlib.Core.Path.{◌≡◌}
+use Prim.Native.Nat.{◌≤◌}
 use Rattle.formats.specs.Locations.{location_count}
 use Rattle.models.specs.Index.{entry}
-use Rattle.joint_switches.proofs.JointLoops.{components_on, count-starts, count-goes-on, count-few}
+use Rattle.joint_switches.proofs.JointLoops.{components_on}
 use Rattle.formats.specs.JointTotals.{silent_total}
-use Rattle.joint_switches.proofs.TotalLaws.{silent-starts, silent-goes-on, silent-few}
 use Rattle.joint_switches.proofs.totals.silent_total.Given as goal
 
 abbrev pub invariant-loop-k : goal.invariant-loop-k

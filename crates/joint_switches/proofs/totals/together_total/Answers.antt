@@ -1,10 +1,9 @@
 -- What has been counted are those of the components from here on. Assumes nothing.
-use mathlib.Core.Path.{◌≡◌, ap, ◌∙◌}
-use Prim.Native.Nat.{ℕ, ◌-◌, ◌≤◌}
+use mathlib.Core.Path.{ap, ◌∙◌}
+use Prim.Native.Nat.{ℕ, ◌-◌}
 use native.Mathlib.Omega.{arith}
 use lib.Arith.{le-zero}
 use Rattle.formats.specs.JointTotals.{together_total}
-use Rattle.models.specs.Index.{entry}
 use Rattle.joint_switches.proofs.JointLoops.{components_on}
 use Rattle.joint_switches.proofs.TotalLaws.{together-starts, together-goes-on, together-few}
 use Rattle.joint_switches.proofs.totals.together_total.Goals as goal

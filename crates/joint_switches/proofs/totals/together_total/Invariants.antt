@@ -1,11 +1,8 @@
-use mathlib.Core.Path.{◌≡◌, ap, ◌∙◌}
-use Prim.Native.Nat.{ℕ, ◌-◌, ◌≤◌}
-use native.Mathlib.Omega.{arith}
-use lib.Arith.{le-zero}
+use mathlib.Core.Path.{◌≡◌}
+use Prim.Native.Nat.{◌≤◌}
 use Rattle.formats.specs.JointTotals.{together_total}
 use Rattle.models.specs.Index.{entry}
 use Rattle.joint_switches.proofs.JointLoops.{components_on}
-use Rattle.joint_switches.proofs.TotalLaws.{together-starts, together-goes-on, together-few}
 use Rattle.joint_switches.proofs.totals.together_total.Given as goal
 
 abbrev pub invariant-loop-k : goal.invariant-loop-k

@@ -1,11 +1,10 @@
 -- The totals of the events so far stand in the array. Assumes nothing.
-use mathlib.Core.Path.{◌≡◌, refl, ◌∙◌}
-use Prim.Native.Nat.{◌-◌, ◌≤◌}
+use mathlib.Core.Path.{refl, ◌∙◌}
 use native.Mathlib.Omega.{arith}
-use lib.ListN.{length, replicate, length-set}
+use lib.ListN.{replicate, length-set}
 use Rattle.formats.specs.JointTotals.{event_total}
 use Rattle.models.specs.Index.{components_from}
-use Rattle.joint_switches.proofs.TotalLaws.{silent-event, FilledTo, filled_more, filled-whole}
+use Rattle.joint_switches.proofs.TotalLaws.{silent-event, filled_more, filled-whole}
 use Rattle.joint_switches.proofs.totals.totals_by.Goals as goal
 
 pub silent_total-requires : goal.silent_total-requires

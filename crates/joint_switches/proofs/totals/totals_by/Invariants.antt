@@ -1,10 +1,9 @@
-use mathlib.Core.Path.{◌≡◌, refl, ◌∙◌}
+use mathlib.Core.Path.{◌≡◌}
 use Prim.Native.Nat.{◌-◌, ◌≤◌}
-use native.Mathlib.Omega.{arith}
-use lib.ListN.{length, replicate, length-set}
+use lib.ListN.{length}
 use Rattle.formats.specs.JointTotals.{event_total}
 use Rattle.models.specs.Index.{components_from}
-use Rattle.joint_switches.proofs.TotalLaws.{silent-event, FilledTo, filled_more, filled-whole}
+use Rattle.joint_switches.proofs.TotalLaws.{FilledTo}
 use Rattle.joint_switches.proofs.totals.totals_by.Given as goal
 
 abbrev pub invariant-loop-e : goal.invariant-loop-e

@@ -1,6 +1,5 @@
 -- Number 0 accepts. Assumes nothing.
 use mathlib.Core.Path.{◌∙◌}
-use borrow.Author.Rules.{rules}
 use Rattle.rules.specs.Program.{safe}
 use Rattle.marking.specs.Lines.{line_of}
 use Rattle.marking.proofs.ProgramLaws.{line-accepted, line_refused}

@@ -1,6 +1,5 @@
 -- The first two bytes tell the length, or the input is shorter. Assumes nothing.
 use native.Mathlib.Omega.{arith}
-use borrow.Author.Rules.{rules}
 use Rattle.marking.proofs.ProgramLaws.{cut-none, cut_all, cut-first}
 use Rattle.marking.proofs.program.first_length.Goals as goal
 

@@ -1,5 +1,4 @@
 -- Byte 3, where there is one, tells. Assumes nothing.
-use borrow.Author.Rules.{rules}
 use Rattle.marking.proofs.ProgramLaws.{run-told, run_short}
 use Rattle.marking.proofs.program.is_run.Goals as goal
 

@@ -4,7 +4,6 @@ use mathlib.Core.List.{List}
 use Prim.Native.Nat.{ℕ, ◌≤◌}
 use lib.ListN.{length, take, drop}
 use lib.Seq.{length-take-le}
-use borrow.Author.Rules.{rules}
 use borrow.Author.Rules.{part_to_end}
 use Rattle.marking.specs.Lines.{line_of, cut_at, sheets_line}
 use Rattle.marking.proofs.ProgramLaws.{cut-within, line-long, line-cut}

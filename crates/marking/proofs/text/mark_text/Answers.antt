@@ -2,7 +2,6 @@
 use mathlib.Core.Path.{ap}
 use Rattle.rules.specs.Program.{text_of, printed}
 use Rattle.marking.proofs.TextLaws.{written-so}
-use borrow.Author.Rules.{rules}
 use Rattle.marking.proofs.text.mark_text.Goals as goal
 
 pub returns : goal.returns

@@ -5,7 +5,6 @@ use Rattle.marking.specs.declared.Line.{Line}
 use Rattle.rules.specs.Program.{text_of}
 use Rattle.marking.specs.Lines.{line_of}
 use Rattle.marking.proofs.TextLaws.{written-so}
-use borrow.Author.Rules.{rules}
 use Rattle.marking.proofs.text.put_line.Goals as goal
 
 pub returns-in-Safe : goal.returns-in-Safe

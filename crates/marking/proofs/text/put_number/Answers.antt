@@ -3,7 +3,6 @@ use mathlib.Core.List.{[], ◌∷◌}
 use native.Mathlib.Omega.{arith}
 use Rattle.rules.specs.Program.{decimal}
 use Rattle.marking.proofs.TextLaws.{ten-digits, parts-put}
-use borrow.Author.Rules.{rules}
 use Rattle.marking.proofs.text.put_number.Goals as goal
 
 pub returns : goal.returns

@@ -5,7 +5,6 @@ use Prim.Native.Nat.{ℕ}
 use native.Mathlib.Omega.{arith}
 use Rattle.rules.specs.Program.{decimal, numbered}
 use Rattle.marking.proofs.TextLaws.{written-first, written_then, written-so}
-use borrow.Author.Rules.{rules}
 use Rattle.marking.proofs.text.put_refused.Goals as goal
 
 regrouped : (w a b c d e f : List ℕ) → (((((w ++ a) ++ b) ++ c) ++ d) ++ e) ++ f ≡ w ++ (a ++ (b ++ (c ++ (d ++ (e ++ f)))))
@@ -21,5 +20,8 @@ returns c =
     let n3 = c.put_number-third in
     let n4 = c.put_number-fourth in
     let n5 = c.put_number-fifth in
-    let line = c.put_byte in record { written = written-so (regrouped a.word.now (32 ∷ decimal a.number) (32 ∷ decimal a.sheet) (32 ∷ decimal a.place) (32 ∷ decimal a.done) (32 ∷ decimal a.score) (10 ∷ []))
-          (written_then (10 ∷ []) (written_then (32 ∷ decimal a.score) (written_then (32 ∷ decimal a.done) (written_then (32 ∷ decimal a.place) (written_then (32 ∷ decimal a.sheet) (written_then (32 ∷ decimal a.number) (written-first a.text.now word.new.out a.word.now word.result word.ensures) n1.ensures.value) n2.ensures.value) n3.ensures.value) n4.ensures.value) n5.ensures.value) line.ensures); upper_bound = omega (arith, c.requires, word.ensures.0, n1.ensures.upper_bound, n2.ensures.upper_bound, n3.ensures.upper_bound, n4.ensures.upper_bound, n5.ensures.upper_bound, line.ensures.0) }
+    let line = c.put_byte in record {
+      written = written-so (regrouped a.word.now (32 ∷ decimal a.number) (32 ∷ decimal a.sheet) (32 ∷ decimal a.place) (32 ∷ decimal a.done) (32 ∷ decimal a.score) (10 ∷ []))
+          (written_then (10 ∷ []) (written_then (32 ∷ decimal a.score) (written_then (32 ∷ decimal a.done) (written_then (32 ∷ decimal a.place) (written_then (32 ∷ decimal a.sheet) (written_then (32 ∷ decimal a.number) (written-first a.text.now word.new.out a.word.now word.result word.ensures) n1.ensures.value) n2.ensures.value) n3.ensures.value) n4.ensures.value) n5.ensures.value) line.ensures);
+      upper_bound = omega (arith, c.requires, word.ensures.0, n1.ensures.upper_bound, n2.ensures.upper_bound, n3.ensures.upper_bound, n4.ensures.upper_bound, n5.ensures.upper_bound, line.ensures.0);
+    }

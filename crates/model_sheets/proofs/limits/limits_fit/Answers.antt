@@ -1,7 +1,6 @@
 -- Each limit on its own. Assumes nothing.
 use mathlib.Core.Path.{sym, ap, ◌∙◌}
 use mathlib.Core.Bool.{◌&&◌}
-use borrow.Author.Rules.{rules}
 use Rattle.formats.specs.ModelSheet.{exam_limits, limit_fits, limits_fit}
 use Rattle.model_sheets.proofs.limits.limits_fit.Goals as goal
 

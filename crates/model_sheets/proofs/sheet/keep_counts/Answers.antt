@@ -1,9 +1,9 @@
 -- The totals of the events so far stand in the index; then the two counts of all. Assumes nothing.
-use mathlib.Core.Path.{◌≡◌, refl, ◌∙◌}
-use Prim.Native.Nat.{◌+◌, ◌-◌, ◌≤◌}
+use mathlib.Core.Path.{refl, ◌∙◌}
+use Prim.Native.Nat.{◌+◌, ◌≤◌}
 use native.Mathlib.Omega.{arith}
 use lib.ListN.{length, get_or, length-set}
-use Rattle.model_sheets.proofs.LimitLaws.{Keeping, keeping-starts, keeping-goes-on, counts-stand, only-counts}
+use Rattle.model_sheets.proofs.LimitLaws.{keeping-starts, keeping-goes-on, counts-stand, only-counts}
 use Rattle.model_sheets.proofs.sheet.keep_counts.Goals as goal
 
 pub loop-e-init : goal.loop-e-init

@@ -1,8 +1,7 @@
-use mathlib.Core.Path.{◌≡◌, refl, ◌∙◌}
-use Prim.Native.Nat.{◌+◌, ◌-◌, ◌≤◌}
-use native.Mathlib.Omega.{arith}
-use lib.ListN.{length, get_or, length-set}
-use Rattle.model_sheets.proofs.LimitLaws.{Keeping, keeping-starts, keeping-goes-on, counts-stand, only-counts}
+use mathlib.Core.Path.{◌≡◌}
+use Prim.Native.Nat.{◌-◌, ◌≤◌}
+use lib.ListN.{length}
+use Rattle.model_sheets.proofs.LimitLaws.{Keeping}
 use Rattle.model_sheets.proofs.sheet.keep_counts.Given as goal
 
 abbrev pub invariant-loop-e : goal.invariant-loop-e

@@ -1,6 +1,5 @@
 -- Three stores. Assumes nothing.
 use native.Mathlib.Omega.{arith}
-use borrow.Author.Rules.{rules}
 use lib.ListN.{length-set}
 use Rattle.model_sheets.proofs.OpeningLaws.{opening-stands, opening-kept}
 use Rattle.model_sheets.proofs.sheet.keep_opening.Goals as goal

@@ -93,5 +93,9 @@ returns-in-At-finished c =
     let sheet = s (goal.at.returns-in-At-finished c).In-At in
     let limited = c.within_limits.ensures in
     let z = c.within_limits.new.index in
-    let same : model_from sheet z ≡ m (goal.at.returns-in-At-finished c).In-At-body_into = model-same (good (goal.at.returns-in-At-finished c).In-At-body_into) limited.only_counts.0.same in record { result_after = ap (λ (x : Model). got_as x c.within_limits.result) same
-          ∙ sheet-limits c.args.limits sheet (opening_from (opened (goal.at.returns-in-At-finished c).In-At)) (body (goal.at.returns-in-At-finished c).In-At) (one (goal.at.returns-in-At-finished c).In-At) (m (goal.at.returns-in-At-finished c).In-At-body_into) (end (goal.at.returns-in-At-finished c).In-At-body_into) (two (goal.at.returns-in-At-finished c).In-At-body_into) c.in-At-finished.next (told_at tt (reading.finished sheet (end (goal.at.returns-in-At-finished c).In-At-body_into)) c.finished.ensures c.in-At-finished.is) c.within_limits.result limited.result_value; kept = kept_then (kept_then (stored (goal.at.returns-in-At-finished c).In-At) (kept-wider (omega arith) (omega arith) c.body_into.ensures.kept)) limited.only_counts.0.kept; counted_after = limited.only_counts.1 }
+    let same : model_from sheet z ≡ m (goal.at.returns-in-At-finished c).In-At-body_into = model-same (good (goal.at.returns-in-At-finished c).In-At-body_into) limited.only_counts.0.same in record {
+      result_after = ap (λ (x : Model). got_as x c.within_limits.result) same
+          ∙ sheet-limits c.args.limits sheet (opening_from (opened (goal.at.returns-in-At-finished c).In-At)) (body (goal.at.returns-in-At-finished c).In-At) (one (goal.at.returns-in-At-finished c).In-At) (m (goal.at.returns-in-At-finished c).In-At-body_into) (end (goal.at.returns-in-At-finished c).In-At-body_into) (two (goal.at.returns-in-At-finished c).In-At-body_into) c.in-At-finished.next (told_at tt (reading.finished sheet (end (goal.at.returns-in-At-finished c).In-At-body_into)) c.finished.ensures c.in-At-finished.is) c.within_limits.result limited.result_value;
+      kept = kept_then (kept_then (stored (goal.at.returns-in-At-finished c).In-At) (kept-wider (omega arith) (omega arith) c.body_into.ensures.kept)) limited.only_counts.0.kept;
+      counted_after = limited.only_counts.1;
+    }

@@ -1,7 +1,6 @@
 -- Counts, owners, components and unsafe conditions in a chain; each keeps the numbers of those before it. Assumes nothing.
 use mathlib.Core.Path.{◌≡◌, refl, sym, ap, ap₂, ◌∙◌}
 use native.Mathlib.Omega.{arith}
-use borrow.Author.Rules.{rules}
 use Rattle.formats.specs.Reading.{got, u8, many, below}
 use Rattle.models.specs.Index.{entry, owner_place, paper_in, Kept, read_totals, totals_from, parts_from}
 use Rattle.fields.specs.Answers.{got_as}

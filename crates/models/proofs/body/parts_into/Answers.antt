@@ -2,7 +2,6 @@
 use mathlib.Core.Path.{◌≡◌, sym, ap, ◌∙◌}
 use Prim.Native.Nat.{ℕ}
 use native.Mathlib.Omega.{arith}
-use borrow.Author.Rules.{rules}
 use Rattle.formats.specs.Reading.{got, many}
 use Rattle.models.specs.Index.{entry, component_from, component_place, unsafe_place, unsafe_from, components_from, parts_from}
 use Rattle.fields.specs.Answers.{got_as}

@@ -1,7 +1,6 @@
 -- Three fields in a chain, kept one after the other. Assumes nothing.
 use mathlib.Core.Path.{◌≡◌, sym, ap, ◌∙◌}
 use native.Mathlib.Omega.{arith}
-use borrow.Author.Rules.{rules}
 use lib.ListN.{set, length-set}
 use Rattle.formats.specs.Reading.{got, u8, within}
 use Rattle.fields.specs.Answers.{got_as}

@@ -1,6 +1,5 @@
 -- By the two bytes, then by bit 0. Assumes nothing.
 use mathlib.Core.Path.{◌≡◌, sym, ◌∙◌}
-use borrow.Author.Rules.{rules}
 use Rattle.formats.specs.Reading.{got, u16}
 use Rattle.fields.specs.Answers.{got_field}
 use Rattle.fields.proofs.AnswerLaws.{field-value, field-refused}

@@ -2,7 +2,6 @@
 use mathlib.Core.Path.{◌≡◌, sym, ap, ◌∙◌}
 use Prim.Native.Nat.{◌+◌}
 use native.Mathlib.Omega.{arith}
-use borrow.Author.Rules.{rules}
 use Rattle.formats.specs.Reading.{got, many}
 use Rattle.models.specs.Index.{entry, mode_from, mode_place, switch_from, switch_place, Counts, read_counts, counts_from}
 use Rattle.fields.specs.Answers.{got_as}

@@ -1,15 +1,14 @@
 -- The read-loop law: the components so far, in front of those to come, are all of them. Assumes nothing.
 use mathlib.Core.Path.{◌∙◌}
-use Prim.Native.Nat.{◌+◌, ◌*◌, ◌-◌}
+use Prim.Native.Nat.{◌+◌, ◌*◌}
 use native.Mathlib.Omega.{arith}
-use borrow.Author.Rules.{rules}
 use Rattle.models.specs.Index.{component_from, component_place}
 use Rattle.fields.specs.Answers.{got_as}
 use Rattle.fields.proofs.ChainLaws.{told_at}
 use Rattle.models.proofs.IndexLaws.{agree-low}
 use Rattle.formats.specs.Model.{read_component}
-use Rattle.models.proofs.FillLoop.{Filled, fill-starts, fill_stops, fill-goes-on, fill-ends}
-use Rattle.models.proofs.ComponentLaws.{Blocks, component-same, blocks-next}
+use Rattle.models.proofs.FillLoop.{fill-starts, fill_stops, fill-goes-on, fill-ends}
+use Rattle.models.proofs.ComponentLaws.{component-same, blocks-next}
 use Rattle.models.proofs.model.components_into.Goals as goal
 
 pub loop-k-init : goal.loop-k-init

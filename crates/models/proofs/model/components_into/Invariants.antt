@@ -1,14 +1,8 @@
-use mathlib.Core.Path.{◌∙◌}
-use Prim.Native.Nat.{◌+◌, ◌*◌, ◌-◌}
-use native.Mathlib.Omega.{arith}
-use borrow.Author.Rules.{rules}
+use Prim.Native.Nat.{◌-◌}
 use Rattle.models.specs.Index.{component_from, component_place}
-use Rattle.fields.specs.Answers.{got_as}
-use Rattle.fields.proofs.ChainLaws.{told_at}
-use Rattle.models.proofs.IndexLaws.{agree-low}
 use Rattle.formats.specs.Model.{read_component}
-use Rattle.models.proofs.FillLoop.{Filled, fill-starts, fill_stops, fill-goes-on, fill-ends}
-use Rattle.models.proofs.ComponentLaws.{Blocks, component-same, blocks-next}
+use Rattle.models.proofs.FillLoop.{Filled}
+use Rattle.models.proofs.ComponentLaws.{Blocks}
 use Rattle.models.proofs.model.components_into.Given as goal
 
 abbrev pub invariant-loop-k : goal.invariant-loop-k

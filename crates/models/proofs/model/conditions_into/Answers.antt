@@ -2,7 +2,6 @@
 use mathlib.Core.Path.{◌≡◌, sym, ap, ◌∙◌}
 use Prim.Native.Nat.{◌+◌}
 use native.Mathlib.Omega.{arith}
-use borrow.Author.Rules.{rules}
 use Rattle.formats.specs.Rows.{read_condition}
 use Rattle.models.specs.Index.{span_rows, three_from}
 use Rattle.fields.specs.Answers.{got_as}

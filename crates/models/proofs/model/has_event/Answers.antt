@@ -1,6 +1,5 @@
 -- A shift to the right halves as often. Assumes nothing.
 use mathlib.Core.Path.{refl}
-use borrow.Author.Rules.{rules}
 use Rattle.formats.specs.Model.{has_event}
 use Rattle.models.proofs.model.has_event.Goals as goal
 

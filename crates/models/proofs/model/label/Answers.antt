@@ -1,6 +1,5 @@
 -- By the byte, then by 0 and by the alphabet. Assumes nothing.
 use mathlib.Core.Path.{◌≡◌, sym, ◌∙◌}
-use borrow.Author.Rules.{rules}
 use Rattle.formats.specs.Reading.{got, u8, within}
 use Rattle.fields.specs.Answers.{got_field}
 use Rattle.models.proofs.ModelLaws.{label-refused, label-zero, label-event, label-outside}

@@ -1,12 +1,7 @@
-use mathlib.Core.Path.{◌∙◌}
-use Prim.Native.Nat.{◌+◌, ◌*◌, ◌-◌}
-use native.Mathlib.Omega.{arith}
-use borrow.Author.Rules.{rules}
+use Prim.Native.Nat.{◌+◌, ◌-◌}
 use Rattle.models.specs.Index.{mode_from, mode_place}
-use Rattle.fields.specs.Answers.{got_as}
-use Rattle.models.proofs.IndexLaws.{agree-low, mode-same}
 use Rattle.formats.specs.Model.{read_mode}
-use Rattle.models.proofs.FillLoop.{Filled, fill-starts, fill_stops, fill-goes-on, fill-ends}
+use Rattle.models.proofs.FillLoop.{Filled}
 use Rattle.models.proofs.model.modes_into.Given as goal
 
 abbrev pub invariant-loop-j : goal.invariant-loop-j

@@ -1,13 +1,12 @@
 -- The read-loop law: the switches so far, in front of those to come, are all of them. Assumes nothing.
 use mathlib.Core.Path.{◌∙◌}
-use Prim.Native.Nat.{◌+◌, ◌*◌, ◌-◌}
+use Prim.Native.Nat.{◌+◌, ◌*◌}
 use native.Mathlib.Omega.{arith}
-use borrow.Author.Rules.{rules}
 use Rattle.models.specs.Index.{switch_from, switch_place}
 use Rattle.fields.specs.Answers.{got_as}
 use Rattle.models.proofs.IndexLaws.{agree-low, switch-same}
 use Rattle.formats.specs.Model.{read_switch}
-use Rattle.models.proofs.FillLoop.{Filled, fill-starts, fill_stops, fill-goes-on, fill-ends}
+use Rattle.models.proofs.FillLoop.{fill-starts, fill_stops, fill-goes-on, fill-ends}
 use Rattle.models.proofs.model.switches_into.Goals as goal
 
 pub loop-j-init : goal.loop-j-init

@@ -1,16 +1,15 @@
 -- The read-loop law: the owners so far, in front of those to come, are all of them. Assumes nothing.
 use mathlib.Core.Path.{◌≡◌, refl, sym, ap, ◌∙◌}
-use Prim.Native.Nat.{ℕ, ◌+◌, ◌-◌, ◌≤◌}
+use Prim.Native.Nat.{ℕ, ◌+◌}
 use native.Mathlib.Omega.{arith}
-use borrow.Author.Rules.{rules}
-use lib.ListN.{length, set, length-set}
+use lib.ListN.{set, length-set}
 use Rattle.formats.specs.Reading.{got, u8, below, many}
-use Rattle.models.specs.Index.{entry, owner_place, Kept}
+use Rattle.models.specs.Index.{entry, owner_place}
 use Rattle.fields.specs.Answers.{got_as}
 use Rattle.fields.proofs.AnswerLaws.{field-value, field-refused}
 use Rattle.formats.proofs.FieldLaws.{count-read}
 use Rattle.models.proofs.IndexLaws.{entry-same, entry_other, kept-none, kept_set, kept_then}
-use Rattle.fields.proofs.ReadLoop.{up_to, Reading, reading-starts, reading-goes-on, reading-stops, reading-ends}
+use Rattle.fields.proofs.ReadLoop.{up_to, reading-starts, reading-goes-on, reading-stops, reading-ends}
 use Rattle.models.proofs.unsafes.owners_into.Goals as goal
 
 pub loop-v-init : goal.loop-v-init
@@ -32,8 +31,11 @@ returns-in-Refused c =
     let x = c.loop-v.index in
     let v = c.loop-v.v in
     let inv = c.loop-v.invariant in
-    let whole = many a.n r s a.at in record { result_after = reading-stops r a.n s whole (λ i. entry x (owner_place i)) v c.loop-v.place c.in-Refused.number c.in-Refused.cut inv.1.1.0 c.loop-v-test.true
-          (sym c.byte_below.ensures ∙ field-refused c.in-Refused.is); kept = inv.1.1.1 }
+    let whole = many a.n r s a.at in record {
+      result_after = reading-stops r a.n s whole (λ i. entry x (owner_place i)) v c.loop-v.place c.in-Refused.number c.in-Refused.cut inv.1.1.0 c.loop-v-test.true
+          (sym c.byte_below.ensures ∙ field-refused c.in-Refused.is);
+      kept = inv.1.1.1;
+    }
 
 pub overflow_cast-index : goal.overflow_cast-index
 overflow_cast-index c =

@@ -1,17 +1,16 @@
 -- The law of a loop over a list: the modes so far, in front of those of the components to come, are all of them. Assumes nothing.
 use mathlib.Core.Path.{◌≡◌, refl, sym, ap, ◌∙◌}
-use Prim.Native.Nat.{ℕ, ◌+◌, ◌*◌, ◌-◌, ◌<◌, ◌≤◌}
+use Prim.Native.Nat.{ℕ, ◌+◌, ◌*◌, ◌<◌}
 use native.Mathlib.Omega.{arith}
-use borrow.Author.Rules.{rules}
-use lib.ListN.{length, set, length-set}
+use lib.ListN.{set, length-set}
 use Rattle.formats.specs.Reading.{got, u8, must, each}
-use Rattle.models.specs.Index.{entry, component_place, components_from, Kept}
+use Rattle.models.specs.Index.{entry, component_place, components_from}
 use Rattle.fields.specs.Answers.{got_as}
 use Rattle.fields.proofs.AnswerLaws.{field-value, field-refused}
 use Rattle.models.proofs.IndexLaws.{entry-same, entry_other, kept-none, kept_set, kept_then}
 use Rattle.fields.proofs.ReadLoop.{up_to}
 use Rattle.formats.proofs.FieldLaws.{numbered}
-use Rattle.models.proofs.UnsafeLaws.{ReadingEach, each-starts, each-goes-on, each-stops, each-ends, components-length, component-next, mode_small, read_mode_byte, mode_of, modes-kept}
+use Rattle.models.proofs.UnsafeLaws.{each-starts, each-goes-on, each-stops, each-ends, components-length, component-next, mode_small, read_mode_byte, mode_of, modes-kept}
 use Rattle.models.proofs.unsafes.unsafe_modes_into.Goals.{In-Value, In-loop-k}
 use Rattle.models.proofs.unsafes.unsafe_modes_into.Goals as goal
 

@@ -1,16 +1,9 @@
-use mathlib.Core.Path.{◌≡◌, refl, sym, ap, ◌∙◌}
-use Prim.Native.Nat.{ℕ, ◌+◌, ◌*◌, ◌-◌, ◌<◌, ◌≤◌}
-use native.Mathlib.Omega.{arith}
-use borrow.Author.Rules.{rules}
-use lib.ListN.{length, set, length-set}
-use Rattle.formats.specs.Reading.{got, u8, must, each}
-use Rattle.models.specs.Index.{entry, component_place, components_from, Kept}
-use Rattle.fields.specs.Answers.{got_as}
-use Rattle.fields.proofs.AnswerLaws.{field-value, field-refused}
-use Rattle.models.proofs.IndexLaws.{entry-same, entry_other, kept-none, kept_set, kept_then}
-use Rattle.fields.proofs.ReadLoop.{up_to}
-use Rattle.formats.proofs.FieldLaws.{numbered}
-use Rattle.models.proofs.UnsafeLaws.{ReadingEach, each-starts, each-goes-on, each-stops, each-ends, components-length, component-next, mode_small, read_mode_byte, mode_of, modes-kept}
+use mathlib.Core.Path.{◌≡◌}
+use Prim.Native.Nat.{◌+◌, ◌-◌, ◌≤◌}
+use lib.ListN.{length}
+use Rattle.formats.specs.Reading.{each}
+use Rattle.models.specs.Index.{entry, components_from, Kept}
+use Rattle.models.proofs.UnsafeLaws.{ReadingEach, read_mode_byte}
 use Rattle.models.proofs.unsafes.unsafe_modes_into.Given as goal
 
 abbrev pub invariant-loop-k : goal.invariant-loop-k

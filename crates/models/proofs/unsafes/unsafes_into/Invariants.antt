@@ -1,14 +1,7 @@
-use mathlib.Core.Path.{◌≡◌, ◌∙◌, subst}
-use mathlib.Core.List.{List}
-use Prim.Native.Nat.{ℕ, ◌+◌, ◌*◌, ◌-◌}
-use native.Mathlib.Omega.{arith}
-use borrow.Author.Rules.{rules}
-use Rattle.formats.specs.Model.{Unsafe, read_unsafe}
-use Rattle.models.specs.Index.{component_place, unsafe_place, unsafe_from, components_from}
-use Rattle.fields.specs.Answers.{got_as}
-use Rattle.models.proofs.IndexLaws.{kept_at, agree-low}
-use Rattle.models.proofs.FillLoop.{Filled, fill-starts, fill_stops, fill-goes-on, fill-ends}
-use Rattle.models.proofs.UnsafeLaws.{unsafe-same, components-same}
+use Prim.Native.Nat.{◌-◌}
+use Rattle.formats.specs.Model.{read_unsafe}
+use Rattle.models.specs.Index.{unsafe_place, unsafe_from, components_from}
+use Rattle.models.proofs.FillLoop.{Filled}
 use Rattle.models.proofs.unsafes.unsafes_into.Given as goal
 
 abbrev pub invariant-loop-u : goal.invariant-loop-u

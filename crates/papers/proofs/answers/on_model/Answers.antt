@@ -1,6 +1,5 @@
 -- The five fields as they are. Assumes nothing.
 use mathlib.Core.Path.{refl}
-use borrow.Author.Rules.{rules}
 use Rattle.rules.specs.Marking.{answer}
 use Rattle.papers.proofs.answers.on_model.Goals as goal
 

@@ -9,7 +9,7 @@ use Rattle.farkas.specs.Lists.{every}
 use Rattle.formats.specs.Versions.{row_bytes}
 use Rattle.formats.proofs.Versions.{numbers-within}
 use Rattle.fields.specs.Places.{row_at, rows_from}
-use Rattle.models.specs.Index.{entry, span_rows}
+use Rattle.models.specs.Index.{entry}
 use Rattle.rules.specs.Runs as runs
 use Rattle.papers.proofs.RowLoops.{row_room, row_next, rows_start, rows_pass, rows-fail, rows_none}
 use Rattle.papers.proofs.BlankLaws.{zero_at, zero-at}

@@ -1,17 +1,10 @@
-use mathlib.Core.Path.{◌≡◌, sym, ap, ◌∙◌, subst}
-use Prim.Native.Nat.{ℕ, ◌+◌, ◌*◌, ◌-◌, ◌≤◌, ◌<◌}
-use native.Mathlib.Omega.{arith}
-use borrow.Author.Tests.{eq-eqb, ne_eqb}
-use lib.Dec.{eqb}
-use lib.ListN.{length}
+use mathlib.Core.Path.{◌≡◌}
+use Prim.Native.Nat.{◌+◌, ◌*◌, ◌-◌, ◌≤◌}
 use Rattle.farkas.specs.Lists.{every}
 use Rattle.formats.specs.Versions.{row_bytes}
-use Rattle.formats.proofs.Versions.{numbers-within}
-use Rattle.fields.specs.Places.{row_at, rows_from}
+use Rattle.fields.specs.Places.{rows_from}
 use Rattle.models.specs.Index.{entry, span_rows}
-use Rattle.rules.specs.Runs as runs
-use Rattle.papers.proofs.RowLoops.{row_room, row_next, rows_start, rows_pass, rows-fail, rows_none}
-use Rattle.papers.proofs.BlankLaws.{zero_at, zero-at}
+use Rattle.papers.proofs.BlankLaws.{zero_at}
 use Rattle.papers.proofs.blanks.unmentioned.Given as goal
 
 abbrev pub invariant-loop-j : goal.invariant-loop-j

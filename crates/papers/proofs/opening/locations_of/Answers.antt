@@ -1,6 +1,5 @@
 -- The index has the count. Assumes nothing.
 use native.Mathlib.Omega.{arith}
-use borrow.Author.Rules.{rules}
 use Rattle.models.specs.Index.{entry}
 use Rattle.papers.proofs.opening.locations_of.Goals as goal
 

@@ -1,5 +1,4 @@
 -- The number that an index keeps. Assumes nothing.
-use borrow.Author.Rules.{rules}
 use Rattle.models.specs.Index.{entry}
 use Rattle.papers.proofs.opening.number_at.Goals as goal
 

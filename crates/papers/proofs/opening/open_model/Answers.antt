@@ -1,8 +1,6 @@
 -- The limits, then the model. Assumes nothing.
 use mathlib.Core.Path.{◌≡◌, sym, ◌∙◌, subst}
 use native.Mathlib.Omega.{arith}
-use borrow.Author.Rules.{rules}
-use borrow.Author.Tests.{not-true, not-false}
 use lib.Dec.{T}
 use Rattle.formats.specs.Reading.{got, refused}
 use Rattle.formats.specs.ModelSheet.{read_model}

@@ -3,7 +3,6 @@ use mathlib.Core.Path.{◌≡◌, sym, ap, ◌∙◌, subst}
 use mathlib.Core.List.{List}
 use Prim.Native.Nat.{ℕ}
 use native.Mathlib.Omega.{arith}
-use borrow.Author.Rules.{rules}
 use Rattle.formats.specs.Reading.{got, refused}
 use Rattle.formats.specs.Model.{Model}
 use Rattle.models.specs.Index.{model_from}
@@ -63,10 +62,18 @@ on_second-requires-in-Value c = let w = bodied c in omega (arith, w.bodied, w.br
 pub returns-in-Refused : goal.returns-in-Refused
 returns-in-Refused c =
     let number = c.in-Refused.number in
-    let place = c.in-Refused.place in record { value = c.on_second.ensures
-          ∙ opened-second _ _ (model (goal.at.returns-in-Refused c).After-open_second) (second (goal.at.returns-in-Refused c).After-open_second) (m (goal.at.returns-in-Refused c).After-open_second) number place (opens (goal.at.returns-in-Refused c).After-open_second).opened (refusal (goal.at.returns-in-Refused c).In-Refused); kept = c.open_model-opened.ensures.kept; fact = λ z. absurd (refuses number 1 place 0 0 c.on_second.ensures (second-number _ _ _ number place (refusal (goal.at.returns-in-Refused c).In-Refused)) z) }
+    let place = c.in-Refused.place in record {
+      value = c.on_second.ensures
+          ∙ opened-second _ _ (model (goal.at.returns-in-Refused c).After-open_second) (second (goal.at.returns-in-Refused c).After-open_second) (m (goal.at.returns-in-Refused c).After-open_second) number place (opens (goal.at.returns-in-Refused c).After-open_second).opened (refusal (goal.at.returns-in-Refused c).In-Refused);
+      kept = c.open_model-opened.ensures.kept;
+      fact = λ z. absurd (refuses number 1 place 0 0 c.on_second.ensures (second-number _ _ _ number place (refusal (goal.at.returns-in-Refused c).In-Refused)) z);
+    }
 
 pub returns-in-Value : goal.returns-in-Value
 returns-in-Value c =
-    let body = c.in-Value.body in record { value = c.on_second-in-Value.ensures
-          ∙ opened_both _ _ (model (goal.at.returns-in-Value c).After-open_second) (second (goal.at.returns-in-Value c).After-open_second) (m (goal.at.returns-in-Value c).After-open_second) c.in-Value.field-0 body (opens (goal.at.returns-in-Value c).After-open_second).opened (headed (goal.at.returns-in-Value c).In-Value); kept = c.open_model-opened.ensures.kept; fact = λ z. subst (λ (p : ℕ). Open c.args.limits (kind (goal.at.returns-in-Value c).After-open_second) (model (goal.at.returns-in-Value c).After-open_second) (index (goal.at.returns-in-Value c).After-open_second) (second (goal.at.returns-in-Value c).After-open_second) p) (sym (answer-place 0 1 body 0 0 c.on_second-in-Value.ensures)) (bodied (goal.at.returns-in-Value c).In-Value) }
+    let body = c.in-Value.body in record {
+      value = c.on_second-in-Value.ensures
+          ∙ opened_both _ _ (model (goal.at.returns-in-Value c).After-open_second) (second (goal.at.returns-in-Value c).After-open_second) (m (goal.at.returns-in-Value c).After-open_second) c.in-Value.field-0 body (opens (goal.at.returns-in-Value c).After-open_second).opened (headed (goal.at.returns-in-Value c).In-Value);
+      kept = c.open_model-opened.ensures.kept;
+      fact = λ z. subst (λ (p : ℕ). Open c.args.limits (kind (goal.at.returns-in-Value c).After-open_second) (model (goal.at.returns-in-Value c).After-open_second) (index (goal.at.returns-in-Value c).After-open_second) (second (goal.at.returns-in-Value c).After-open_second) p) (sym (answer-place 0 1 body 0 0 c.on_second-in-Value.ensures)) (bodied (goal.at.returns-in-Value c).In-Value);
+    }

@@ -2,7 +2,6 @@
 use mathlib.Core.Path.{◌≡◌, sym, ap, ◌∙◌}
 use mathlib.Core.List.{List}
 use Prim.Native.Nat.{ℕ}
-use borrow.Author.Rules.{rules}
 use Rattle.formats.specs.Versions.{pair_of}
 use Rattle.formats.specs.Reading.{got, read_paper}
 use Rattle.formats.specs.Reading as reading

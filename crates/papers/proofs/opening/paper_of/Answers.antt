@@ -1,5 +1,4 @@
 -- The halves that the index keeps. Assumes nothing.
-use borrow.Author.Rules.{rules}
 use Rattle.models.specs.Index.{entry}
 use Rattle.papers.proofs.opening.paper_of.Goals as goal
 

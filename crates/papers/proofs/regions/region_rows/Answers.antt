@@ -3,7 +3,6 @@ use mathlib.Core.Path.{refl}
 use Prim.Native.Nat.{◌+◌, ◌*◌}
 use native.Mathlib.Omega.{arith}
 use Rattle.models.specs.Index.{entry}
-use borrow.Author.Rules.{rules}
 use Rattle.papers.proofs.regions.region_rows.Goals as goal
 
 pub overflow_cast-result-2 : goal.overflow_cast-result-2

@@ -1,12 +1,10 @@
 -- What is tested of the components from this one on is what is tested of all. Assumes nothing.
-use mathlib.Core.Path.{◌≡◌, refl, ◌∙◌}
-use Prim.Native.Nat.{◌-◌, ◌≤◌, ◌<◌}
+use mathlib.Core.Path.{refl, ◌∙◌}
+use Prim.Native.Nat.{◌≤◌, ◌<◌}
 use native.Mathlib.Omega.{arith}
-use borrow.Author.Rules.{rules}
-use borrow.Author.Tests.{not-true, not-false}
 use lib.ListN.{length}
 use Rattle.models.specs.Index.{entry}
-use Rattle.papers.proofs.StandingLaws.{starts_on, start-passes, start-fails, start-ends}
+use Rattle.papers.proofs.StandingLaws.{start-passes, start-fails, start-ends}
 use Rattle.papers.proofs.standing.all_start.Goals as goal
 
 pub overflow_cast-components : goal.overflow_cast-components

@@ -1,11 +1,7 @@
-use mathlib.Core.Path.{◌≡◌, refl, ◌∙◌}
-use Prim.Native.Nat.{◌-◌, ◌≤◌, ◌<◌}
-use native.Mathlib.Omega.{arith}
-use borrow.Author.Rules.{rules}
-use borrow.Author.Tests.{not-true, not-false}
-use lib.ListN.{length}
+use mathlib.Core.Path.{◌≡◌}
+use Prim.Native.Nat.{◌-◌, ◌≤◌}
 use Rattle.models.specs.Index.{entry}
-use Rattle.papers.proofs.StandingLaws.{starts_on, start-passes, start-fails, start-ends}
+use Rattle.papers.proofs.StandingLaws.{starts_on}
 use Rattle.papers.proofs.standing.all_start.Given as goal
 
 abbrev pub invariant-loop-k : goal.invariant-loop-k

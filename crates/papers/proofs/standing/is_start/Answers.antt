@@ -1,7 +1,6 @@
 -- The place of the index where a mode is kept. Assumes nothing.
 use mathlib.Core.Path.{refl}
 use native.Mathlib.Omega.{arith}
-use borrow.Author.Rules.{rules}
 use Rattle.models.specs.Index.{entry, component_place, mode_place}
 use Rattle.papers.proofs.standing.is_start.Goals as goal
 

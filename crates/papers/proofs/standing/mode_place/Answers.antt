@@ -1,6 +1,5 @@
 -- The places of the index. Assumes nothing.
 use mathlib.Core.Path.{refl}
-use borrow.Author.Rules.{rules}
 use Rattle.models.specs.Index.{component_place, mode_place}
 use Rattle.papers.proofs.standing.mode_place.Goals as goal
 

@@ -1,12 +1,10 @@
 -- What is tested of the components from this one on is what is tested of all. Assumes nothing.
-use mathlib.Core.Path.{◌≡◌, refl, ◌∙◌}
-use Prim.Native.Nat.{◌-◌, ◌≤◌, ◌<◌}
+use mathlib.Core.Path.{refl, ◌∙◌}
+use Prim.Native.Nat.{◌≤◌, ◌<◌}
 use native.Mathlib.Omega.{arith}
-use borrow.Author.Rules.{rules}
-use borrow.Author.Tests.{not-true, not-false}
 use lib.ListN.{length}
 use Rattle.models.specs.Index.{entry, unsafe_place}
-use Rattle.papers.proofs.StandingLaws.{fit_on, fit-passes, fit-fails, fit-ends, fit-starts}
+use Rattle.papers.proofs.StandingLaws.{fit-passes, fit-fails, fit-ends, fit-starts}
 use Rattle.papers.proofs.standing.modes_fit.Goals as goal
 
 pub overflow_cast-components : goal.overflow_cast-components

@@ -1,11 +1,7 @@
-use mathlib.Core.Path.{◌≡◌, refl, ◌∙◌}
-use Prim.Native.Nat.{◌-◌, ◌≤◌, ◌<◌}
-use native.Mathlib.Omega.{arith}
-use borrow.Author.Rules.{rules}
-use borrow.Author.Tests.{not-true, not-false}
-use lib.ListN.{length}
-use Rattle.models.specs.Index.{entry, unsafe_place}
-use Rattle.papers.proofs.StandingLaws.{fit_on, fit-passes, fit-fails, fit-ends, fit-starts}
+use mathlib.Core.Path.{◌≡◌}
+use Prim.Native.Nat.{◌-◌}
+use Rattle.models.specs.Index.{unsafe_place}
+use Rattle.papers.proofs.StandingLaws.{fit_on}
 use Rattle.papers.proofs.standing.modes_fit.Given as goal
 
 abbrev pub invariant-loop-k : goal.invariant-loop-k

@@ -3,7 +3,6 @@ use mathlib.Core.Path.{sym, ◌∙◌}
 use mathlib.Core.List.{[]}
 use Prim.Native.Nat.{◌<◌}
 use native.Mathlib.Omega.{arith}
-use borrow.Author.Rules.{rules}
 use Rattle.models.specs.Index.{entry}
 use Rattle.queries.specs.Finding.{sought_one, KnownSought}
 use Rattle.queries.proofs.FindLaws.{sought-one, sought-known, one-past, one-here, group-one}

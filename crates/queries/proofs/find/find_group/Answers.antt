@@ -1,15 +1,13 @@
 -- The obligation sought is so many on among those from this group on, and it is one of them. Assumes nothing.
-use mathlib.Core.Path.{◌≡◌, refl, sym, ap, ◌∙◌, subst}
-use mathlib.Core.List.{List, [], ◌++◌, append-nil}
-use Prim.Native.Nat.{◌+◌, ◌-◌, ◌≤◌, ◌<◌}
+use mathlib.Core.Path.{refl, sym, ap, ◌∙◌, subst}
+use mathlib.Core.List.{List, [], append-nil}
+use Prim.Native.Nat.{◌+◌, ◌<◌}
 use native.Mathlib.Omega.{arith}
-use borrow.Author.Rules.{rules}
 use lib.ListN.{length}
-use Rattle.models.specs.Index.{entry, model_from}
-use Rattle.rules.specs.Obligations.{Obligation, location_obligations}
+use Rattle.models.specs.Index.{entry}
+use Rattle.rules.specs.Obligations.{Obligation}
 use Rattle.papers.specs.Paper.{regions_of}
-use Rattle.queries.specs.Finding.{one_at, group_obligations}
-use Rattle.papers.proofs.JoinedLaws.{joined_on}
+use Rattle.queries.specs.Finding.{one_at}
 use Rattle.papers.proofs.StandingLaws.{stands_at_lem}
 use Rattle.queries.proofs.FindLaws.{one_on_lem, inside_on, inside-end, location-groups}
 use Rattle.queries.proofs.find.find_group.Goals as goal
@@ -38,11 +36,14 @@ group_goals-goals-requires c = let p = c.requires in record { good_paper = p.goo
 pub returns-then-left-goals : goal.returns-then-left-goals
 unfolding entry
 returns-then-left-goals c =
-    let l = c.loop-at in record { leads_to_group = record {
+    let l = c.loop-at in record {
+      leads_to_group = record {
         within = l.invariant.0;
         leads = l.invariant.1.0;
         here = λ h. omega (arith, c.if-left-goals.true, c.group_goals-goals.ensures);
-      }; at_bound = c.loop-at-test.true }
+      };
+      at_bound = c.loop-at-test.true;
+    }
 
 pub overflow_add-at : goal.overflow_add-at
 unfolding entry

@@ -1,16 +1,12 @@
-use mathlib.Core.Path.{◌≡◌, refl, sym, ap, ◌∙◌, subst}
-use mathlib.Core.List.{List, [], ◌++◌, append-nil}
-use Prim.Native.Nat.{◌+◌, ◌-◌, ◌≤◌, ◌<◌}
-use native.Mathlib.Omega.{arith}
-use borrow.Author.Rules.{rules}
+use mathlib.Core.Path.{◌≡◌}
+use mathlib.Core.List.{[], ◌++◌}
+use Prim.Native.Nat.{◌-◌, ◌≤◌, ◌<◌}
 use lib.ListN.{length}
-use Rattle.models.specs.Index.{entry, model_from}
-use Rattle.rules.specs.Obligations.{Obligation, location_obligations}
+use Rattle.models.specs.Index.{model_from}
+use Rattle.rules.specs.Obligations.{location_obligations}
 use Rattle.papers.specs.Paper.{regions_of}
 use Rattle.queries.specs.Finding.{one_at, group_obligations}
 use Rattle.papers.proofs.JoinedLaws.{joined_on}
-use Rattle.papers.proofs.StandingLaws.{stands_at_lem}
-use Rattle.queries.proofs.FindLaws.{one_on_lem, inside_on, inside-end, location-groups}
 use Rattle.queries.proofs.find.find_group.Given as goal
 
 abbrev pub invariant-loop-at : goal.invariant-loop-at

@@ -1,13 +1,10 @@
 -- What is left of all joint switches begins with those of the location that the search stands at. Assumes nothing.
 use mathlib.Core.Path.{sym, subst}
 use mathlib.Core.List.{List}
-use Prim.Native.Nat.{◌-◌, ◌≤◌}
 use native.Mathlib.Omega.{arith}
-use borrow.Author.Rules.{rules}
-use Rattle.formats.specs.Joint.{JointSwitch, joints_of, joints, join_all, count_up}
+use Rattle.formats.specs.Joint.{JointSwitch, joints}
 use Rattle.models.specs.Index.{components_from, model_from}
 use Rattle.papers.specs.Paper.{regions_of}
-use Rattle.papers.proofs.JoinedLaws.{joined_on}
 use Rattle.queries.specs.Finding.{Passing}
 use Rattle.queries.proofs.FindLaws.{passing-starts, few-here, in-location, in-joint, in_rest, in-none, joints-by-location}
 use Rattle.queries.proofs.find.find_jump.Goals as goal

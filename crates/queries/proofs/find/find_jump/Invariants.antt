@@ -1,14 +1,9 @@
-use mathlib.Core.Path.{sym, subst}
-use mathlib.Core.List.{List}
 use Prim.Native.Nat.{◌-◌, ◌≤◌}
-use native.Mathlib.Omega.{arith}
-use borrow.Author.Rules.{rules}
-use Rattle.formats.specs.Joint.{JointSwitch, joints_of, joints, join_all, count_up}
+use Rattle.formats.specs.Joint.{joints_of, joints, join_all, count_up}
 use Rattle.models.specs.Index.{components_from, model_from}
 use Rattle.papers.specs.Paper.{regions_of}
 use Rattle.papers.proofs.JoinedLaws.{joined_on}
 use Rattle.queries.specs.Finding.{Passing}
-use Rattle.queries.proofs.FindLaws.{passing-starts, few-here, in-location, in-joint, in_rest, in-none, joints-by-location}
 use Rattle.queries.proofs.find.find_jump.Given as goal
 
 abbrev pub invariant-loop-location : goal.invariant-loop-location

@@ -1,13 +1,10 @@
 -- What is left of the location's joint switches begins with those of the event that the search stands at. Assumes nothing.
 use mathlib.Core.Path.{sym, subst}
 use mathlib.Core.List.{List}
-use Prim.Native.Nat.{◌-◌, ◌≤◌}
 use native.Mathlib.Omega.{arith}
-use borrow.Author.Rules.{rules}
-use Rattle.formats.specs.Joint.{JointSwitch, joints_of, join_all, count_up}
+use Rattle.formats.specs.Joint.{JointSwitch}
 use Rattle.models.specs.Index.{components_from, model_from}
 use Rattle.papers.specs.Paper.{regions_of}
-use Rattle.papers.proofs.JoinedLaws.{joined_on}
 use Rattle.papers.proofs.StandingLaws.{stands_at_lem}
 use Rattle.queries.specs.Finding.{Passing, leaving_from}
 use Rattle.queries.proofs.FindLaws.{passing-starts, few-here, in-location, in-joint, in_rest, in-none, events-whole}

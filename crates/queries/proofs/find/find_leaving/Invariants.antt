@@ -1,15 +1,9 @@
-use mathlib.Core.Path.{sym, subst}
-use mathlib.Core.List.{List}
 use Prim.Native.Nat.{◌-◌, ◌≤◌}
-use native.Mathlib.Omega.{arith}
-use borrow.Author.Rules.{rules}
-use Rattle.formats.specs.Joint.{JointSwitch, joints_of, join_all, count_up}
+use Rattle.formats.specs.Joint.{joints_of, join_all, count_up}
 use Rattle.models.specs.Index.{components_from, model_from}
 use Rattle.papers.specs.Paper.{regions_of}
 use Rattle.papers.proofs.JoinedLaws.{joined_on}
-use Rattle.papers.proofs.StandingLaws.{stands_at_lem}
-use Rattle.queries.specs.Finding.{Passing, leaving_from}
-use Rattle.queries.proofs.FindLaws.{passing-starts, few-here, in-location, in-joint, in_rest, in-none, events-whole}
+use Rattle.queries.specs.Finding.{Passing}
 use Rattle.queries.proofs.find.find_leaving.Given as goal
 
 abbrev pub invariant-loop-e : goal.invariant-loop-e

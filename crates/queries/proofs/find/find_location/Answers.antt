@@ -1,14 +1,5 @@
 -- The obligation sought is so many on among those from this location on. Assumes nothing.
-use mathlib.Core.Path.{◌≡◌}
-use mathlib.Core.List.{◌++◌}
-use Prim.Native.Nat.{◌-◌, ◌≤◌}
 use native.Mathlib.Omega.{arith}
-use Rattle.formats.specs.Joint.{joints}
-use Rattle.models.specs.Index.{components_from, model_from}
-use Rattle.rules.specs.Obligations.{location_obligations, jumps_obligations}
-use Rattle.papers.specs.Paper.{regions_of}
-use Rattle.queries.specs.Finding.{one_at, paper_obligations}
-use Rattle.papers.proofs.JoinedLaws.{joined_on}
 use Rattle.queries.proofs.FindLaws.{one_on_lem, paper-start}
 use Rattle.queries.proofs.find.find_location.Goals as goal
 

@@ -1,18 +1,18 @@
 -- What is left of the event's joint switches begins with the one that the search stands at. Assumes nothing.
 use mathlib.Core.Path.{◌≡◌, ap, ◌∙◌}
 use mathlib.Core.List.{List}
-use Prim.Native.Nat.{ℕ, ◌+◌, ◌-◌, ◌≤◌, ◌<◌}
+use Prim.Native.Nat.{ℕ, ◌+◌, ◌<◌}
 use native.Mathlib.Omega.{arith}
 use lib.ListN.{length}
 use Rattle.formats.specs.Rows.{Condition}
 use Rattle.formats.specs.Locations.{location_count, modes_at}
-use Rattle.formats.specs.Joint.{joint_from, joints_of}
-use Rattle.models.specs.Index.{components_from, model_from}
+use Rattle.formats.specs.Joint.{joint_from}
+use Rattle.models.specs.Index.{components_from}
 use Rattle.papers.specs.Paper.{regions_of}
-use Rattle.queries.specs.Finding.{joint_here, Passing}
+use Rattle.queries.specs.Finding.{joint_here}
 use Rattle.papers.specs.Standing.{Stands}
 use Rattle.papers.proofs.LandedLaws.{stands-there, landed-count, landed-target, landed-below}
-use Rattle.queries.proofs.FindLaws.{event_size, each_on, each-starts, each_on_lem, each-few, each-found, in-none}
+use Rattle.queries.proofs.FindLaws.{event_size, each-starts, each_on_lem, each-few, each-found, in-none}
 use Rattle.queries.proofs.find.find_switch.Goals.{After-landing_at-landing, After-region_rows-goals, Start}
 use Rattle.queries.proofs.find.find_switch.Goals as goal
 

@@ -3,7 +3,6 @@ use mathlib.Core.Path.{ap₂, ◌∙◌}
 use native.Mathlib.Omega.{arith}
 use Rattle.queries.specs.declared.RowFound.TheVariants as row
 use Rattle.queries.proofs.HeldLaws.{form-second, form-jump, form-model, form-nowhere}
-use borrow.Author.Rules.{rules}
 use Rattle.queries.proofs.rows.line_row.Goals as goal
 
 pub row_at-at-requires : goal.row_at-at-requires

@@ -1,6 +1,5 @@
 -- The place of a row fits. Assumes nothing.
 use native.Mathlib.Omega.{arith}
-use borrow.Author.Rules.{rules}
 use Rattle.formats.proofs.Versions.{rows_fit}
 use Rattle.hypotheses.specs.Tables.{row_place}
 use Rattle.queries.proofs.rows.row_at.Goals as goal

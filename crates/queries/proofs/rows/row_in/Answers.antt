@@ -9,7 +9,6 @@ use Rattle.sums.specs.Summing.{line_in}
 use Rattle.sums.proofs.LineLaws.{some-segment}
 use Rattle.queries.specs.Finding.{located}
 use Rattle.queries.proofs.HeldLaws.{row-there, row-beyond}
-use borrow.Author.Rules.{rules}
 use Rattle.queries.proofs.rows.row_in.Goals as goal
 
 pub returns-then-lines-h : goal.returns-then-lines-h

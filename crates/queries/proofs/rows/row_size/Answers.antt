@@ -1,6 +1,5 @@
 -- The bytes of a row, which fit. Assumes nothing.
 use native.Mathlib.Omega.{arith}
-use borrow.Author.Rules.{rules}
 use Rattle.formats.proofs.Versions.{row_fits}
 use Rattle.queries.proofs.rows.row_size.Goals as goal
 

@@ -8,7 +8,6 @@ use Rattle.models.specs.Index.{entry}
 use Rattle.queries.specs.Finding.{GroupHeld}
 use Rattle.hypotheses.proofs.TableLaws.{pushed, lines_start}
 use Rattle.queries.proofs.HeldLaws.{start-held, flow-held, unsafe-held, held_at}
-use borrow.Author.Rules.{rules}
 use Rattle.queries.proofs.rows.table_at.Goals.{Start}
 use Rattle.queries.proofs.rows.table_at.Goals as goal
 

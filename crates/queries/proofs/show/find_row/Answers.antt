@@ -2,7 +2,6 @@
 use mathlib.Core.Path.{◌≡◌, sym, ◌∙◌, subst}
 use mathlib.Core.List.{List}
 use Prim.Native.Nat.{ℕ}
-use borrow.Author.Rules.{rules}
 use Rattle.formats.specs.declared.Limits.{Limits}
 use Rattle.rules.specs.Beside.{show_answer}
 use Rattle.queries.specs.declared.Located.{Located}

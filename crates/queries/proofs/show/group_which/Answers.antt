@@ -1,5 +1,4 @@
 -- By the number of the group. Assumes nothing.
-use borrow.Author.Rules.{rules}
 use Rattle.queries.proofs.ShowLaws.{group-unsafe, group-rows}
 use Rattle.queries.proofs.show.group_which.Goals as goal
 

@@ -1,5 +1,4 @@
 -- The first three numbers of what is told of the hypothesis. Assumes nothing.
-use borrow.Author.Rules.{rules}
 use Rattle.rules.specs.Marking.{answer}
 use Rattle.queries.proofs.ShowLaws.{answer-shown}
 use Rattle.queries.proofs.show.show_answer.Goals as goal

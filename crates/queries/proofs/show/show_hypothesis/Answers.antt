@@ -1,5 +1,4 @@
 -- By cases on where the row stands. Assumes nothing.
-use borrow.Author.Rules.{rules}
 use Rattle.rules.specs.Marking.{answer}
 use Rattle.rules.specs.Roles.{owned}
 use Rattle.queries.specs.declared.RowFound.TheVariants as row

@@ -1,7 +1,6 @@
 -- By cases on where the row stands; the part ends inside its sheet. Assumes nothing.
 use mathlib.Core.Path.{◌≡◌, refl}
 use mathlib.Core.List.{[]}
-use borrow.Author.Rules.{rules}
 use Rattle.formats.specs.ModelSheet.{stated}
 use Rattle.rules.specs.Beside.{find_hypothesis}
 use Rattle.queries.specs.Finding.{row_found}

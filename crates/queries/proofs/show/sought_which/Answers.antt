@@ -1,6 +1,5 @@
 -- By cases on what was found. Assumes nothing.
 use mathlib.Core.Path.{sym, ap, ◌∙◌}
-use borrow.Author.Rules.{rules}
 use lib.ListN.{length}
 use Rattle.models.specs.Index.{model_from}
 use Rattle.queries.specs.declared.Sought.{Sought}

@@ -1,5 +1,4 @@
 -- A refusal as it is, else the obligation that was found. Assumes nothing.
-use borrow.Author.Rules.{rules}
 use Rattle.queries.specs.Finding.{OpenFor, which_refused}
 use Rattle.queries.proofs.ShowLaws.{is_open, which-found, which-stopped}
 use Rattle.queries.proofs.show.which.Goals.{In-Open}

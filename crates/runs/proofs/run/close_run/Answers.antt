@@ -1,7 +1,6 @@
 -- By cases: a step that stopped, bytes left, then the state reached. Assumes nothing.
 use mathlib.Core.Path.{◌≡◌, sym, ◌∙◌}
 use native.Mathlib.Omega.{arith}
-use borrow.Author.Rules.{rules}
 use Rattle.formats.specs.Reading.{got, refused}
 use Rattle.formats.specs.Reading as reading
 use Rattle.fields.proofs.ChainLaws.{told_at, told-refused}

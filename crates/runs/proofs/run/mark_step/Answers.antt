@@ -92,12 +92,15 @@ returns-then-not-step_allowed c =
     let n = entry index 0 in
     let left = c.step_allowed.new.state in
     let same : length left ≡ length a.state.now = c.step_allowed.auto.state ∙ (lent (goal.at.returns-then-not-step_allowed c).After-state-1).whole in
-    let fails = test-failed c.step_allowed.result (ap not c.if-not-step_allowed.true) (allowed (goal.at.returns-then-not-step_allowed c).After-step_allowed) in record { state_after = rw c.stopped_at-then-not-step_allowed.ensures (mark-failed a.model.now index a.q a.s.now a.run a.state.now (step_with index c.in-Good.by (between (goal.at.returns-then-not-step_allowed c).After-state-1)) c.in-Good.place (step_is (goal.at.returns-then-not-step_allowed c).In-Good) fails left); run_stands_2 = rw c.stopped_at-then-not-step_allowed.ensures (record {
+    let fails = test-failed c.step_allowed.result (ap not c.if-not-step_allowed.true) (allowed (goal.at.returns-then-not-step_allowed c).After-step_allowed) in record {
+      state_after = rw c.stopped_at-then-not-step_allowed.ensures (mark-failed a.model.now index a.q a.s.now a.run a.state.now (step_with index c.in-Good.by (between (goal.at.returns-then-not-step_allowed c).After-state-1)) c.in-Good.place (step_is (goal.at.returns-then-not-step_allowed c).In-Good) fails left);
+      run_stands_2 = rw c.stopped_at-then-not-step_allowed.ensures (record {
         known = stands.known;
         small = small-first (kept-before n c.step_allowed.ensures.kept_values ∙ (lent (goal.at.returns-then-not-step_allowed c).After-state-1).front) (omega (arith, same, stands.small.long)) stands.small;
         room = omega (arith, same, stands.room);
         placed = stands.placed;
-      }) }
+      });
+    }
 
 pub overflow_add-result : goal.overflow_add-result
 overflow_add-result c =
@@ -111,12 +114,15 @@ returns-in-Refused c =
     let model = a.model.now in
     let index = a.index.now in
     let read = c.step in
-    let cut : read_step (model_from model index) a.s.now a.run.place ≡ refused c.in-Refused.number c.in-Refused.place = step-refused index (read_step (model_from model index) a.s.now a.run.place) read.new.values read.result (read.ensures.by_index model) c.in-Refused.number c.in-Refused.place c.in-Refused.is in record { state_after = rw c.stopped_at.ensures (mark-refused model index a.q a.s.now a.run a.state.now c.in-Refused.number c.in-Refused.place stands.placed cut (between (goal.at.returns-in-Refused c).After-state-1)); run_stands_2 = rw c.stopped_at.ensures (record {
+    let cut : read_step (model_from model index) a.s.now a.run.place ≡ refused c.in-Refused.number c.in-Refused.place = step-refused index (read_step (model_from model index) a.s.now a.run.place) read.new.values read.result (read.ensures.by_index model) c.in-Refused.number c.in-Refused.place c.in-Refused.is in record {
+      state_after = rw c.stopped_at.ensures (mark-refused model index a.q a.s.now a.run a.state.now c.in-Refused.number c.in-Refused.place stands.placed cut (between (goal.at.returns-in-Refused c).After-state-1));
+      run_stands_2 = rw c.stopped_at.ensures (record {
         known = stands.known;
         small = small-first (lent (goal.at.returns-in-Refused c).After-state-1).front (omega (arith, (lent (goal.at.returns-in-Refused c).After-state-1).whole, stands.small.long)) stands.small;
         room = omega (arith, (lent (goal.at.returns-in-Refused c).After-state-1).whole, stands.room);
         placed = refused-placed model index a.q a.s.now a.run a.state.now c.in-Refused.number c.in-Refused.place stands.placed cut;
-      }) }
+      });
+    }
 
 pub returns-else-not-step_allowed : goal.returns-else-not-step_allowed
 returns-else-not-step_allowed c =
@@ -141,9 +147,12 @@ returns-else-not-step_allowed c =
     state-kept model index modes.result last (drop n (between (goal.at.returns-else-not-step_allowed c).After-state-1)) moved
     ∙ ap (λ (ms : List ℕ). state_in model index ms (drop n (between (goal.at.returns-else-not-step_allowed c).After-state-1))) modes.ensures
     ∙ step-leads good a.run.modes stands.known (long (goal.at.returns-else-not-step_allowed c).Start) c.in-Good.by (known (goal.at.returns-else-not-step_allowed c).In-Good) (between (goal.at.returns-else-not-step_allowed c).After-state-1)
-    ∙ ap (λ (x : State). after (model_from model index) x step) (state-kept model index a.run.modes (between (goal.at.returns-else-not-step_allowed c).After-state-1) a.state.now (lent (goal.at.returns-else-not-step_allowed c).After-state-1).front) in record { state_after = mark-passed model index a.q a.s.now a.run a.state.now step c.in-Good.place (step_is (goal.at.returns-else-not-step_allowed c).In-Good) modes.result last passes leads; run_stands_2 = record {
+    ∙ ap (λ (x : State). after (model_from model index) x step) (state-kept model index a.run.modes (between (goal.at.returns-else-not-step_allowed c).After-state-1) a.state.now (lent (goal.at.returns-else-not-step_allowed c).After-state-1).front) in record {
+      state_after = mark-passed model index a.q a.s.now a.run a.state.now step c.in-Good.place (step_is (goal.at.returns-else-not-step_allowed c).In-Good) modes.result last passes leads;
+      run_stands_2 = record {
         known = subst (KnownModes index) (sym modes.ensures) (next_known good a.run.modes stands.known (long (goal.at.returns-else-not-step_allowed c).Start) c.in-Good.by (known (goal.at.returns-else-not-step_allowed c).In-Good));
         small = small-first moved (omega (arith, whole, stands.small.long)) (young (goal.at.returns-else-not-step_allowed c).In-Good);
         room = omega (arith, whole, stands.room);
         placed = step-placed model index a.q a.s.now a.run a.state.now step c.in-Good.place stands.placed (step_is (goal.at.returns-else-not-step_allowed c).In-Good);
-      } }
+      };
+    }

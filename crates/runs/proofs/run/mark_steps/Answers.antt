@@ -1,9 +1,6 @@
 -- What is still to come is what the whole comes to. Assumes nothing.
-use mathlib.Core.Path.{◌≡◌, refl, ◌∙◌}
-use Prim.Native.Nat.{◌+◌, ◌≤◌}
+use mathlib.Core.Path.{refl, ◌∙◌}
 use native.Mathlib.Omega.{arith}
-use lib.ListN.{length}
-use Rattle.runs.specs.RunHeld.{RunStands, steps_from}
 use Rattle.runs.proofs.RunCode.{steps-go-on, steps-stop, steps-end, one-done}
 use Rattle.runs.proofs.run.mark_steps.Goals as goal
 

@@ -1,9 +1,7 @@
-use mathlib.Core.Path.{◌≡◌, refl, ◌∙◌}
+use mathlib.Core.Path.{◌≡◌}
 use Prim.Native.Nat.{◌+◌, ◌≤◌}
-use native.Mathlib.Omega.{arith}
 use lib.ListN.{length}
 use Rattle.runs.specs.RunHeld.{RunStands, steps_from}
-use Rattle.runs.proofs.RunCode.{steps-go-on, steps-stop, steps-end, one-done}
 use Rattle.runs.proofs.run.mark_steps.Given as goal
 
 abbrev pub invariant-loop-left : goal.invariant-loop-left

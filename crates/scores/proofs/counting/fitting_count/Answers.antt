@@ -1,11 +1,7 @@
 -- What has been counted, with those still to come from this condition on, is the whole. Assumes nothing.
-use mathlib.Core.Path.{◌≡◌}
-use Prim.Native.Nat.{◌+◌, ◌-◌}
 use native.Mathlib.Omega.{arith}
-use borrow.Author.Rules.{rules}
-use lib.ListN.{length}
 use Rattle.models.specs.Index.{entry}
-use Rattle.scores.proofs.CountGoals.{fitting_on, fitting-turn, fitting-end, fitting-most}
+use Rattle.scores.proofs.CountGoals.{fitting-turn, fitting-end, fitting-most}
 use Rattle.scores.proofs.counting.fitting_count.Goals as goal
 
 pub overflow_cast-conditions : goal.overflow_cast-conditions

@@ -1,10 +1,7 @@
 use mathlib.Core.Path.{◌≡◌}
 use Prim.Native.Nat.{◌+◌, ◌-◌}
-use native.Mathlib.Omega.{arith}
-use borrow.Author.Rules.{rules}
 use lib.ListN.{length}
-use Rattle.models.specs.Index.{entry}
-use Rattle.scores.proofs.CountGoals.{fitting_on, fitting-turn, fitting-end, fitting-most}
+use Rattle.scores.proofs.CountGoals.{fitting_on}
 use Rattle.scores.proofs.counting.fitting_count.Given as goal
 
 abbrev pub invariant-loop-u : goal.invariant-loop-u

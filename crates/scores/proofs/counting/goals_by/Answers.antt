@@ -1,6 +1,6 @@
 -- What has been counted are the goals of the locations so far. Assumes nothing.
 use mathlib.Core.Path.{◌≡◌, refl, ap, ◌∙◌}
-use Prim.Native.Nat.{ℕ, ◌+◌, ◌-◌, ◌≤◌}
+use Prim.Native.Nat.{ℕ, ◌+◌}
 use native.Mathlib.Omega.{arith}
 use Rattle.formats.specs.Joint.{count_up}
 use Rattle.formats.specs.JointTotals.{sum_over}

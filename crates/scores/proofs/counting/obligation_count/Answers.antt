@@ -1,6 +1,5 @@
 -- A table of zeros is blank. Assumes nothing.
 use native.Mathlib.Omega.{arith}
-use borrow.Author.Rules.{rules}
 use Rattle.joint_switches.proofs.TableLaws.{zeros-blank}
 use Rattle.scores.proofs.counting.obligation_count.Goals as goal
 

@@ -1,6 +1,5 @@
 -- By cases: less than half is past the quotient, more, or half. Assumes nothing.
 use native.Mathlib.Omega.{arith}
-use borrow.Author.Rules.{rules}
 use Rattle.scores.proofs.ScoreLaws.{past_fits, next_fits, nearest-below, nearest-above, nearest-half}
 use Rattle.scores.proofs.rounding.nearest.Goals as goal
 

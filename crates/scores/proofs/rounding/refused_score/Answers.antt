@@ -1,6 +1,5 @@
 -- By cases: nothing to do, more than 99, or the score. Assumes nothing.
 use native.Mathlib.Omega.{arith}
-use borrow.Author.Rules.{rules}
 use Rattle.scores.proofs.ScoreLaws.{score-none, score-most, score-some}
 use Rattle.scores.proofs.rounding.refused_score.Goals as goal
 

@@ -1,7 +1,6 @@
 -- The hypothesis below the count and not below the least, then the multiplier in its range. Assumes nothing.
 use mathlib.Core.Path.{◌≡◌, refl, sym, ap, ◌∙◌}
 use Prim.Native.Nat.{◌-◌, ◌^◌}
-use borrow.Author.Rules.{rules}
 use lib.Dec.{leb}
 use Rattle.formats.specs.Reading.{got, u8, u32, within, below, passing, must, give}
 use Rattle.formats.specs.Certificate.{read_entry}

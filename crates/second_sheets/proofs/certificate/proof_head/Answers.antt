@@ -1,7 +1,6 @@
 -- The k in its range, then the count of entries in its. Assumes nothing.
 use mathlib.Core.Path.{◌≡◌, refl, sym, ap, ◌∙◌}
 use Prim.Native.Nat.{ℕ, ◌-◌, ◌^◌}
-use borrow.Author.Rules.{rules}
 use mathlib.Core.Bool.{cond}
 use Rattle.formats.specs.Reading.{got, u8, u32, within, give}
 use Rattle.fields.specs.Answers.{got_field}

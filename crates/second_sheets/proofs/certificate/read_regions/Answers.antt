@@ -1,7 +1,6 @@
 -- The count byte, which must be the number of locations, then as many regions. Assumes nothing.
 use mathlib.Core.Path.{◌≡◌, sym, ap, ◌∙◌}
 use Prim.Native.Nat.{ℕ, ◌*◌}
-use borrow.Author.Rules.{rules}
 use lib.Dec.{eqb}
 use Rattle.formats.specs.Reading.{got, u8, passing, must}
 use Rattle.fields.specs.Answers.{got_as}

@@ -1,18 +1,16 @@
 -- The regions before this one are kept, and the rest is read from here; each turn keeps one more. Assumes nothing.
 use mathlib.Core.Path.{◌≡◌, refl, sym, ◌∙◌}
-use Prim.Native.Nat.{◌+◌, ◌*◌, ◌-◌, ◌<◌, ◌≤◌}
+use Prim.Native.Nat.{◌+◌, ◌*◌, ◌<◌}
 use native.Mathlib.Omega.{arith}
-use borrow.Author.Rules.{rules}
-use lib.ListN.{length, length-set}
+use lib.ListN.{length-set}
 use Rattle.formats.specs.Reading.{got}
 use Rattle.formats.specs.Rows.{read_condition}
 use Rattle.fields.specs.Places.{rows_from}
-use Rattle.models.specs.Index.{Kept}
 use Rattle.fields.specs.Answers.{got_as}
 use Rattle.models.proofs.IndexLaws.{kept-none}
 use Rattle.fields.proofs.AnswerLaws.{rows-value, rows-refused}
 use Rattle.fields.proofs.ConditionLaws.{CountRead, condition-read}
-use Rattle.second_sheets.proofs.CertificateLaws.{Regions, regions-start, regions-go-on, regions-stop, regions-kept, regions-end}
+use Rattle.second_sheets.proofs.CertificateLaws.{regions-start, regions-go-on, regions-stop, regions-kept, regions-end}
 use Rattle.second_sheets.proofs.certificate.regions_into.Goals.{In-Value}
 use Rattle.second_sheets.proofs.certificate.regions_into.Goals as goal
 

@@ -1,17 +1,8 @@
-use mathlib.Core.Path.{◌≡◌, refl, sym, ◌∙◌}
-use Prim.Native.Nat.{◌+◌, ◌*◌, ◌-◌, ◌<◌, ◌≤◌}
-use native.Mathlib.Omega.{arith}
-use borrow.Author.Rules.{rules}
-use lib.ListN.{length, length-set}
-use Rattle.formats.specs.Reading.{got}
-use Rattle.formats.specs.Rows.{read_condition}
-use Rattle.fields.specs.Places.{rows_from}
+use mathlib.Core.Path.{◌≡◌}
+use Prim.Native.Nat.{◌*◌, ◌-◌, ◌≤◌}
+use lib.ListN.{length}
 use Rattle.models.specs.Index.{Kept}
-use Rattle.fields.specs.Answers.{got_as}
-use Rattle.models.proofs.IndexLaws.{kept-none}
-use Rattle.fields.proofs.AnswerLaws.{rows-value, rows-refused}
-use Rattle.fields.proofs.ConditionLaws.{CountRead, condition-read}
-use Rattle.second_sheets.proofs.CertificateLaws.{Regions, regions-start, regions-go-on, regions-stop, regions-kept, regions-end}
+use Rattle.second_sheets.proofs.CertificateLaws.{Regions}
 use Rattle.second_sheets.proofs.certificate.regions_into.Given as goal
 
 abbrev pub invariant-loop-l : goal.invariant-loop-l

@@ -3,7 +3,6 @@ use mathlib.Core.Path.{◌≡◌, sym, ap, ◌∙◌}
 use mathlib.Core.List.{List}
 use Prim.Native.Nat.{ℕ}
 use native.Mathlib.Omega.{arith}
-use borrow.Author.Rules.{rules}
 use Rattle.formats.specs.Reading.{got, refused, u8, within}
 use Rattle.models.specs.Index.{entry, model_from}
 use Rattle.formats.specs.RunSheet.{read_jump}

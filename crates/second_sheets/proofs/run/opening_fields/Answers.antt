@@ -1,7 +1,6 @@
 -- Three fields in their ranges; the third stands six bytes after the first. Assumes nothing.
 use mathlib.Core.Path.{◌≡◌, sym, ◌∙◌}
 use Prim.Native.Nat.{◌-◌, ◌^◌}
-use borrow.Author.Rules.{rules}
 use Rattle.formats.specs.Reading.{got, u16, u32, within}
 use Rattle.second_sheets.specs.RunAnswers.{opening_as}
 use Rattle.fields.proofs.AnswerLaws.{field-value, field-refused}

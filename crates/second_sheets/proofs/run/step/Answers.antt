@@ -2,7 +2,6 @@
 use mathlib.Core.Path.{◌≡◌, sym, ap, ◌∙◌}
 use mathlib.Core.List.{List}
 use Prim.Native.Nat.{ℕ}
-use borrow.Author.Rules.{rules}
 use Rattle.formats.specs.Reading.{got, refused, u8, within}
 use Rattle.models.specs.Index.{entry, model_from}
 use Rattle.formats.specs.RunSheet.{read_step}

@@ -1,8 +1,7 @@
 -- The bytes before this one are in their places and 255 stands after them, and the rest is read from here. Assumes nothing.
 use mathlib.Core.Path.{◌≡◌, sym, ap, ◌∙◌, subst}
-use Prim.Native.Nat.{ℕ, ◌+◌, ◌*◌, ◌-◌, ◌<◌, ◌≤◌}
+use Prim.Native.Nat.{ℕ, ◌+◌, ◌*◌, ◌<◌}
 use native.Mathlib.Omega.{arith}
-use borrow.Author.Rules.{rules}
 use lib.ListN.{take, replicate}
 use Rattle.second_sheets.specs.declared.SwitchesRead.TheVariants as switches
 use Rattle.formats.specs.Reading.{got}
@@ -10,7 +9,7 @@ use Rattle.formats.specs.Joint.{stays}
 use Rattle.second_sheets.specs.RunAnswers.{switch_byte, switch_bytes, held_bytes}
 use Rattle.models.specs.Index.{entry, component_place}
 use Rattle.fields.proofs.AnswerLaws.{field-value, field-refused}
-use Rattle.second_sheets.proofs.RunLaws.{Front, front-start, front-put, switch-is, BytesRead, bytes-start, bytes-stop, bytes-go-on, bytes-end, bytes-held}
+use Rattle.second_sheets.proofs.RunLaws.{Front, front-start, front-put, switch-is, bytes-start, bytes-stop, bytes-go-on, bytes-end, bytes-held}
 use Rattle.second_sheets.proofs.run.switches.Goals as goal
 
 pub bounds-index-1 : goal.bounds-index-1

@@ -1,17 +1,16 @@
 -- The values before this one are in their places, what stands from n on is as it was, and the rest is read from here. Assumes nothing.
 use mathlib.Core.Path.{◌≡◌, refl, sym, ap, ◌∙◌}
-use Prim.Native.Nat.{◌-◌, ◌≤◌}
 use native.Mathlib.Omega.{arith}
 use borrow.Author.Rules.{rules}
 use lib.IntN.{ℤ}
-use lib.ListN.{length, length-set}
+use lib.ListN.{length-set}
 use mir.Syntax.{w64}
 use mir.Val.{to_z, of_z}
 use mir.Facts.{to_z-of_z}
 use Rattle.formats.specs.Reading.{got}
 use Rattle.fields.specs.Answers.{got_as}
-use Rattle.second_sheets.specs.RunAnswers.{read_value, KeptValues}
-use Rattle.second_sheets.proofs.RunLaws.{signed-value, signed-refused, ValuesRead, values-start, values-stop, values-go-on, values-end, kept_same, kept_put}
+use Rattle.second_sheets.specs.RunAnswers.{read_value}
+use Rattle.second_sheets.proofs.RunLaws.{signed-value, signed-refused, values-start, values-stop, values-go-on, values-end, kept_same, kept_put}
 use Rattle.second_sheets.proofs.run.values_into.Goals as goal
 
 pub loop-i-init : goal.loop-i-init

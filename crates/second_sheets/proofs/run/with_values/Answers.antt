@@ -1,5 +1,4 @@
 -- The values, then the step beside them, or the refusal. Assumes nothing.
-use borrow.Author.Rules.{rules}
 use lib.ListN.{take}
 use Rattle.second_sheets.proofs.StepLaws.{with_at, with-held, with-refused, with_none}
 use Rattle.second_sheets.proofs.run.with_values.Goals as goal

@@ -1,12 +1,11 @@
 -- What the components from here on give is what all of them give. Assumes nothing.
-use mathlib.Core.Path.{◌≡◌, refl}
-use Prim.Native.Nat.{◌-◌, ◌≤◌}
+use mathlib.Core.Path.{refl}
+use Prim.Native.Nat.{◌≤◌}
 use native.Mathlib.Omega.{arith}
-use borrow.Author.Rules.{rules}
 use lib.ListN.{length}
 use Rattle.formats.specs.Joint.{stays}
 use Rattle.models.specs.Index.{entry}
-use Rattle.steps.proofs.JumpLaws.{stay_on, stay-goes-on, stay-stops, stay-ends}
+use Rattle.steps.proofs.JumpLaws.{stay-goes-on, stay-stops, stay-ends}
 use Rattle.steps.proofs.jumps.all_stay.Goals as goal
 
 pub overflow_cast-components : goal.overflow_cast-components

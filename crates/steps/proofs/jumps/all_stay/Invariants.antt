@@ -1,11 +1,7 @@
-use mathlib.Core.Path.{◌≡◌, refl}
+use mathlib.Core.Path.{◌≡◌}
 use Prim.Native.Nat.{◌-◌, ◌≤◌}
-use native.Mathlib.Omega.{arith}
-use borrow.Author.Rules.{rules}
-use lib.ListN.{length}
-use Rattle.formats.specs.Joint.{stays}
 use Rattle.models.specs.Index.{entry}
-use Rattle.steps.proofs.JumpLaws.{stay_on, stay-goes-on, stay-stops, stay-ends}
+use Rattle.steps.proofs.JumpLaws.{stay_on}
 use Rattle.steps.proofs.jumps.all_stay.Given as goal
 
 abbrev pub invariant-loop-k : goal.invariant-loop-k

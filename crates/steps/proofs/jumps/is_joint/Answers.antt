@@ -1,6 +1,5 @@
 -- By cases: event 0, an empty scope, more or fewer movers than the scope has members, and any other. Assumes nothing.
 use mathlib.Core.Path.{sym, ◌∙◌}
-use borrow.Author.Rules.{rules}
 use Rattle.models.specs.Index.{components_from}
 use Rattle.models.specs.Counts.{per_component}
 use Rattle.steps.proofs.JumpLaws.{joint-one, joint-none, joint-many, joint-members}

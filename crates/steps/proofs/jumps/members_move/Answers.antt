@@ -1,15 +1,12 @@
 -- What the components from here on give is what all give. Assumes nothing.
 use mathlib.Core.Bool.{not}
-use mathlib.Core.Path.{◌≡◌, refl, ap}
-use Prim.Native.Nat.{◌-◌, ◌≤◌}
+use mathlib.Core.Path.{refl, ap}
+use Prim.Native.Nat.{◌≤◌}
 use native.Mathlib.Omega.{arith}
-use borrow.Author.Rules.{rules}
 use lib.ListN.{length}
-use Rattle.formats.specs.Joint.{members_move}
-use Rattle.models.specs.Index.{entry, components_from}
-use Rattle.models.specs.Counts.{per_component}
+use Rattle.models.specs.Index.{entry}
 use Rattle.rules.proofs.ListFacts.{test-failed, test-passed}
-use Rattle.steps.proofs.JumpLaws.{members_on, members-go-on, members-stop, members-end}
+use Rattle.steps.proofs.JumpLaws.{members-go-on, members-stop, members-end}
 use Rattle.steps.proofs.jumps.members_move.Goals as goal
 
 pub overflow_cast-components : goal.overflow_cast-components

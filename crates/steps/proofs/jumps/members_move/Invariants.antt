@@ -1,13 +1,9 @@
-use mathlib.Core.Path.{◌≡◌, refl}
+use mathlib.Core.Path.{◌≡◌}
 use Prim.Native.Nat.{◌-◌, ◌≤◌}
-use native.Mathlib.Omega.{arith}
-use borrow.Author.Rules.{rules}
-use lib.ListN.{length}
 use Rattle.formats.specs.Joint.{members_move}
 use Rattle.models.specs.Index.{entry, components_from}
 use Rattle.models.specs.Counts.{per_component}
-use Rattle.rules.proofs.ListFacts.{test-failed, test-passed}
-use Rattle.steps.proofs.JumpLaws.{members_on, members-go-on, members-stop, members-end}
+use Rattle.steps.proofs.JumpLaws.{members_on}
 use Rattle.steps.proofs.jumps.members_move.Given as goal
 
 abbrev pub invariant-loop-k : goal.invariant-loop-k

@@ -1,6 +1,5 @@
 -- By the kind of the step: a flow keeps the modes, a jump leads to those of its switches. Assumes nothing.
 use mathlib.Core.Path.{sym, ap, ◌∙◌}
-use borrow.Author.Rules.{rules}
 use Rattle.second_sheets.specs.RunAnswers.{switches_in}
 use Rattle.steps.specs.Held.{modes_next}
 use Rattle.steps.proofs.jumps.modes_after.Goals as goal

@@ -1,13 +1,13 @@
 -- So many modes after the jump stand in the place of those before. Assumes nothing.
 use mathlib.Core.Path.{◌≡◌, ap, ◌∙◌}
 use mathlib.Core.List.{List}
-use Prim.Native.Nat.{ℕ, ◌-◌, ◌<◌, ◌≤◌}
+use Prim.Native.Nat.{ℕ, ◌<◌, ◌≤◌}
 use native.Mathlib.Omega.{arith}
 use borrow.Author.Rules.{rules}
 use lib.ListN.{length, set}
 use Rattle.models.specs.Index.{entry}
 use Rattle.models.proofs.GoodIndexLaws.{switch-length}
-use Rattle.steps.proofs.JumpLaws.{Landed, landed_none, landed-more, landed-all}
+use Rattle.steps.proofs.JumpLaws.{landed_none, landed-more, landed-all}
 use Rattle.steps.proofs.jumps.modes_by.Goals.{In-loop-k, Start}
 use Rattle.steps.proofs.jumps.modes_by.Goals as goal
 

@@ -1,12 +1,6 @@
-use mathlib.Core.Path.{◌≡◌, ap, ◌∙◌}
-use mathlib.Core.List.{List}
-use Prim.Native.Nat.{ℕ, ◌-◌, ◌<◌, ◌≤◌}
-use native.Mathlib.Omega.{arith}
-use borrow.Author.Rules.{rules}
-use lib.ListN.{length, set}
-use Rattle.models.specs.Index.{entry}
-use Rattle.models.proofs.GoodIndexLaws.{switch-length}
-use Rattle.steps.proofs.JumpLaws.{Landed, landed_none, landed-more, landed-all}
+use mathlib.Core.Path.{◌≡◌}
+use Prim.Native.Nat.{◌-◌, ◌≤◌}
+use Rattle.steps.proofs.JumpLaws.{Landed}
 use Rattle.steps.proofs.jumps.modes_by.Given as goal
 
 abbrev pub invariant-loop-k : goal.invariant-loop-k

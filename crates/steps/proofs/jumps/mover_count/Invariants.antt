@@ -1,14 +1,8 @@
-use mathlib.Core.Path.{◌≡◌, refl, sym, ap, ◌∙◌}
-use mathlib.Core.Bool.{Bool, true, false, not}
-use Prim.Native.Nat.{ℕ, ◌+◌, ◌-◌, ◌≤◌, ◌<◌}
-use native.Mathlib.Omega.{arith}
-use borrow.Author.Rules.{rules}
-use lib.Arith.{le-zero}
-use lib.Dec.{eqb}
-use lib.ListN.{length, get_or}
-use Rattle.formats.specs.Joint.{stays, bit}
+use mathlib.Core.Path.{◌≡◌}
+use Prim.Native.Nat.{◌+◌, ◌≤◌}
+use lib.ListN.{length}
 use Rattle.models.specs.Index.{entry}
-use Rattle.steps.proofs.JumpLaws.{movers_on, movers-turn, movers-end}
+use Rattle.steps.proofs.JumpLaws.{movers_on}
 use Rattle.steps.proofs.jumps.mover_count.Given as goal
 
 abbrev pub invariant-loop-k : goal.invariant-loop-k

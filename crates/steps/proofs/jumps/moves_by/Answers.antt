@@ -1,7 +1,6 @@
 -- The number is below the count that an index keeps, and the switch leaves. Assumes nothing.
 use mathlib.Core.Path.{sym, ◌∙◌}
 use native.Mathlib.Omega.{arith}
-use borrow.Author.Rules.{rules}
 use Rattle.models.specs.Index.{entry, component_place}
 use Rattle.models.specs.Counts.{component_at}
 use Rattle.models.proofs.GoodIndexLaws.{switch-length}

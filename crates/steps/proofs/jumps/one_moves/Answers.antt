@@ -1,15 +1,13 @@
 -- What the components from here on give is what all give. Assumes nothing.
 use mathlib.Core.Bool.{not}
-use mathlib.Core.Path.{◌≡◌, refl, ◌∙◌, ap}
-use Prim.Native.Nat.{◌-◌, ◌≤◌}
+use mathlib.Core.Path.{refl, ◌∙◌, ap}
+use Prim.Native.Nat.{◌≤◌}
 use native.Mathlib.Omega.{arith}
-use borrow.Author.Rules.{rules}
 use lib.ListN.{length}
-use Rattle.formats.specs.Joint.{stays, one_moves}
-use Rattle.models.specs.Index.{entry, components_from}
-use Rattle.models.specs.Counts.{per_component}
+use Rattle.formats.specs.Joint.{stays}
+use Rattle.models.specs.Index.{entry}
 use Rattle.rules.proofs.ListFacts.{test-failed, test-passed}
-use Rattle.steps.proofs.JumpLaws.{one_on, one-goes-on, one-stops, one_then, one-ends}
+use Rattle.steps.proofs.JumpLaws.{one-goes-on, one-stops, one_then, one-ends}
 use Rattle.steps.proofs.jumps.one_moves.Goals as goal
 
 pub overflow_cast-components : goal.overflow_cast-components

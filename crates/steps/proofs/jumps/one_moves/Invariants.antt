@@ -1,13 +1,9 @@
-use mathlib.Core.Path.{◌≡◌, refl, ◌∙◌}
+use mathlib.Core.Path.{◌≡◌}
 use Prim.Native.Nat.{◌-◌, ◌≤◌}
-use native.Mathlib.Omega.{arith}
-use borrow.Author.Rules.{rules}
-use lib.ListN.{length}
-use Rattle.formats.specs.Joint.{stays, one_moves}
+use Rattle.formats.specs.Joint.{one_moves}
 use Rattle.models.specs.Index.{entry, components_from}
 use Rattle.models.specs.Counts.{per_component}
-use Rattle.rules.proofs.ListFacts.{test-failed, test-passed}
-use Rattle.steps.proofs.JumpLaws.{one_on, one-goes-on, one-stops, one_then, one-ends}
+use Rattle.steps.proofs.JumpLaws.{one_on}
 use Rattle.steps.proofs.jumps.one_moves.Given as goal
 
 abbrev pub invariant-loop-k : goal.invariant-loop-k

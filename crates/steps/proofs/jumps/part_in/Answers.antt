@@ -1,6 +1,5 @@
 -- By cases: a member of the scope, and any other component. Assumes nothing.
 use mathlib.Core.Path.{sym, ◌∙◌}
-use borrow.Author.Rules.{rules}
 use Rattle.formats.specs.Joint.{stays}
 use Rattle.models.specs.Counts.{component_at}
 use Rattle.steps.proofs.JumpLaws.{part-moves, part_stays}

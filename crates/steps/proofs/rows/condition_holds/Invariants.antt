@@ -1,13 +1,10 @@
-use mathlib.Core.Path.{◌≡◌, sym, ap, ◌∙◌, subst}
-use Prim.Native.Nat.{ℕ, ◌+◌, ◌*◌, ◌-◌, ◌≤◌, ◌<◌}
-use native.Mathlib.Omega.{arith}
-use borrow.Author.Tests.{not-true, not-false}
-use lib.ListN.{length, take}
+use mathlib.Core.Path.{◌≡◌}
+use Prim.Native.Nat.{◌+◌, ◌*◌, ◌-◌, ◌≤◌}
+use lib.ListN.{take}
 use Rattle.formats.specs.Versions.{row_bytes}
 use Rattle.fields.specs.Places.{rows_from}
 use Rattle.models.specs.Index.{entry, span_rows}
 use Rattle.rules.specs.Runs as runs
-use Rattle.steps.proofs.ValueLaws.{row_room, row_next, rows_start, rows_pass, rows-fail, rows_none}
 use Rattle.steps.proofs.rows.condition_holds.Given as goal
 
 abbrev pub invariant-loop-j : goal.invariant-loop-j

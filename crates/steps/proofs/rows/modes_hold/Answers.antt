@@ -1,8 +1,7 @@
 -- The rows of the modes that are left hold exactly when those of all do. Assumes nothing.
 use mathlib.Core.Path.{◌≡◌}
-use Prim.Native.Nat.{◌+◌, ◌-◌, ◌≤◌, ◌<◌}
+use Prim.Native.Nat.{◌+◌, ◌<◌}
 use native.Mathlib.Omega.{arith}
-use borrow.Author.Tests.{not-true, not-false}
 use Rattle.farkas.specs.Lists.{every}
 use Rattle.formats.specs.Joint.{count_up}
 use Rattle.models.specs.Index.{entry}

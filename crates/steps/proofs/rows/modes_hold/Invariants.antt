@@ -1,13 +1,9 @@
 use mathlib.Core.Path.{◌≡◌}
-use Prim.Native.Nat.{◌+◌, ◌-◌, ◌≤◌, ◌<◌}
-use native.Mathlib.Omega.{arith}
-use borrow.Author.Tests.{not-true, not-false}
+use Prim.Native.Nat.{◌-◌, ◌≤◌}
 use Rattle.farkas.specs.Lists.{every}
 use Rattle.formats.specs.Joint.{count_up}
 use Rattle.models.specs.Index.{entry}
 use Rattle.steps.specs.Held.{mode_holds}
-use Rattle.steps.proofs.ValueLoops.{each_start, each-pass, each-fail, each_none}
-use Rattle.steps.proofs.ValueLaws.{point-for, mode-place, mode-span, mode-told}
 use Rattle.steps.proofs.rows.modes_hold.Given as goal
 
 abbrev pub invariant-loop-k : goal.invariant-loop-k

@@ -1,17 +1,9 @@
-use mathlib.Core.Path.{◌≡◌, ◌∙◌}
+use mathlib.Core.Path.{◌≡◌}
 use Prim.Native.Nat.{◌-◌, ◌≤◌}
-use native.Mathlib.Omega.{arith}
-use borrow.Author.Rules.{rules}
-use lib.ListN.{length}
 use Rattle.farkas.specs.Lists.{some}
 use Rattle.formats.specs.Joint.{count_up}
-use Rattle.models.specs.Index.{model_from, entry}
-use Rattle.rules.specs.Runs as runs
-use Rattle.steps.specs.Held.{state_in, unsafe_at}
-use Rattle.steps.proofs.ValueLoops.{some-start, some-pass, some-found, some-none}
-use Rattle.steps.proofs.SliceLaws.{small-point}
-use Rattle.steps.proofs.StandLaws.{stands-in}
-use Rattle.steps.proofs.ValueStates.{unsafe-told}
+use Rattle.models.specs.Index.{entry}
+use Rattle.steps.specs.Held.{unsafe_at}
 use Rattle.steps.proofs.values.is_unsafe.Given as goal
 
 abbrev pub invariant-loop-u : goal.invariant-loop-u

@@ -1,18 +1,9 @@
-use mathlib.Core.Path.{◌≡◌, ◌∙◌}
-use Prim.Native.Nat.{ℕ, ◌-◌, ◌≤◌, ◌<◌}
-use native.Mathlib.Omega.{arith}
-use borrow.Author.Rules.{rules}
-use borrow.Author.Tests.{not-true, not-false}
-use lib.ListN.{length}
+use mathlib.Core.Path.{◌≡◌}
+use Prim.Native.Nat.{◌-◌, ◌≤◌}
 use Rattle.farkas.specs.Lists.{every}
 use Rattle.formats.specs.Joint.{count_up}
-use Rattle.models.specs.Index.{model_from, entry}
-use Rattle.models.specs.Counts.{per_component}
-use Rattle.rules.specs.Runs as runs
-use Rattle.steps.specs.Held.{state_of, values_after, move_at}
-use Rattle.steps.proofs.ValueLoops.{each_start, each-pass, each-fail, each_none}
-use Rattle.steps.proofs.SliceLaws.{small-point}
-use Rattle.steps.proofs.ValueStates.{jump-told}
+use Rattle.models.specs.Index.{entry}
+use Rattle.steps.specs.Held.{move_at}
 use Rattle.steps.proofs.values.jump_rows.Given as goal
 
 abbrev pub invariant-loop-k : goal.invariant-loop-k

@@ -1,11 +1,6 @@
-use mathlib.Core.Path.{◌≡◌, ap, ap₂, ◌∙◌}
-use mathlib.Core.List.{List}
-use Prim.Native.Nat.{ℕ, ◌+◌, ◌*◌, ◌-◌, ◌≤◌}
-use native.Mathlib.Omega.{arith}
-use lib.IntN.{ℤ, pos}
-use lib.ListN.{length, get_or, set}
-use mir.Facts.{to_z-of_z}
-use Rattle.steps.proofs.SliceLaws.{Moved, moved_none, moved_length, moved-ahead, moved_more}
+use mathlib.Core.Path.{◌≡◌}
+use Prim.Native.Nat.{◌-◌, ◌≤◌}
+use Rattle.steps.proofs.SliceLaws.{Moved}
 use Rattle.steps.proofs.values.keep_values.Given as goal
 
 abbrev pub invariant-loop-i : goal.invariant-loop-i

@@ -1,9 +1,8 @@
 -- The variables that are left keep their values exactly when all do. Assumes nothing.
 use mathlib.Core.Path.{◌≡◌}
 use mathlib.Core.Bool.{Bool}
-use Prim.Native.Nat.{ℕ, ◌-◌, ◌≤◌, ◌<◌}
+use Prim.Native.Nat.{ℕ, ◌<◌}
 use native.Mathlib.Omega.{arith}
-use borrow.Author.Tests.{not-true, not-false}
 use Rattle.farkas.specs.Lists.{every}
 use Rattle.formats.specs.Joint.{count_up}
 use Rattle.models.specs.Index.{entry}

@@ -1,6 +1,5 @@
 -- One comparison of two whole numbers. Assumes nothing.
 use Prim.Native.Nat.{◌+◌}
-use borrow.Author.Rules.{rules}
 use lib.IntN.{pos}
 use lib.ListN.{get_or}
 use Rattle.farkas.specs.Rows.{item}

@@ -1,14 +1,8 @@
-use mathlib.Core.Path.{◌≡◌, refl}
-use Prim.Native.Nat.{◌+◌, ◌-◌, ◌≤◌}
-use native.Mathlib.Omega.{arith}
-use lib.IntN.{pos}
-use lib.ListN.{get_or}
+use mathlib.Core.Path.{◌≡◌}
+use Prim.Native.Nat.{◌-◌, ◌≤◌}
 use Rattle.farkas.specs.Lists.{every}
-use Rattle.farkas.specs.Rows.{item}
 use Rattle.formats.specs.Joint.{count_up}
 use Rattle.steps.specs.Held.{same_at}
-use Rattle.steps.proofs.ValueLoops.{each_start, each-pass, each-fail, each_none}
-use Rattle.steps.proofs.ValueLaws.{same-yes, same-no}
 use Rattle.steps.proofs.values.same_values.Given as goal
 
 abbrev pub invariant-loop-i : goal.invariant-loop-i

@@ -1,6 +1,5 @@
 -- Nothing is asked where no blank is kept; else all that a flow keeps. Assumes nothing.
 use mathlib.Core.Path.{◌≡◌, sym, ap, ◌∙◌}
-use borrow.Author.Tests.{not-true}
 use Rattle.formats.specs.Versions.{keeps_blanks}
 use Rattle.models.specs.Index.{entry}
 use Rattle.papers.specs.Blanks.{KnownIn, keeps_at}

@@ -2,7 +2,6 @@
 use mathlib.Core.Bool.{not}
 use mathlib.Core.Path.{◌≡◌, ap, ◌∙◌}
 use Prim.Native.Nat.{ℕ, ◌+◌, ◌*◌}
-use borrow.Author.Rules.{rules}
 use lib.ListN.{take}
 use Rattle.models.specs.Index.{entry, unsafe_place, span_rows, unsafe_from}
 use Rattle.rules.specs.Runs as runs

@@ -1,6 +1,5 @@
 -- Nothing is asked where the owner moves. Assumes nothing.
 use mathlib.Core.Path.{sym, ◌∙◌}
-use borrow.Author.Tests.{not-true, not-false}
 use Rattle.papers.specs.Blanks.{stays_at}
 use Rattle.steps.specs.Held.{same_at, kept_at}
 use Rattle.steps.proofs.ValueLaws.{kept-moves, kept-stays}

@@ -1,14 +1,10 @@
-use mathlib.Core.Path.{◌≡◌, ap}
-use mathlib.Core.Bool.{Bool, not}
-use Prim.Native.Nat.{ℕ, ◌-◌, ◌≤◌}
-use native.Mathlib.Omega.{arith}
+use mathlib.Core.Path.{◌≡◌}
+use Prim.Native.Nat.{◌-◌, ◌≤◌}
 use Rattle.farkas.specs.Lists.{every}
 use Rattle.formats.specs.Joint.{count_up}
 use Rattle.models.specs.Index.{entry}
 use Rattle.papers.specs.Blanks.{keeps_at}
 use Rattle.steps.specs.Held.{kept_at}
-use Rattle.steps.proofs.ValueLoops.{each_start, each-pass, each-fail, each_none}
-use Rattle.steps.proofs.ValueLaws.{kept_of}
 use Rattle.steps.proofs.values.values_kept.Given as goal
 
 abbrev pub invariant-loop-v : goal.invariant-loop-v

@@ -11,7 +11,6 @@ use Rattle.farkas.specs.Sums.{plus_from}
 use Rattle.farkas.proofs.Promise.{room-all}
 use Rattle.hypotheses.specs.Tables.{keeps, line}
 use Rattle.sums.proofs.RowLaws.{form-time, form-jump, form-keeps, time-added, sent, sent-size}
-use borrow.Author.Rules.{rules}
 use Rattle.formats.proofs.Versions.{numbers-within}
 use Rattle.sums.proofs.lines.add_later.Goals as goal
 

@@ -11,7 +11,6 @@ use Rattle.farkas.proofs.Promise.{room-all}
 use Rattle.hypotheses.specs.Tables.{line}
 use Rattle.sums.specs.Summing.{table_line}
 use Rattle.sums.proofs.RowLaws.{form-second, form-model, form-next, form-rates, later-row, later-good, rates-bound, sent}
-use borrow.Author.Rules.{rules}
 use Rattle.formats.proofs.Versions.{numbers-within}
 use Rattle.sums.proofs.lines.add_line.Goals as goal
 

@@ -12,7 +12,6 @@ use Rattle.farkas.specs.Sums.{plus_from}
 use Rattle.farkas.proofs.Promise.{room-all, room-before}
 use Rattle.hypotheses.specs.Tables.{keeps}
 use Rattle.sums.proofs.RowLaws.{up-added, down-added, sent, sent-size}
-use borrow.Author.Rules.{rules}
 use Rattle.sums.proofs.lines.add_staying.Goals.{After-add_one, After-add_one-2, After-times}
 use Rattle.sums.proofs.lines.add_staying.Goals as goal
 

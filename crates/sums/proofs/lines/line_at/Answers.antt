@@ -8,7 +8,6 @@ use Rattle.models.specs.Index.{entry}
 use Rattle.hypotheses.specs.Tables.{end_of}
 use Rattle.sums.specs.declared.Line.{Line}
 use Rattle.sums.specs.Summing.{line_in}
-use borrow.Author.Rules.{rules}
 use Rattle.sums.proofs.lines.line_at.Goals as goal
 
 earlier : (table : List ℕ) (g : ℕ) → 1 ≤ g → get_or table (4 * g - 4) 0 ≡ end_of table (g - 1)

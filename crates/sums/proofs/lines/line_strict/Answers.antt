@@ -1,7 +1,6 @@
 -- By the form: whose row it is, if it is one. Assumes nothing.
 use mathlib.Core.Path.{ap, ◌∙◌}
 use native.Mathlib.Omega.{arith}
-use borrow.Author.Rules.{rules}
 use Rattle.formats.specs.Versions.{strict_at}
 use Rattle.sums.proofs.RowLaws.{mark-second, mark-model, mark-jump, mark-none}
 use Rattle.sums.proofs.lines.line_strict.Goals as goal

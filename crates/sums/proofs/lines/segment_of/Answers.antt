@@ -4,7 +4,6 @@ use Prim.Native.Nat.{ℕ, ◌+◌, ◌*◌, ◌-◌, ◌≤◌, ◌<◌}
 use native.Mathlib.Omega.{arith}
 use Rattle.models.specs.Index.{entry}
 use Rattle.hypotheses.specs.Tables.{end_of}
-use Rattle.sums.specs.Summing.{segment_for}
 use Rattle.sums.proofs.LineLaws.{not_last, segment-here, segment-later}
 use Rattle.sums.proofs.lines.segment_of.Goals.{After-loop-g, In-loop-g}
 use Rattle.sums.proofs.lines.segment_of.Goals as goal

@@ -1,10 +1,7 @@
-use mathlib.Core.Path.{◌≡◌, refl, ap, ◌∙◌}
-use Prim.Native.Nat.{ℕ, ◌+◌, ◌*◌, ◌-◌, ◌≤◌, ◌<◌}
-use native.Mathlib.Omega.{arith}
-use Rattle.models.specs.Index.{entry}
+use mathlib.Core.Path.{◌≡◌}
+use Prim.Native.Nat.{◌-◌, ◌≤◌}
 use Rattle.hypotheses.specs.Tables.{end_of}
 use Rattle.sums.specs.Summing.{segment_for}
-use Rattle.sums.proofs.LineLaws.{not_last, segment-here, segment-later}
 use Rattle.sums.proofs.lines.segment_of.Given as goal
 
 abbrev pub invariant-loop-g : goal.invariant-loop-g

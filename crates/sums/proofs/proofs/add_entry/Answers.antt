@@ -100,8 +100,7 @@ pub returns-in-Entry : goal.returns-in-Entry
 unfolding SummedAfter
 returns-in-Entry c =
     λ at i so.
-    let k = c.segment_of-segment in
-    (
+    let k = c.segment_of-segment in (
       so-far-next so (read (goal.at.returns-in-Entry c).In-Entry) c.in-Entry.place k.result c.add_line-bound.new.sums (to_z w64 (of_z w64 c.add_line-bound.result)) c.strict_after-strict.result (entry_read (goal.at.returns-in-Entry c).In-Entry) (entry-added (goal.at.returns-in-Entry c).After-sums-1) (c.strict_after-strict.ensures ∙ ap (strict_after c.args.reached.strict (read (goal.at.returns-in-Entry c).In-Entry).multiplier) (c.line_strict-marked.ensures ∙ ap (λ (r : Row). r.strict) (row_same (goal.at.returns-in-Entry c).After-line_at-line))),
       record { first = k.ensures.1.least; most = λ some. k.ensures.1.most; before = omega (arith, k.ensures.1.from) },
     )

@@ -3,7 +3,6 @@ use mathlib.Core.Path.{sym, ap}
 use Prim.Native.Nat.{ℕ}
 use Rattle.farkas.specs.Farkas.{number_of}
 use Rattle.sums.specs.Summing.{tested}
-use borrow.Author.Rules.{rules}
 use Rattle.sums.proofs.proofs.judged.Goals as goal
 
 pub returns-in-Holds : goal.returns-in-Holds

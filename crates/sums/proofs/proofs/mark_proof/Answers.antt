@@ -86,6 +86,9 @@ returns-in-At c =
     let v = c.verdict in
     let so = subst (Known (goal.at.returns-in-At c).After-sum_entries) c.in-At.is c.sum_entries.ensures in
     let number : number_of v.result ≡ sums_test k (strictly reached.strict (row_of sums reached.bound)) goal_row = v.ensures.result_value ∙ ap (λ (z : ℤ). sums_test k (strictly reached.strict (row_of sums z)) goal_row) (sent reached.bound (bound-fits (goal.at.returns-in-At c).In-At)) in
-    let wide : length sums ≡ a.group.width = c.sum_entries.auto.sums ∙ width (goal.at.returns-in-At c).Start in record { value = c.judged.ensures
+    let wide : length sums ≡ a.group.width = c.sum_entries.auto.sums ∙ width (goal.at.returns-in-At c).Start in record {
+      value = c.judged.ensures
           ∙ ap (λ (x : ℕ). tested x a.at reached.place) number
-          ∙ sym (proof-tested (rows_in a.model.now a.second.now a.n a.table.now a.group) a.group.zero goal_row a.second.now a.at (record { k = k; count = count }) next a.group.hypotheses (rows_all (goal.at.returns-in-At c).Start) (head_read (goal.at.returns-in-At c).In-Head) so.0.entries reached.place (strictly reached.strict (row_of sums reached.bound)) so.0.read so.0.held); by_index = λ end e. record { zeros = v.ensures.sums_after (tested-holds v.result _ _ end (sym c.judged.ensures ∙ e)) ∙ ap (λ (w : ℕ). replicate w (pos 0)) wide } }
+          ∙ sym (proof-tested (rows_in a.model.now a.second.now a.n a.table.now a.group) a.group.zero goal_row a.second.now a.at (record { k = k; count = count }) next a.group.hypotheses (rows_all (goal.at.returns-in-At c).Start) (head_read (goal.at.returns-in-At c).In-Head) so.0.entries reached.place (strictly reached.strict (row_of sums reached.bound)) so.0.read so.0.held);
+      by_index = λ end e. record { zeros = v.ensures.sums_after (tested-holds v.result _ _ end (sym c.judged.ensures ∙ e)) ∙ ap (λ (w : ℕ). replicate w (pos 0)) wide };
+    }

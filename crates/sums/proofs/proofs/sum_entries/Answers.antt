@@ -2,16 +2,15 @@
 use mathlib.Core.Path.{◌≡◌, sym, ap, ◌∙◌, subst}
 use mathlib.Core.Bool.{false}
 use mathlib.Core.List.{List}
-use Prim.Native.Nat.{ℕ, ◌+◌, ◌-◌, ◌≤◌, ◌<◌}
+use Prim.Native.Nat.{ℕ, ◌+◌, ◌<◌}
 use native.Mathlib.Omega.{arith}
 use lib.IntN.{ℤ, pos}
 use lib.ListN.{length, length-replicate}
 use Rattle.farkas.specs.Sizes.{Bytes}
 use Rattle.sums.specs.declared.Reached.{Reached}
 use Rattle.sums.specs.declared.Summed.{Summed}
-use Rattle.sums.specs.Summing.{SoFar, SoughtFrom, SummedAfter}
+use Rattle.sums.specs.Summing.{SoFar, SummedAfter}
 use Rattle.sums.proofs.EntryLaws.{so-far-none, so-far-room, refused-on}
-use borrow.Author.Rules.{rules}
 use Rattle.sums.proofs.proofs.sum_entries.Goals.{After-sums-1, Start}
 use Rattle.sums.proofs.proofs.sum_entries.Goals as goal
 

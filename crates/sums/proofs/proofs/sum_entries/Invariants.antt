@@ -1,16 +1,7 @@
-use mathlib.Core.Path.{◌≡◌, sym, ap, ◌∙◌, subst}
-use mathlib.Core.Bool.{false}
-use mathlib.Core.List.{List}
-use Prim.Native.Nat.{ℕ, ◌+◌, ◌-◌, ◌≤◌, ◌<◌}
-use native.Mathlib.Omega.{arith}
-use lib.IntN.{ℤ, pos}
-use lib.ListN.{length, length-replicate}
-use Rattle.farkas.specs.Sizes.{Bytes}
-use Rattle.sums.specs.declared.Reached.{Reached}
-use Rattle.sums.specs.declared.Summed.{Summed}
-use Rattle.sums.specs.Summing.{SoFar, SoughtFrom, SummedAfter}
-use Rattle.sums.proofs.EntryLaws.{so-far-none, so-far-room, refused-on}
-use borrow.Author.Rules.{rules}
+use mathlib.Core.Path.{◌≡◌}
+use Prim.Native.Nat.{◌-◌, ◌≤◌}
+use lib.ListN.{length}
+use Rattle.sums.specs.Summing.{SoFar, SoughtFrom}
 use Rattle.sums.proofs.proofs.sum_entries.Given as goal
 
 abbrev pub invariant-loop-i : goal.invariant-loop-i
