@@ -2,14 +2,16 @@
 // `SAFE done` for an accepted certificate, `UNSAFE done` for an accepted run, else `REFUSED number sheet place done score`.
 #![tactic(auto)]
 
-use libc::{STDIN_FILENO, STDOUT_FILENO};
 use marking::text::{LINE_LENGTH, mark_text};
+use std::io::{self, Read};
 
-// The input is read with room for one byte more than is ever marked, so that a longer one is seen to be one.
-fn main() {
-    let mut input = [0u8; 65537];
-    let n = io::read_full(STDIN_FILENO, &mut input);
+// How many bytes of the input are read: one more than is ever marked, so that a longer one is seen to be one.
+const INPUT_LENGTH: u64 = 65537;
+
+fn main(rt: HostRuntime) -> io::Result<()> {
+    let mut input = Vec::new(rt.alloc());
+    rt.reader().take(INPUT_LENGTH).read_to_end(&mut input)?;
     let mut line = [0u8; LINE_LENGTH];
-    let size = mark_text(&input[..n], &mut line);
-    io::write_all(STDOUT_FILENO, &line[..size]);
+    let size = mark_text(&input, &mut line);
+    rt.write_all(&line[..size])
 }
