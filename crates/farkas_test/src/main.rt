@@ -28,12 +28,6 @@ const ZEROS: [u8; 8] = [0; 8];
 
 const LOWEST: [u8; 8] = [128, 0, 0, 0, 128, 0, 0, 0];
 
-// The bound of no entries.
-const NONE: Bound = Bound {
-    value: 0,
-    strict: false,
-};
-
 // The largest multiplier and the largest k, 2^24 − 1.
 const LARGEST: u32 = 16777215;
 
@@ -287,8 +281,12 @@ fn unsafe_proof(rt: &impl Print) -> io::Result<()> {
 // No entries with k 0: the sum 0 is not below 0. That the number is 11 is proved, not only tried.
 fn none_refused() {
     let mut sums = [0i64; 1];
-    check::expect(number(farkas::judge_zero(&sums, NONE)) == 11);
-    check::expect(number(farkas::judge(&mut sums, NONE, 0, 0, &ZEROS, 0, 1, false)) == 11);
+    let none = Bound {
+        value: 0,
+        strict: false,
+    };
+    check::expect(number(farkas::judge_zero(&sums, none)) == 11);
+    check::expect(number(farkas::judge(&mut sums, none, 0, 0, &ZEROS, 0, 1, false)) == 11);
 }
 
 // The same, tried.

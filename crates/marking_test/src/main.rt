@@ -166,6 +166,7 @@ fn paper(rt: &impl Print, all: &[u8], place: Place) -> io::Result<Place> {
     let at = place.at;
     let model = place.model;
     let model_end = place.end;
+    let limits = place.limits;
     if all.len() <= at {
         return Ok(place);
     }
@@ -182,10 +183,6 @@ fn paper(rt: &impl Print, all: &[u8], place: Place) -> io::Result<Place> {
     let kind = byte_at(all, head);
     if kind != 0 && kind != 6 {
         rt.write_all(&all[label..head])?;
-        let limits = Limits {
-            locations: place.limits.locations,
-            joints: place.limits.joints,
-        };
         mark(
             rt,
             kind,
