@@ -1,5 +1,5 @@
 -- What is cut off changes nothing: an input with more bytes than are marked is refused, however many there are. Assumes nothing.
-use Rattle.std.proofs.Common.{◌≡◌, ◌∙◌, ◌<◌, ◌≤◌, Bool, true, false, List, [], ◌∷◌, ℕ, leb, length, take, sym, ap, refl, subst, arith, IfSome}
+use Rattle.std.proofs.Common.{◌≡◌, ◌∙◌, ◌<◌, ◌≤◌, Bool, true, false, List, ℕ, leb, length, take, sym, ap, refl, subst, arith, IfSome}
 use borrow.Author.Tests.{leb-true, leb-false, lt-leb}
 use Rattle.std.proofs.lemmas.List.{take_all, length-take-le}
 use Rattle.std.proofs.lemmas.Result.{on_ok_weaker}
