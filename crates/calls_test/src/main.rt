@@ -11,10 +11,13 @@ ghost use Rattle.std.specs.Prelude.{◌≡◌, ◌^◌, ◌<◌, nat_abs};
 
 use fair_copies::copies::fair_copy;
 use formats::Limits;
-use libc::{STDIN_FILENO, STDOUT_FILENO};
 use rules::Answer;
+use std::io::{self, Read};
 use typed::TypedRow;
 use typed::row::read_row;
+
+// How many bytes of the input are read.
+const INPUT_LENGTH: u64 = 262144;
 
 // The size of a number.
 fn size(x: i32) -> u64
@@ -27,62 +30,60 @@ fn size(x: i32) -> u64
 }
 
 // Writes a number after a space.
-fn write_signed(x: i32) {
+fn write_signed(rt: &impl Print, x: i32) -> io::Result<()> {
     if x < 0 {
-        io::write_all(STDOUT_FILENO, b" -");
+        rt.write_all(b" -")?;
     } else {
-        io::write_all(STDOUT_FILENO, b" ");
+        rt.write_all(b" ")?;
     }
-    io::print_decimal(STDOUT_FILENO, size(x));
+    rt.print(size(x))
 }
 
 // Writes eight numbers.
-fn write_numbers(numbers: [i32; 8]) {
-    let mut i: usize = 0;
-    while i < 8 {
-        write_signed(numbers[i]);
-        i += 1;
+fn write_numbers(rt: &impl Print, numbers: [i32; 8]) -> io::Result<()> {
+    for x in numbers {
+        write_signed(rt, x)?;
     }
+    Ok(())
 }
 
 // Writes the answer on a typed row.
-fn write_row(row: TypedRow) {
-    io::print_decimal(STDOUT_FILENO, row.number as u64);
-    io::write_all(STDOUT_FILENO, b" ");
-    io::print_decimal(STDOUT_FILENO, row.place as u64);
+fn write_row(rt: &impl Print, row: TypedRow) -> io::Result<()> {
+    let number = row.number;
+    let place = row.place;
+    print!(rt; "{number} {place}")?;
     let coefficients = row.coefficients;
-    write_numbers(coefficients);
-    write_signed(row.bound);
-    io::write_all(STDOUT_FILENO, b"\n");
+    write_numbers(rt, coefficients)?;
+    write_signed(rt, row.bound)?;
+    rt.write_all(b"\n")
 }
 
 // Writes a number after a separator.
-fn write_number(before: &[u8], n: u32) {
-    io::write_all(STDOUT_FILENO, before);
-    io::print_decimal(STDOUT_FILENO, n as u64);
+fn write_number(rt: &impl Print, before: &[u8], n: u32) -> io::Result<()> {
+    rt.write_all(before)?;
+    rt.print(n)
 }
 
 // Writes the answer on a fair copy.
-fn write_answer(answer: Answer) {
-    write_number(b": ", answer.number);
-    write_number(b" ", answer.sheet);
-    write_number(b" ", answer.place);
-    write_number(b" ", answer.done);
-    write_number(b" ", answer.score);
+fn write_answer(rt: &impl Print, answer: Answer) -> io::Result<()> {
+    write_number(rt, b": ", answer.number)?;
+    write_number(rt, b" ", answer.sheet)?;
+    write_number(rt, b" ", answer.place)?;
+    write_number(rt, b" ", answer.done)?;
+    write_number(rt, b" ", answer.score)
 }
 
 // Writes a byte as two digits to the base 16.
-fn write_byte(byte: u8) {
-    io::print_hex(STDOUT_FILENO, byte as u64, 2);
+fn write_byte(rt: &impl Print, byte: u8) -> io::Result<()> {
+    print!(rt; "{byte:02x}")
 }
 
 // Writes bytes one after the other.
-fn write_bytes(bytes: &[u8]) {
-    let mut i: usize = 0;
-    while i < bytes.len() {
-        write_byte(bytes[i]);
-        i += 1;
+fn write_bytes(rt: &impl Print, bytes: &[u8]) -> io::Result<()> {
+    for byte in bytes {
+        write_byte(rt, *byte)?;
     }
+    Ok(())
 }
 
 // A checksum with one more byte.
@@ -96,28 +97,25 @@ fn summed(sum: u64, byte: u8) -> u64
 // The checksum of bytes: the number that they are to the base 257, modulo the greatest prime below 2^32.
 fn checksum(bytes: &[u8]) -> u64 {
     let mut sum: u64 = 0;
-    let mut i: usize = 0;
-    while i < bytes.len() {
-        sum = summed(sum, bytes[i]);
-        i += 1;
+    for byte in bytes {
+        sum = summed(sum, *byte);
     }
     sum
 }
 
 // Writes a buffer and ends the line: nothing of an empty one, the bytes of one of at most 1024, else a checksum.
-fn write_buffer(bytes: &[u8]) {
+fn write_buffer(rt: &impl Print, bytes: &[u8]) -> io::Result<()> {
     if bytes.len() == 0 {
-        io::write_all(STDOUT_FILENO, b"\n");
-        return;
+        return rt.write_all(b"\n");
     }
     if bytes.len() <= 1024 {
-        io::write_all(STDOUT_FILENO, b" ");
-        write_bytes(bytes);
+        rt.write_all(b" ")?;
+        write_bytes(rt, bytes)?;
     } else {
-        io::write_all(STDOUT_FILENO, b" checksum ");
-        io::print_decimal(STDOUT_FILENO, checksum(bytes));
+        rt.write_all(b" checksum ")?;
+        rt.print(checksum(bytes))?;
     }
-    io::write_all(STDOUT_FILENO, b"\n");
+    rt.write_all(b"\n")
 }
 
 // The byte at a place, 0 past the end.
@@ -146,21 +144,21 @@ fn four_bytes(all: &[u8], at: usize) -> u32
 }
 
 // Writes the answer on a fair copy into a buffer, and the buffer.
-fn copy(model: &[u8], buffer: &mut [u8], limits: Limits) {
-    write_answer(fair_copy(model, buffer, limits));
-    write_buffer(buffer);
+fn copy(rt: &impl Print, model: &[u8], buffer: &mut [u8], limits: Limits) -> io::Result<()> {
+    write_answer(rt, fair_copy(model, buffer, limits))?;
+    write_buffer(rt, buffer)
 }
 
 // The same for a fresh buffer of a length.
-fn copy_into(model: &[u8], room: usize, limits: Limits)
+fn copy_into(rt: &impl Print, model: &[u8], room: usize, limits: Limits) -> io::Result<()>
     requires { room < 65536 }
 {
     let mut fresh = [165u8; 65536];
-    copy(model, &mut fresh[..room], limits);
+    copy(rt, model, &mut fresh[..room], limits)
 }
 
 // Answers the fair copy that is asked for at a place, and gives the place after it.
-fn copy_at(all: &[u8], at: usize) -> usize
+fn copy_at(rt: &impl Print, all: &[u8], at: usize) -> io::Result<usize>
     requires { at < 2 ^ 18 }
 {
     let label = at + 2;
@@ -168,53 +166,52 @@ fn copy_at(all: &[u8], at: usize) -> usize
     let model = head + 12;
     let end = model + two_bytes(all, head + 10);
     if all.len() < end {
-        return at;
+        return Ok(at);
     }
-    io::write_all(STDOUT_FILENO, &all[label..head]);
+    rt.write_all(&all[label..head])?;
     let limits = Limits {
         locations: four_bytes(all, head),
         joints: four_bytes(all, head + 4),
     };
-    copy_into(&all[model..end], two_bytes(all, head + 8), limits);
-    end
+    copy_into(rt, &all[model..end], two_bytes(all, head + 8), limits)?;
+    Ok(end)
 }
 
 // Answers the typed row at a place, and gives the place after it.
-fn row_at(all: &[u8], at: usize) -> usize
+fn row_at(rt: &impl Print, all: &[u8], at: usize) -> io::Result<usize>
     requires { at < 2 ^ 18 }
 {
     let text = at + 3;
     let end = text + two_bytes(all, at + 1);
     if all.len() < end {
-        return at;
+        return Ok(at);
     }
-    write_row(read_row(&all[text..end], byte_at(all, at) as u32));
-    end
+    write_row(rt, read_row(&all[text..end], byte_at(all, at) as u32))?;
+    Ok(end)
 }
 
 // Answers the call at a place, and gives the place after it: the same where there is none.
-fn call(all: &[u8], at: usize) -> usize {
+fn call(rt: &impl Print, all: &[u8], at: usize) -> io::Result<usize> {
     if 262144 <= at {
-        return at;
+        return Ok(at);
     }
     if byte_at(all, at) == 70 {
-        return copy_at(all, at);
+        return copy_at(rt, all, at);
     }
-    row_at(all, at)
+    row_at(rt, all, at)
 }
 
 // Answers the calls one after the other.
-fn calls(all: &[u8]) {
+fn calls(rt: &impl Print, all: &[u8]) -> io::Result<()> {
     let mut at: usize = 0;
-    let mut n: u32 = 0;
-    while n < 8000 {
-        at = call(all, at);
-        n += 1;
+    for _ in 0..8000 {
+        at = call(rt, all, at)?;
     }
+    Ok(())
 }
 
-fn main() {
-    let mut all = [0u8; 262144];
-    let n = io::read_full(STDIN_FILENO, &mut all);
-    calls(&all[..n]);
+fn main(rt: HostRuntime) -> io::Result<()> {
+    let mut all = Vec::new(rt.alloc());
+    rt.reader().take(INPUT_LENGTH).read_to_end(&mut all)?;
+    calls(&rt, &all)
 }

@@ -16,7 +16,7 @@ ghost use Rattle.farkas.specs.Sizes.{Within};
 
 use farkas::words::signed_word;
 use farkas::{Bound, Verdict};
-use libc::STDOUT_FILENO;
+use std::io;
 
 // Rows of one coefficient: the region x ≤ 10, which is the invariant too; the unsafe row −x ≤ −11; 0 ≤ 0; and the row with the lowest
 // numbers, −2^31.
@@ -49,10 +49,8 @@ fn entries(
     ensures { Within ((before + count) * 2 ^ 55) (row_of sums.new result) }
 {
     let mut sum = bound;
-    let mut i: u32 = 0;
-    while i < count {
+    for _i in 0..count {
         sum = farkas::add_row(sums, sum, m, shift, words, 0, n);
-        i += 1;
     }
     sum
 }
@@ -84,10 +82,8 @@ fn entries_on_rates(sums: &mut [i64], count: u32, m: u32, words: &[u8], n: usize
     requires n_in_bounds { (n + n + 1 ≤ length sums.old) × NumbersIn words.now 0 (n + 1) }
     ensures { Within (count * 2 ^ 55) (row_of sums.new (pos 0)) }
 {
-    let mut i: u32 = 0;
-    while i < count {
+    for _i in 0..count {
         farkas::add_rates(sums, m, words, 0, n);
-        i += 1;
     }
 }
 
@@ -102,30 +98,28 @@ fn size(x: i64) -> u64
 }
 
 // Writes text to standard output.
-fn print(text: &[u8]) {
-    io::write_all(STDOUT_FILENO, text);
+fn print(rt: &impl Print, text: &[u8]) -> io::Result<()> {
+    rt.write_all(text)
 }
 
 // Writes a space and a number.
-fn print_number(x: i64) {
+fn print_number(rt: &impl Print, x: i64) -> io::Result<()> {
     if x < 0 {
-        print(b" -");
+        print(rt, b" -")?;
     } else {
-        print(b" ");
+        print(rt, b" ")?;
     }
-    io::print_decimal(STDOUT_FILENO, size(x));
+    rt.print(size(x))
 }
 
 // Writes the sums and the bound.
-fn print_sums(sums: &[i64], bound: i64) {
-    print(b": sums");
-    let mut i: usize = 0;
-    while i < sums.len() {
-        print_number(sums[i]);
-        i += 1;
+fn print_sums(rt: &impl Print, sums: &[i64], bound: i64) -> io::Result<()> {
+    print(rt, b": sums")?;
+    for sum in sums {
+        print_number(rt, *sum)?;
     }
-    print(b" bound");
-    print_number(bound);
+    print(rt, b" bound")?;
+    print_number(rt, bound)
 }
 
 // The coefficient of an unknown in a row that stands on the unknowns from `shift` on.
@@ -142,17 +136,15 @@ fn coefficient(unknown: usize, shift: usize, words: &[u8], n: usize) -> i64
 }
 
 // Writes the goal: its coefficients at so many unknowns, and its bound.
-fn print_goal(width: usize, shift: usize, words: &[u8], n: usize)
+fn print_goal(rt: &impl Print, width: usize, shift: usize, words: &[u8], n: usize) -> io::Result<()>
     requires { NumbersIn words.now 0 (n + 1) }
 {
-    print(b", goal");
-    let mut i: usize = 0;
-    while i < width {
-        print_number(coefficient(i, shift, words, n));
-        i += 1;
+    print(rt, b", goal")?;
+    for i in 0..width {
+        print_number(rt, coefficient(i, shift, words, n))?;
     }
-    print(b" bound");
-    print_number(signed_word(words, 4 * n));
+    print(rt, b" bound")?;
+    print_number(rt, signed_word(words, 4 * n))
 }
 
 // The number of a verdict.
@@ -167,10 +159,9 @@ fn number(v: Verdict) -> u64
 }
 
 // Writes the number of a verdict, and ends the line.
-fn print_verdict(v: Verdict) {
-    print(b": ");
-    io::print_decimal(STDOUT_FILENO, number(v));
-    print(b"\n");
+fn print_verdict(rt: &impl Print, v: Verdict) -> io::Result<()> {
+    print(rt, b": ")?;
+    rt.println(number(v))
 }
 
 // A summed bound without a strict row among the summed.
@@ -182,14 +173,16 @@ fn plain(value: i64) -> Bound {
 }
 
 // Writes the mark of strict sums, or of a goal that must be met strictly.
-fn print_mark(strict: bool) {
+fn print_mark(rt: &impl Print, strict: bool) -> io::Result<()> {
     if strict {
-        print(b" strict");
+        print(rt, b" strict")?;
     }
+    Ok(())
 }
 
 // Tests sums with this k against a goal on the unknowns from `shift` on, strict where it must be, and writes the line.
 fn try_marked(
+    rt: &impl Print,
     name: &[u8],
     sums: &mut [i64],
     bound: Bound,
@@ -198,73 +191,91 @@ fn try_marked(
     words: &[u8],
     n: usize,
     must: bool,
-)
+) -> io::Result<()>
     requires { (shift + n ≤ length sums.old) × NumbersIn words.now 0 (n + 1) }
 {
-    print(name);
-    print_sums(sums, bound.value);
-    print_mark(bound.strict);
-    print_goal(sums.len(), shift, words, n);
-    print_mark(must);
-    print(b", k ");
-    io::print_decimal(STDOUT_FILENO, k as u64);
-    print_verdict(farkas::judge(sums, bound, k, shift, words, 0, n, must));
+    print(rt, name)?;
+    print_sums(rt, sums, bound.value)?;
+    print_mark(rt, bound.strict)?;
+    print_goal(rt, sums.len(), shift, words, n)?;
+    print_mark(rt, must)?;
+    print(rt, b", k ")?;
+    rt.print(k)?;
+    print_verdict(rt, farkas::judge(sums, bound, k, shift, words, 0, n, must))
 }
 
 // The same where nothing is strict.
-fn try_sums(name: &[u8], sums: &mut [i64], bound: i64, k: u32, shift: usize, words: &[u8], n: usize)
+fn try_sums(
+    rt: &impl Print,
+    name: &[u8],
+    sums: &mut [i64],
+    bound: i64,
+    k: u32,
+    shift: usize,
+    words: &[u8],
+    n: usize,
+) -> io::Result<()>
     requires { (shift + n ≤ length sums.old) × NumbersIn words.now 0 (n + 1) }
 {
-    try_marked(name, sums, plain(bound), k, shift, words, n, false);
+    try_marked(rt, name, sums, plain(bound), k, shift, words, n, false)
 }
 
 // The same where the goal is 0 ≤ 0 and k is 0.
-fn try_zero_marked(name: &[u8], sums: &[i64], bound: Bound) {
-    print(name);
-    print_sums(sums, bound.value);
-    print_mark(bound.strict);
-    print(b", goal 0 bound 0, k 0");
-    print_verdict(farkas::judge_zero(sums, bound));
+fn try_zero_marked(rt: &impl Print, name: &[u8], sums: &[i64], bound: Bound) -> io::Result<()> {
+    print(rt, name)?;
+    print_sums(rt, sums, bound.value)?;
+    print_mark(rt, bound.strict)?;
+    print(rt, b", goal 0 bound 0, k 0")?;
+    print_verdict(rt, farkas::judge_zero(sums, bound))
 }
 
-fn try_zero(name: &[u8], sums: &[i64], bound: i64) {
-    try_zero_marked(name, sums, plain(bound));
+fn try_zero(rt: &impl Print, name: &[u8], sums: &[i64], bound: i64) -> io::Result<()> {
+    try_zero_marked(rt, name, sums, plain(bound))
 }
 
 // C's first proof: k 1, entry 2:1. Hypotheses: the start rows, the invariant. Goal: the region. The test passes, so all sums are 0 again;
 // the second line shows it, by a test at k 0 with a bound below 0.
-fn start_proof() {
+fn start_proof(rt: &impl Print) -> io::Result<()> {
     let mut sums = [0i64; 1];
     let bound = first_entries(&mut sums, 1, 1, 0, &REGION, 1);
-    try_sums(b"start", &mut sums, bound, 1, 0, &REGION, 1);
-    try_zero(b"sums after the start", &sums, -1);
+    try_sums(rt, b"start", &mut sums, bound, 1, 0, &REGION, 1)?;
+    try_zero(rt, b"sums after the start", &sums, -1)
 }
 
 // C's second proof: k 1, entry 2:1. Hypotheses: the region and the invariant on x, the invariant on x', the two flow rows, −d ≤ 0. Goal:
 // the region on x'.
-fn flow_proof() {
+fn flow_proof(rt: &impl Print) -> io::Result<()> {
     let mut sums = [0i64; 3];
     let bound = first_entries(&mut sums, 1, 1, 1, &REGION, 1);
-    try_sums(b"flow", &mut sums, bound, 1, 1, &REGION, 1);
-    try_zero(b"sums after the flow", &sums, -1);
+    try_sums(rt, b"flow", &mut sums, bound, 1, 1, &REGION, 1)?;
+    try_zero(rt, b"sums after the flow", &sums, -1)
 }
 
 // The same with the entry 1:1: the sums are those of the goal, but on x, and the goal stands on x'.
-fn flow_from() {
+fn flow_from(rt: &impl Print) -> io::Result<()> {
     let mut sums = [0i64; 3];
     let bound = first_entries(&mut sums, 1, 1, 0, &REGION, 1);
-    try_sums(b"flow, the sums on x", &mut sums, bound, 1, 1, &REGION, 1);
+    try_sums(
+        rt,
+        b"flow, the sums on x",
+        &mut sums,
+        bound,
+        1,
+        1,
+        &REGION,
+        1,
+    )
 }
 
 // C's third proof: k 0, entries 0:1 and 2:1. Hypotheses: the region, the invariant, the unsafe row. The goal is 0 ≤ 0. With the first
 // entry alone x is left.
-fn unsafe_proof() {
+fn unsafe_proof(rt: &impl Print) -> io::Result<()> {
     let mut sums = [0i64; 1];
     let bound = two_entries(&mut sums, 1, &REGION, &UNSAFE);
-    try_zero(b"unsafe", &sums, bound);
+    try_zero(rt, b"unsafe", &sums, bound)?;
     let mut one = [0i64; 1];
     let bound = first_entries(&mut one, 1, 1, 0, &REGION, 1);
-    try_zero(b"unsafe, first entry alone", &one, bound);
+    try_zero(rt, b"unsafe, first entry alone", &one, bound)
 }
 
 // No entries with k 0: the sum 0 is not below 0. That the number is 11 is proved, not only tried.
@@ -279,27 +290,37 @@ fn none_refused() {
 }
 
 // The same, tried.
-fn no_entries() {
+fn no_entries(rt: &impl Print) -> io::Result<()> {
     none_refused();
     let mut sums = [0i64; 1];
-    try_zero(b"no entries", &sums, 0);
-    try_sums(b"no entries, a row of zeros", &mut sums, 0, 0, 0, &ZEROS, 1);
+    try_zero(rt, b"no entries", &sums, 0)?;
+    try_sums(
+        rt,
+        b"no entries, a row of zeros",
+        &mut sums,
+        0,
+        0,
+        0,
+        &ZEROS,
+        1,
+    )
 }
 
 // Three times the region and a row more, against the region with k 3.
-fn try_bound(name: &[u8], more: &[u8])
+fn try_bound(rt: &impl Print, name: &[u8], more: &[u8]) -> io::Result<()>
     requires { (8 ≤ length more.now) × (length more.now < 2 ^ 20) }
 {
     let mut sums = [0i64; 1];
     let bound = two_entries(&mut sums, 3, &REGION, more);
-    try_sums(name, &mut sums, bound, 3, 0, &REGION, 1);
+    try_sums(rt, name, &mut sums, bound, 3, 0, &REGION, 1)
 }
 
 // Bounds: that of C's first proof against a region x ≤ 9; and with 0 ≤ 0, 0 ≤ 1 and 0 ≤ −1 added.
-fn bounds() {
+fn bounds(rt: &impl Print) -> io::Result<()> {
     let mut sums = [0i64; 1];
     let bound = first_entries(&mut sums, 1, 1, 0, &REGION, 1);
     try_sums(
+        rt,
         b"region bound 9",
         &mut sums,
         bound,
@@ -307,46 +328,47 @@ fn bounds() {
         0,
         b"\0\0\0\x01\0\0\0\x09",
         1,
-    );
-    try_bound(b"bound equal", &ZEROS);
-    try_bound(b"bound one above", b"\0\0\0\0\0\0\0\x01");
-    try_bound(b"bound one below", b"\0\0\0\0\xff\xff\xff\xff");
+    )?;
+    try_bound(rt, b"bound equal", &ZEROS)?;
+    try_bound(rt, b"bound one above", b"\0\0\0\0\0\0\0\x01")?;
+    try_bound(rt, b"bound one below", b"\0\0\0\0\xff\xff\xff\xff")
 }
 
 // A row of 17 coefficients, 1 at the last, twice, against itself with this k.
-fn try_last(name: &[u8], k: u32) {
+fn try_last(rt: &impl Print, name: &[u8], k: u32) -> io::Result<()> {
     let mut row = [0u8; 72];
     row[67] = 1;
     let mut sums = [0i64; 17];
     let bound = first_entries(&mut sums, 1, 2, 0, &row, 17);
-    try_sums(name, &mut sums, bound, k, 0, &row, 17);
+    try_sums(rt, name, &mut sums, bound, k, 0, &row, 17)
 }
 
 // Coefficients that differ: at the first unknown, where C's first multiplier is 2, and at the last.
-fn coefficients() {
+fn coefficients(rt: &impl Print) -> io::Result<()> {
     let mut sums = [0i64; 1];
     let bound = first_entries(&mut sums, 1, 2, 0, &REGION, 1);
-    try_sums(b"first differs", &mut sums, bound, 1, 0, &REGION, 1);
-    try_last(b"last differs", 1);
-    try_last(b"last agrees", 2);
+    try_sums(rt, b"first differs", &mut sums, bound, 1, 0, &REGION, 1)?;
+    try_last(rt, b"last differs", 1)?;
+    try_last(rt, b"last agrees", 2)
 }
 
 // So many entries with the largest multiplier of the row with the lowest numbers, −2^31, against that row with the largest k.
-fn try_lowest(name: &[u8], count: u32)
+fn try_lowest(rt: &impl Print, name: &[u8], count: u32) -> io::Result<()>
     requires { count ≤ 128 }
 {
     let mut sums = [0i64; 1];
     let bound = first_entries(&mut sums, count, LARGEST, 0, &LOWEST, 1);
-    try_sums(name, &mut sums, bound, LARGEST, 0, &LOWEST, 1);
+    try_sums(rt, name, &mut sums, bound, LARGEST, 0, &LOWEST, 1)
 }
 
 // The largest numbers: 128 entries with the largest multiplier, and the largest k. On rates the lowest row has 2^31 on x and on d.
-fn extremes() {
-    try_lowest(b"128 entries", 128);
-    try_lowest(b"largest k", 1);
+fn extremes(rt: &impl Print) -> io::Result<()> {
+    try_lowest(rt, b"128 entries", 128)?;
+    try_lowest(rt, b"largest k", 1)?;
     let mut sums = [0i64; 3];
     entries_on_rates(&mut sums, 128, LARGEST, &LOWEST, 1);
     try_sums(
+        rt,
         b"128 entries on rates",
         &mut sums,
         0,
@@ -354,19 +376,19 @@ fn extremes() {
         1,
         &LOWEST,
         1,
-    );
+    )
 }
 
-fn main() {
-    start_proof();
-    flow_proof();
-    flow_from();
-    unsafe_proof();
-    no_entries();
-    bounds();
-    coefficients();
-    extremes();
-    rates::over_time();
-    strict::clashes();
-    strict::goals();
+fn main(rt: HostRuntime) -> io::Result<()> {
+    start_proof(&rt)?;
+    flow_proof(&rt)?;
+    flow_from(&rt)?;
+    unsafe_proof(&rt)?;
+    no_entries(&rt)?;
+    bounds(&rt)?;
+    coefficients(&rt)?;
+    extremes(&rt)?;
+    rates::over_time(&rt)?;
+    strict::clashes(&rt)?;
+    strict::goals(&rt)
 }

@@ -4,6 +4,7 @@ ghost use Rattle.farkas.specs.Rows.{row_of};
 ghost use Rattle.farkas.specs.Sizes.{Within};
 
 use crate::{entries, entries_on_rates, try_sums};
+use std::io;
 
 // −x ≤ −5; and −x ≤ −1.
 const FROM_FIVE: [u8; 8] = [255, 255, 255, 255, 255, 255, 255, 251];
@@ -29,13 +30,14 @@ fn rising_in_time(sums: &mut [i64]) -> i64
 }
 
 // Where the rates are from 1 on, x from 5 on stays there: the sums show −x' ≤ −5, and without −d ≤ 0 they do not.
-pub(crate) fn over_time() {
+pub(crate) fn over_time(rt: &impl Print) -> io::Result<()> {
     let mut sums = [0i64; 3];
     let bound = rising_in_time(&mut sums);
-    try_sums(b"rising", &mut sums, bound, 1, 1, &FROM_FIVE, 1);
+    try_sums(rt, b"rising", &mut sums, bound, 1, 1, &FROM_FIVE, 1)?;
     let mut without = [0i64; 3];
     let bound = rising(&mut without);
     try_sums(
+        rt,
         b"rising, time left out",
         &mut without,
         bound,
@@ -43,5 +45,5 @@ pub(crate) fn over_time() {
         1,
         &FROM_FIVE,
         1,
-    );
+    )
 }

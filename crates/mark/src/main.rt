@@ -2,14 +2,43 @@
 // `SAFE done` for an accepted certificate, `UNSAFE done` for an accepted run, else `REFUSED number sheet place done score`.
 #![tactic(auto)]
 
-use libc::{STDIN_FILENO, STDOUT_FILENO};
-use marking::text::{LINE_LENGTH, mark_text};
+ghost use Rattle.std.specs.Prelude.{◌≡◌, [], ◌++◌, List, ℕ, OnOk, IfOk, IfSome, take};
+ghost use Rattle.std.specs.Io.KnownBytes.{Appends};
+ghost use Rattle.rules.specs.Program.{printed};
 
-// The input is read with room for one byte more than is ever marked, so that a longer one is seen to be one.
-fn main() {
-    let mut input = [0u8; 65537];
-    let n = io::read_full(STDIN_FILENO, &mut input);
+use marking::text::{LINE_LENGTH, mark_text};
+use std::alloc::Global;
+use std::io::{self, Read, Write};
+
+// How many bytes of the input are read: one more than is ever marked, so that a longer one is seen to be one.
+const INPUT_LENGTH: u64 = 65537;
+
+// Writes the line for an input.
+fn write_line<W: Write>(output: &mut W, input: &[u8]) -> io::Result<()>
+    ensures { OnOk result (Appends (W.contents output.old) (W.contents output.new) (printed input.now)) }
+{
     let mut line = [0u8; LINE_LENGTH];
-    let size = mark_text(&input[..n], &mut line);
-    io::write_all(STDOUT_FILENO, &line[..size]);
+    let size = mark_text(input, &mut line);
+    output.write_all(&line[..size])
+}
+
+// What a reader gives, as far as it is marked.
+fn read_input<R: Read + Drop>(alloc: Global, input: R) -> io::Result<Vec<u8>>
+    ensures { IfOk result (λ read. IfSome (R.remaining input) (λ bytes. read.items ≡ take 65537 bytes)) }
+{
+    let mut all = Vec::new(alloc);
+    input.take(INPUT_LENGTH).read_to_end(&mut all)?;
+    Ok(all)
+}
+
+// Writes the line for all that a reader gives.
+fn mark<R: Read + Drop, W: Write>(alloc: Global, input: R, output: &mut W) -> io::Result<()>
+    ensures { OnOk result (IfSome (R.remaining input) (λ bytes. Appends (W.contents output.old) (W.contents output.new) (printed bytes))) }
+{
+    let all = read_input(alloc, input)?;
+    write_line(output, &all)
+}
+
+fn main(rt: HostRuntime) -> io::Result<()> {
+    mark(rt.alloc(), rt.reader(), &mut io::writer(&rt))
 }

@@ -12,50 +12,52 @@ ghost use Rattle.std.specs.Prelude.{◌-◌, ◌^◌, ◌<◌};
 use certificates::certificate::mark_certificate;
 use formats::Limits;
 use joint_lists::list::list_begin;
-use libc::{STDIN_FILENO, STDOUT_FILENO};
 use marking::text::{LINE_LENGTH, mark_text};
 use model_sheets::limits::exam_limits;
 use queries::show::show_row;
 use rules::Answer;
 use runs::run::mark_run;
+use std::io::{self, Read};
+
+// How many bytes of the input are read.
+const INPUT_LENGTH: u64 = 524288;
 
 // Writes a number after a separator.
-fn number(before: &[u8], n: u32) {
-    io::write_all(STDOUT_FILENO, before);
-    io::print_decimal(STDOUT_FILENO, n as u64);
+fn number(rt: &impl Print, before: &[u8], n: u32) -> io::Result<()> {
+    rt.write_all(before)?;
+    rt.print(n)
 }
 
 // Writes an answer after a separator.
-fn write_answer(before: &[u8], answer: Answer) {
-    number(before, answer.number);
-    number(b" ", answer.sheet);
-    number(b" ", answer.place);
-    number(b" ", answer.done);
-    number(b" ", answer.score);
+fn write_answer(rt: &impl Print, before: &[u8], answer: Answer) -> io::Result<()> {
+    number(rt, before, answer.number)?;
+    number(rt, b" ", answer.sheet)?;
+    number(rt, b" ", answer.place)?;
+    number(rt, b" ", answer.done)?;
+    number(rt, b" ", answer.score)
 }
 
 // Writes the program's line for an input, with its newline.
-fn write_line(input: &[u8]) {
+fn write_line(rt: &impl Print, input: &[u8]) -> io::Result<()> {
     let mut line = [0u8; LINE_LENGTH];
     let size = mark_text(input, &mut line);
-    io::write_all(STDOUT_FILENO, b": ");
-    io::write_all(STDOUT_FILENO, &line[..size]);
+    rt.write_all(b": ")?;
+    rt.write_all(&line[..size])
 }
 
 // Writes a byte after a space.
-fn write_byte(b: u8) {
-    number(b" ", b as u32);
+fn write_byte(rt: &impl Print, b: u8) -> io::Result<()> {
+    number(rt, b" ", b as u32)
 }
 
 // Writes how many bytes a part has, and the bytes.
-fn write_part(part: &[u8]) {
-    io::write_all(STDOUT_FILENO, b": ");
-    io::print_decimal(STDOUT_FILENO, part.len() as u64);
-    let mut i: usize = 0;
-    while i < part.len() {
-        write_byte(part[i]);
-        i += 1;
+fn write_part(rt: &impl Print, part: &[u8]) -> io::Result<()> {
+    rt.write_all(b": ")?;
+    rt.print(part.len())?;
+    for byte in part {
+        write_byte(rt, *byte)?;
     }
+    Ok(())
 }
 
 // The byte at a place, 0 past the end.
@@ -84,29 +86,36 @@ fn four_bytes(all: &[u8], at: usize) -> u32
 }
 
 // Marks a sheet beside a model.
-fn mark<'a>(kind: usize, asked: u32, model: &'a [u8], sheet: &'a [u8], limits: Limits) {
+fn mark<'a>(
+    rt: &impl Print,
+    kind: usize,
+    asked: u32,
+    model: &'a [u8],
+    sheet: &'a [u8],
+    limits: Limits,
+) -> io::Result<()> {
     if kind == 4 {
-        write_line(sheet);
-        return;
+        return write_line(rt, sheet);
     }
     if kind == 1 {
-        write_answer(b": ", mark_certificate(model, sheet, limits));
+        write_answer(rt, b": ", mark_certificate(model, sheet, limits))?;
     } else if kind == 2 {
-        write_answer(b": ", mark_run(model, sheet, limits));
+        write_answer(rt, b": ", mark_run(model, sheet, limits))?;
     } else if kind == 3 {
         let listing = list_begin(model, asked as usize, limits.locations, limits.joints);
-        write_answer(b": ", listing.answer);
+        write_answer(rt, b": ", listing.answer)?;
     } else {
-        write_part(show_row(
+        let part = show_row(
             model,
             sheet,
             asked / 256,
             asked % 256,
             limits.locations,
             limits.joints,
-        ));
+        );
+        write_part(rt, part)?;
     }
-    io::write_all(STDOUT_FILENO, b"\n");
+    rt.write_all(b"\n")
 }
 
 // Where the next paper begins, the model that it is marked beside, and the limits that are stated for it.
@@ -153,55 +162,55 @@ fn go_on(all: &[u8], place: Place, kind: usize, sheet: usize, end: usize) -> Pla
 }
 
 // Marks the paper at a place.
-fn paper(all: &[u8], place: Place) -> Place {
+fn paper(rt: &impl Print, all: &[u8], place: Place) -> io::Result<Place> {
     let at = place.at;
     let model = place.model;
     let model_end = place.end;
     let limits = place.limits;
     if all.len() <= at {
-        return place;
+        return Ok(place);
     }
     if 500000 <= at {
-        return place;
+        return Ok(place);
     }
     let label = at + 1;
     let head = label + byte_at(all, at);
     let sheet = head + 5;
     let end = sheet + two_bytes(all, head + 3);
     if end > all.len() || model > model_end || model_end > all.len() {
-        return place;
+        return Ok(place);
     }
     let kind = byte_at(all, head);
     if kind != 0 && kind != 6 {
-        io::write_all(STDOUT_FILENO, &all[label..head]);
+        rt.write_all(&all[label..head])?;
         mark(
+            rt,
             kind,
             two_bytes(all, head + 1) as u32,
             &all[model..model_end],
             &all[sheet..end],
             limits,
-        );
+        )?;
     }
-    go_on(all, place, kind, sheet, end)
+    Ok(go_on(all, place, kind, sheet, end))
 }
 
 // Marks the papers.
-fn papers(all: &[u8]) {
+fn papers(rt: &impl Print, all: &[u8]) -> io::Result<()> {
     let mut place = Place {
         at: 0,
         model: 0,
         end: 0,
         limits: exam_limits(),
     };
-    let mut n: u32 = 0;
-    while n < 2000 {
-        place = paper(all, place);
-        n += 1;
+    for _ in 0..2000 {
+        place = paper(rt, all, place)?;
     }
+    Ok(())
 }
 
-fn main() {
-    let mut all = [0u8; 524288];
-    let n = io::read_full(STDIN_FILENO, &mut all);
-    papers(&all[..n]);
+fn main(rt: HostRuntime) -> io::Result<()> {
+    let mut all = Vec::new(rt.alloc());
+    rt.reader().take(INPUT_LENGTH).read_to_end(&mut all)?;
+    papers(&rt, &all)
 }

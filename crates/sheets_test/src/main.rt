@@ -9,7 +9,6 @@ ghost use Rattle.models.specs.Index.{GoodIndex};
 use fields::header::header;
 use fields::{Field, Next};
 use joint_switches::joints::location_count;
-use libc::{STDIN_FILENO, STDOUT_FILENO};
 use model_sheets::limits::exam_limits;
 use model_sheets::sheet::model_into;
 use models::layout::{INDEX_LENGTH, Index, VARIABLES_AT, VERSION_AT};
@@ -17,111 +16,111 @@ use second_sheets::certificate::{entry, proof_head, read_regions};
 use second_sheets::ranges::REGIONS_LENGTH;
 use second_sheets::run::{opening, step};
 use second_sheets::{EntryRead, HeadRead, OpeningRead, StepRead};
+use std::io::{self, Read};
+
+// How many bytes of the input are read.
+const INPUT_LENGTH: u64 = 98304;
 
 // Writes a number and a place.
-fn answer(number: u32, place: usize) {
-    io::write_all(STDOUT_FILENO, b": ");
-    io::print_decimal(STDOUT_FILENO, number as u64);
-    io::write_all(STDOUT_FILENO, b" ");
-    io::print_decimal(STDOUT_FILENO, place as u64);
-    io::write_all(STDOUT_FILENO, b"\n");
+fn answer(rt: &impl Print, number: u32, place: usize) -> io::Result<()> {
+    println!(rt; ": {number} {place}")
 }
 
 // Writes where reading ended, or the refusal.
-fn answer_next(read: Next) {
+fn answer_next(rt: &impl Print, read: Next) -> io::Result<()> {
     match read {
-        Next::At(place) => answer(0, place),
-        Next::Refused(number, place) => answer(number, place),
+        Next::At(place) => answer(rt, 0, place),
+        Next::Refused(number, place) => answer(rt, number, place),
     }
 }
 
 // Reads a model.
-fn try_model(s: &[u8]) {
+fn try_model(rt: &impl Print, s: &[u8]) -> io::Result<()> {
     let mut index = [0u16; INDEX_LENGTH];
-    answer_next(model_into(s, &mut index, exam_limits()));
+    answer_next(rt, model_into(s, &mut index, exam_limits()))
 }
 
 // Reads a certificate's header and regions.
-fn try_regions(model: &[u8], index: &Index, s: &[u8])
+fn try_regions(rt: &impl Print, model: &[u8], index: &Index, s: &[u8]) -> io::Result<()>
     requires { GoodIndex model.now index.now }
 {
     match header(s, 2) {
-        Field::Refused(number, place) => answer(number, place),
+        Field::Refused(number, place) => answer(rt, number, place),
         Field::Value(_, at) => {
             let version = index[VERSION_AT] as u32;
             let n = index[VARIABLES_AT] as usize;
             let locations = location_count(model, index);
             if s.len() > 32768 || n > 8 || locations > 64 {
-                return;
+                return Ok(());
             }
             let mut regions = [0u16; REGIONS_LENGTH];
-            answer_next(read_regions(s, at, version, n, locations, &mut regions));
+            answer_next(rt, read_regions(s, at, version, n, locations, &mut regions))
         }
     }
 }
 
 // Reads a proof's head.
-fn try_head(s: &[u8], at: usize, zero: bool) {
+fn try_head(rt: &impl Print, s: &[u8], at: usize, zero: bool) -> io::Result<()> {
     match proof_head(s, at, zero) {
-        HeadRead::Head(_, _, next) => answer(0, next),
-        HeadRead::Refused(number, place) => answer(number, place),
+        HeadRead::Head(_, _, next) => answer(rt, 0, next),
+        HeadRead::Refused(number, place) => answer(rt, number, place),
     }
 }
 
 // Reads an entry of a proof.
-fn try_entry(s: &[u8], at: usize, hypotheses: u32, least: u32) {
+fn try_entry(rt: &impl Print, s: &[u8], at: usize, hypotheses: u32, least: u32) -> io::Result<()> {
     match entry(s, at, hypotheses, least) {
-        EntryRead::Entry(_, _, next) => answer(0, next),
-        EntryRead::Refused(number, place) => answer(number, place),
+        EntryRead::Entry(_, _, next) => answer(rt, 0, next),
+        EntryRead::Refused(number, place) => answer(rt, number, place),
     }
 }
 
 // Reads a run's header and opening.
-fn try_opening(model: &[u8], index: &Index, s: &[u8])
+fn try_opening(rt: &impl Print, model: &[u8], index: &Index, s: &[u8]) -> io::Result<()>
     requires { GoodIndex model.now index.now }
 {
     match header(s, 3) {
-        Field::Refused(number, place) => answer(number, place),
+        Field::Refused(number, place) => answer(rt, number, place),
         Field::Value(_, at) => {
             if s.len() > 32768 {
-                return;
+                return Ok(());
             }
             let locations = location_count(model, index);
             let mut values = [0i64; 8];
             match opening(index, locations, s, at, &mut values) {
-                OpeningRead::Opening(_, _, _, next) => answer(0, next),
-                OpeningRead::Refused(number, place) => answer(number, place),
+                OpeningRead::Opening(_, _, _, next) => answer(rt, 0, next),
+                OpeningRead::Refused(number, place) => answer(rt, number, place),
             }
         }
     }
 }
 
 // Reads a step of a run.
-fn try_step(model: &[u8], index: &Index, s: &[u8], at: usize)
+fn try_step(rt: &impl Print, model: &[u8], index: &Index, s: &[u8], at: usize) -> io::Result<()>
     requires { GoodIndex model.now index.now }
 {
     if s.len() > 32768 {
-        return;
+        return Ok(());
     }
     let mut values = [0i64; 8];
     match step(index, s, at, &mut values) {
-        StepRead::Good(_, next) => answer(0, next),
-        StepRead::Refused(number, place) => answer(number, place),
+        StepRead::Good(_, next) => answer(rt, 0, next),
+        StepRead::Refused(number, place) => answer(rt, number, place),
     }
 }
 
 // Reads what stands beside a model.
-fn try_beside(model: &[u8], kind: usize, at: usize, s: &[u8]) {
+fn try_beside(rt: &impl Print, model: &[u8], kind: usize, at: usize, s: &[u8]) -> io::Result<()> {
     let mut index = [0u16; INDEX_LENGTH];
     match model_into(model, &mut index, exam_limits()) {
-        Next::Refused(number, place) => answer(number, place),
+        Next::Refused(number, place) => answer(rt, number, place),
         Next::At(_) => {
             if kind == 2 {
-                try_regions(model, &index, s);
+                try_regions(rt, model, &index, s)
             } else if kind == 5 {
-                try_opening(model, &index, s);
+                try_opening(rt, model, &index, s)
             } else {
-                try_step(model, &index, s, at);
+                try_step(rt, model, &index, s, at)
             }
         }
     }
@@ -138,20 +137,20 @@ fn byte_at(all: &[u8], at: usize) -> usize
 }
 
 // Reads a sheet as the kind and arguments at `head` say.
-fn try_sheet(all: &[u8], head: usize, model: &[u8], s: &[u8])
+fn try_sheet(rt: &impl Print, all: &[u8], head: usize, model: &[u8], s: &[u8]) -> io::Result<()>
     requires { head < 2 ^ 18 }
 {
     let kind = byte_at(all, head);
     let at = byte_at(all, head + 1);
     let second = byte_at(all, head + 2) as u32;
     if kind == 1 {
-        try_model(s);
+        try_model(rt, s)
     } else if kind == 3 {
-        try_head(s, at, second == 1);
+        try_head(rt, s, at, second == 1)
     } else if kind == 4 {
-        try_entry(s, at, second, byte_at(all, head + 3) as u32);
+        try_entry(rt, s, at, second, byte_at(all, head + 3) as u32)
     } else {
-        try_beside(model, kind, at, s);
+        try_beside(rt, model, kind, at, s)
     }
 }
 
@@ -164,55 +163,54 @@ struct Place {
 }
 
 // Reads the paper at a place.
-fn paper(all: &[u8], place: Place) -> Place {
+fn paper(rt: &impl Print, all: &[u8], place: Place) -> io::Result<Place> {
     let at = place.at;
     let model = place.model;
     let model_end = place.end;
     if all.len() <= at {
-        return place;
+        return Ok(place);
     }
     if 131072 <= at {
-        return place;
+        return Ok(place);
     }
     let label = at + 1;
     let head = label + byte_at(all, at);
     let sheet = head + 6;
     let end = sheet + byte_at(all, head + 4) * 256 + byte_at(all, head + 5);
     if end > all.len() || model > model_end || model_end > all.len() {
-        return place;
+        return Ok(place);
     }
     if byte_at(all, head) == 0 {
-        return Place {
+        return Ok(Place {
             at: end,
             model: sheet,
             end,
-        };
+        });
     }
-    io::write_all(STDOUT_FILENO, &all[label..head]);
-    try_sheet(all, head, &all[model..model_end], &all[sheet..end]);
-    Place {
+    rt.write_all(&all[label..head])?;
+    try_sheet(rt, all, head, &all[model..model_end], &all[sheet..end])?;
+    Ok(Place {
         at: end,
         model,
         end: model_end,
-    }
+    })
 }
 
 // Reads the papers.
-fn papers(all: &[u8]) {
+fn papers(rt: &impl Print, all: &[u8]) -> io::Result<()> {
     let mut place = Place {
         at: 0,
         model: 0,
         end: 0,
     };
-    let mut n: u32 = 0;
-    while n < 1000 {
-        place = paper(all, place);
-        n += 1;
+    for _ in 0..1000 {
+        place = paper(rt, all, place)?;
     }
+    Ok(())
 }
 
-fn main() {
-    let mut all = [0u8; 98304];
-    let n = io::read_full(STDIN_FILENO, &mut all);
-    papers(&all[..n]);
+fn main(rt: HostRuntime) -> io::Result<()> {
+    let mut all = Vec::new(rt.alloc());
+    rt.reader().take(INPUT_LENGTH).read_to_end(&mut all)?;
+    papers(&rt, &all)
 }
