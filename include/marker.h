@@ -1,4 +1,4 @@
-/* The marker of papers about hybrid automata, for C. Link with the archive that `rt staticlib entries` writes.
+/* The marker of papers about hybrid automata, for C. Link with the archive that `rt lib` in crates/entries writes.
    Document 01 defines the sheets and the answer, document 02 versions 2 and 3 of sheets, typed rows, fair copies and the limits of a desk;
    what each call answers is proved for all bytes and all limits. */
 #ifndef SILFODDRA_MARKER_H

@@ -17,11 +17,17 @@ def words(text, code):
     return set().union(*(re.split(s, text) for s in signs))
 
 
+# traits that are brought in for their methods
+METHODS = {'Read': ('.read', '.take('), 'Write': ('.write', '.flush(')}
+
+
 def used(name, present, text):
     name = name.split(' as ')[-1].strip()
-    if name in ('_>>=_', '_>>_') and 'do' in present:
+    if name == 'self' or any(method in text for method in METHODS.get(name, ())):
+        return True
+    if name in ('◌>>=◌', '◌>>◌') and 'do' in present:
         return True  # what a `do` block stands for
-    parts = [p for p in name.split('_') if p] if name.startswith('_') or name.endswith('_') else [name]
+    parts = [p for p in name.split('◌') if p]
     return name in present or all(p in present or (p == '[]' and '[]' in text) for p in parts)
 
 
@@ -66,7 +72,7 @@ def main():
         sys.exit(__doc__)
     count = 0
     for path in sorted(ROOT.rglob('*')):
-        if path.suffix not in ('.antt', '.rt'):
+        if path.suffix not in ('.antt', '.rt') or 'out' in path.relative_to(ROOT).parts[:2]:
             continue
         found, text = unused(path)
         count += len(found)

@@ -92,7 +92,7 @@ def milliseconds(program, data, times=21):
 
 
 def main(folder):
-    program = str(Path(__file__).resolve().parent.parent / 'target/bin/mark')
+    program = str(Path(__file__).resolve().parent.parent / 'crates/mark/out/mark')
     folder.mkdir(parents=True, exist_ok=True)
     failed = False
     inputs = {name: b''.join(sheet.bytes() for sheet in build()) for name, build in PAPERS.items()}

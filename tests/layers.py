@@ -11,8 +11,8 @@ from pathlib import Path
 
 ROOT = Path(__file__).resolve().parent.parent
 PROMISE = {'Promise', 'All', 'Integers', 'Order', 'Comparing', 'Bits', 'Fill'}
-USED = re.compile(r'\bRattle·(\w+)')
-PROOFS = re.compile(r'\bRattle·farkas\.proofs\.(\w+)')
+USED = re.compile(r'\bRattle\.(\w+)')
+PROOFS = re.compile(r'\bRattle\.farkas\.proofs\.(\w+)')
 
 
 def layers():
@@ -24,6 +24,7 @@ def layers():
             layer = int(heading.group(1))
         elif ':' in line and not line.startswith('#'):
             name, rest = line.split(':')
+            name = name.split()[0]
             found[name], needs[name] = layer, rest.split()
     return found, needs
 
@@ -34,7 +35,7 @@ def main():
     for name, others in needs.items():
         wrong += [f'crates.txt: {name} needs {other}, which stands in a layer above' for other in others if layer.get(other, 0) > layer[name]]
     for path in sorted((ROOT / 'crates').rglob('*')):
-        if path.suffix not in ('.antt', '.rt'):
+        if path.suffix not in ('.antt', '.rt') or 'out' in path.relative_to(ROOT / 'crates').parts[:2]:
             continue
         crate = path.relative_to(ROOT / 'crates').parts[0]
         for line in path.read_text(encoding='utf8').splitlines():
@@ -44,7 +45,7 @@ def main():
                 if other != crate and other in layer and other not in needs[crate]:
                     wrong.append(f'{path.relative_to(ROOT)}: uses {other}, which crates.txt does not give it')
             for module in PROOFS.findall(line):
-                if module not in PROMISE:
+                if module not in PROMISE and crate != 'farkas':
                     wrong.append(f'{path.relative_to(ROOT)}: uses farkas.proofs.{module}, which is not its promise')
     print('\n'.join(wrong) if wrong else 'each crate sees only what stands below it')
     sys.exit(1 if wrong else 0)

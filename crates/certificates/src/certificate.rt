@@ -2,7 +2,7 @@
 ghost use Rattle.std.specs.Prelude.{◌≡◌, ◌≤◌, length};
 ghost use Rattle.formats.specs.Locations.{location_count};
 ghost use Rattle.formats.specs.Joint.{joints};
-ghost use Rattle.models.specs.Index.{entry, components_from};
+ghost use Rattle.models.specs.Index.{components_from};
 ghost use Rattle.rules.specs.Marking.{passed, close_certificate, mark_certificate};
 ghost use Rattle.papers.specs.Paper.{GoodPaper, Accepted, obligations_for};
 ghost use Rattle.certificates.specs.Passed.{stopped_answer, marked_body, marked_rest};

@@ -1,7 +1,7 @@
 // What has to be proved at a location and at a joint switch: for each group of proofs its table of hypotheses, built once, and its goals.
 ghost use Rattle.std.specs.Prelude.{◌≡◌, ◌++◌, ◌+◌, ◌*◌, ◌≤◌, ◌<◌, length};
 ghost use Rattle.formats.specs.Locations.{location_count};
-ghost use Rattle.models.specs.Index.{entry, components_from, conditions_in, variables_in, version_in, GoodIndex, Kept};
+ghost use Rattle.models.specs.Index.{components_from, conditions_in, variables_in, version_in, GoodIndex, Kept};
 ghost use Rattle.models.specs.Counts.{per_component, KnownSwitches};
 ghost use Rattle.hypotheses.specs.Tables.{segment, Stacked, lines_in, Onto};
 ghost use Rattle.hypotheses.specs.Listing.{here_lines, start_lines, still_lines, flow_lines, unsafe_lines, landing_lines, tasks_of, GoodGroup, empty_group, region_group, group_tasks_for, jump_tasks_for, HereIn};

@@ -2,7 +2,7 @@
 // over for the contracts.
 ghost use Rattle.std.specs.Prelude.{◌≡◌, ℕ, ◌+◌, ◌*◌, ◌≤◌, ◌<◌, length, get_or};
 ghost use Rattle.formats.specs.JointTotals.{entering, arrivals, together_into, silent_into, event_into, joints_into};
-ghost use Rattle.models.specs.Index.{entry, GoodIndex, components_from, components_in};
+ghost use Rattle.models.specs.Index.{GoodIndex, components_from, components_in};
 ghost use Rattle.models.specs.Counts.{component_at, per_component};
 ghost use Rattle.joint_switches.specs.Tables.{Blank, SmallModes};
 ghost use Rattle.joint_switches.specs.Numbered.{numbered, ByMode};

@@ -2,7 +2,7 @@
 // sheet is handed over for the contracts.
 ghost use Rattle.std.specs.Prelude.{◌≡◌, ℕ, ◌+◌, ◌*◌, ◌≤◌, ◌<◌, length, get_or};
 ghost use Rattle.formats.specs.Joint.{switch_of};
-ghost use Rattle.models.specs.Index.{entry, GoodIndex, Kept, components_in};
+ghost use Rattle.models.specs.Index.{GoodIndex, Kept, components_in};
 ghost use Rattle.models.specs.Counts.{component_at};
 ghost use Rattle.joint_switches.specs.Tables.{Blank};
 ghost use Rattle.joint_switches.specs.Numbered.{number_of, numbered, Wide, NumberedAt};

@@ -4,7 +4,7 @@
 ghost use Rattle.std.specs.Prelude.{◌≡◌, ◌+◌, ◌*◌, ◌≤◌, ◌<◌, length, set, replicate};
 ghost use Rattle.formats.specs.Locations.{location_count, modes_at};
 ghost use Rattle.formats.specs.Joint.{stays, switch_of, bit};
-ghost use Rattle.models.specs.Index.{entry, GoodIndex, components_from, components_in};
+ghost use Rattle.models.specs.Index.{GoodIndex, components_from, components_in};
 ghost use Rattle.models.specs.Counts.{component_at, per_component, KnownModes};
 ghost use Rattle.joint_switches.specs.Counted.{Counted};
 ghost use Rattle.joint_switches.specs.Slots.{digit_landing, landing_in, Digits, Ready, ListedAs, Listed, silent_in, together_in, leaving_by, parts_by, leaves_by, Fitting, line_for, WaysAt, MoversAt, OtherLines};

@@ -3,7 +3,7 @@
 ghost use Rattle.std.specs.Prelude.{◌≡◌, map, ◌≤◌, ◌<◌, length};
 ghost use Rattle.formats.specs.Joint.{count_up, joints};
 ghost use Rattle.formats.specs.JointTotals.{labelled, choices, together_total, silent_total, event_total};
-ghost use Rattle.models.specs.Index.{entry, GoodIndex, components_from, components_in};
+ghost use Rattle.models.specs.Index.{GoodIndex, components_from, components_in};
 ghost use Rattle.models.specs.Counts.{component_at};
 ghost use Rattle.joint_switches.specs.Numbered.{ByLabel};
 

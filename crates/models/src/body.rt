@@ -1,7 +1,7 @@
 // The model's body, whole: its counts, owners, components and unsafe conditions.
 ghost use Rattle.std.specs.Prelude.{◌≡◌, ◌≤◌, length};
 ghost use Rattle.formats.specs.Model.{read_model_body};
-ghost use Rattle.models.specs.Index.{Sized, entry, read_totals, totals_from, read_parts, parts_from, model_from, paper_in, Kept, components_in, first_block, first_total, index_length, variables_in, version_in, first_owner};
+ghost use Rattle.models.specs.Index.{Sized, read_totals, totals_from, read_parts, parts_from, model_from, paper_in, Kept, components_in, first_block, first_total, index_length, variables_in, version_in, first_owner};
 ghost use Rattle.fields.specs.Answers.{got_as};
 
 use crate::layout::{COMPONENTS_AT, CONDITIONS_AT, VARIABLES_AT};

@@ -3,7 +3,7 @@
 ghost use Rattle.std.specs.Prelude.{◌≡◌, ◌+◌, ◌≤◌, ◌<◌, length};
 ghost use Rattle.formats.specs.Locations.{location_count};
 ghost use Rattle.formats.specs.Joint.{joints_of, joints};
-ghost use Rattle.models.specs.Index.{entry, components_from, model_from, conditions_in};
+ghost use Rattle.models.specs.Index.{components_from, model_from, conditions_in};
 ghost use Rattle.rules.specs.Obligations.{location_obligations};
 ghost use Rattle.papers.specs.Paper.{GoodPaper, regions_of};
 ghost use Rattle.papers.specs.Standing.{Stands};

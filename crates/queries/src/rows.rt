@@ -3,7 +3,7 @@ ghost use Rattle.std.specs.Prelude.{◌≡◌, ◌+◌, ◌≤◌, ◌<◌, leng
 ghost use Rattle.formats.specs.Locations.{location_count, modes_at};
 ghost use Rattle.formats.specs.Joint.{switches_of};
 ghost use Rattle.formats.specs.Versions.{row_bytes};
-ghost use Rattle.models.specs.Index.{entry, components_from, conditions_in};
+ghost use Rattle.models.specs.Index.{components_from, conditions_in};
 ghost use Rattle.hypotheses.specs.Tables.{row_place, hypothesis_in, hypotheses_from, roles_from, Stacked};
 ghost use Rattle.papers.specs.Paper.{GoodPaper};
 ghost use Rattle.papers.specs.Standing.{Stands};

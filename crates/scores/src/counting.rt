@@ -2,7 +2,7 @@
 ghost use Rattle.std.specs.Prelude.{◌≡◌, ◌+◌, ◌*◌, ◌≤◌, ◌<◌, length};
 ghost use Rattle.formats.specs.Locations.{location_count};
 ghost use Rattle.formats.specs.Joint.{numbers_from, joints};
-ghost use Rattle.models.specs.Index.{entry, components_from, model_from, GoodIndex};
+ghost use Rattle.models.specs.Index.{components_from, model_from, GoodIndex};
 ghost use Rattle.models.specs.Counts.{per_component};
 ghost use Rattle.joint_switches.specs.Numbered.{ByMode};
 ghost use Rattle.rules.specs.Runs.{modes_fit};

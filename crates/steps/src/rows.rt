@@ -5,7 +5,7 @@ ghost use Rattle.farkas.specs.Lists.{every};
 ghost use Rattle.farkas.specs.Rows.{row_holds};
 ghost use Rattle.formats.specs.Joint.{count_up};
 ghost use Rattle.fields.specs.Places.{row_at};
-ghost use Rattle.models.specs.Index.{entry, span_rows, GoodSpan, components_in, index_length, variables_in, version_in};
+ghost use Rattle.models.specs.Index.{span_rows, GoodSpan, components_in, index_length, variables_in, version_in};
 ghost use Rattle.rules.specs.Runs as runs;
 ghost use Rattle.papers.specs.Standing.{GoodModes};
 ghost use Rattle.steps.specs.Held.{SmallPoint, mode_holds};
