@@ -7,6 +7,9 @@ ghost use Rattle.std.specs.Io.KnownBytes.{ReadConsumes, Consumes};
 
 use std::io::{self, ErrorKind, Read};
 
+#[cfg(test)]
+mod tests;
+
 // One read, tried again where a signal interrupts it; the last of 2^64 tries is answered as it comes.
 fn read_some<R: Read>(input: &mut R, part: &mut [u8]) -> io::Result<usize>
     ensures bound { ReadsAtMost result part.new }
