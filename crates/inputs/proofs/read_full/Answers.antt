@@ -1,3 +1,4 @@
+-- What a turn reads comes after what was read before it. Assumes nothing.
 use Rattle.std.proofs.Common.{rules}
 use Rattle.inputs.proofs.Parts.{read_on}
 use Rattle.inputs.proofs.read_full.Goals as goal

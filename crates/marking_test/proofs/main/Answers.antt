@@ -1,4 +1,5 @@
--- The buffer is as long as it was made, and what is read fits it.
+-- The buffer is as long as it was made, and what is read fits it. The level and the type are written out, so that the bytes of the buffer
+-- are not counted one by one. Assumes nothing.
 use Rattle.std.proofs.Common.{sym, ℕ}
 use Rattle.std.proofs.lemmas.List.{length-replicate}
 use Rattle.marking_test.proofs.main.Goals as goal
