@@ -11,13 +11,11 @@ ghost use Rattle.std.specs.Prelude.{◌≡◌, ◌^◌, ◌<◌, nat_abs};
 
 use fair_copies::copies::fair_copy;
 use formats::Limits;
+use inputs::read_full;
 use rules::Answer;
-use std::io::{self, Read};
+use std::io;
 use typed::TypedRow;
 use typed::row::read_row;
-
-// How many bytes of the input are read.
-const INPUT_LENGTH: u64 = 262144;
 
 // The size of a number.
 fn size(x: i32) -> u64
@@ -211,7 +209,7 @@ fn calls(rt: &impl Print, all: &[u8]) -> io::Result<()> {
 }
 
 fn main(rt: HostRuntime) -> io::Result<()> {
-    let mut all = Vec::new(rt.alloc());
-    rt.reader().take(INPUT_LENGTH).read_to_end(&mut all)?;
-    calls(&rt, &all)
+    let mut all = [0u8; 262144];
+    let n = read_full(&mut rt.reader(), &mut all)?;
+    calls(&rt, &all[..n])
 }

@@ -2,16 +2,16 @@
 // `SAFE done` for an accepted certificate, `UNSAFE done` for an accepted run, else `REFUSED number sheet place done score`.
 #![tactic(auto)]
 
-ghost use Rattle.std.specs.Prelude.{◌≡◌, [], ◌++◌, List, ℕ, OnOk, IfOk, IfSome, take};
+ghost use Rattle.std.specs.Prelude.{◌≡◌, OnOk, IfOk, IfSome, take};
 ghost use Rattle.std.specs.Io.KnownBytes.{Appends};
 ghost use Rattle.rules.specs.Program.{printed};
 
+use inputs::read_full;
 use marking::text::{LINE_LENGTH, mark_text};
-use std::alloc::Global;
 use std::io::{self, Read, Write};
 
 // How many bytes of the input are read: one more than is ever marked, so that a longer one is seen to be one.
-const INPUT_LENGTH: u64 = 65537;
+const INPUT_LENGTH: usize = 65537;
 
 // Writes the line for an input.
 fn write_line<W: Write>(output: &mut W, input: &[u8]) -> io::Result<()>
@@ -23,22 +23,25 @@ fn write_line<W: Write>(output: &mut W, input: &[u8]) -> io::Result<()>
 }
 
 // What a reader gives, as far as it is marked.
-fn read_input<R: Read + Drop>(alloc: Global, input: R) -> io::Result<Vec<u8>>
-    ensures { IfOk result (λ read. IfSome (R.remaining input) (λ bytes. read.items ≡ take 65537 bytes)) }
+fn read_input<'a, R: Read + Drop>(
+    mut input: R,
+    buffer: &'a mut [u8; INPUT_LENGTH],
+) -> io::Result<&'a [u8]>
+    ensures { IfOk result (λ read. IfSome (R.remaining input) (λ bytes. read.now ≡ take 65537 bytes)) }
 {
-    let mut all = Vec::new(alloc);
-    input.take(INPUT_LENGTH).read_to_end(&mut all)?;
-    Ok(all)
+    let n = read_full(&mut input, buffer)?;
+    Ok(&buffer[..n])
 }
 
 // Writes the line for all that a reader gives.
-fn mark<R: Read + Drop, W: Write>(alloc: Global, input: R, output: &mut W) -> io::Result<()>
+fn mark<R: Read + Drop, W: Write>(input: R, output: &mut W) -> io::Result<()>
     ensures { OnOk result (IfSome (R.remaining input) (λ bytes. Appends (W.contents output.old) (W.contents output.new) (printed bytes))) }
 {
-    let all = read_input(alloc, input)?;
-    write_line(output, &all)
+    let mut buffer = [0u8; INPUT_LENGTH];
+    let read = read_input(input, &mut buffer)?;
+    write_line(output, read)
 }
 
 fn main(rt: HostRuntime) -> io::Result<()> {
-    mark(rt.alloc(), rt.reader(), &mut io::writer(&rt))
+    mark(rt.reader(), &mut io::writer(&rt))
 }

@@ -11,16 +11,14 @@ ghost use Rattle.std.specs.Prelude.{◌-◌, ◌^◌, ◌<◌};
 
 use certificates::certificate::mark_certificate;
 use formats::Limits;
+use inputs::read_full;
 use joint_lists::list::list_begin;
 use marking::text::{LINE_LENGTH, mark_text};
 use model_sheets::limits::exam_limits;
 use queries::show::show_row;
 use rules::Answer;
 use runs::run::mark_run;
-use std::io::{self, Read};
-
-// How many bytes of the input are read.
-const INPUT_LENGTH: u64 = 524288;
+use std::io;
 
 // Writes a number after a separator.
 fn number(rt: &impl Print, before: &[u8], n: u32) -> io::Result<()> {
@@ -210,7 +208,7 @@ fn papers(rt: &impl Print, all: &[u8]) -> io::Result<()> {
 }
 
 fn main(rt: HostRuntime) -> io::Result<()> {
-    let mut all = Vec::new(rt.alloc());
-    rt.reader().take(INPUT_LENGTH).read_to_end(&mut all)?;
-    papers(&rt, &all)
+    let mut all = [0u8; 524288];
+    let n = read_full(&mut rt.reader(), &mut all)?;
+    papers(&rt, &all[..n])
 }

@@ -8,6 +8,7 @@ ghost use Rattle.models.specs.Index.{GoodIndex};
 
 use fields::header::header;
 use fields::{Field, Next};
+use inputs::read_full;
 use joint_switches::joints::location_count;
 use model_sheets::limits::exam_limits;
 use model_sheets::sheet::model_into;
@@ -16,10 +17,7 @@ use second_sheets::certificate::{entry, proof_head, read_regions};
 use second_sheets::ranges::REGIONS_LENGTH;
 use second_sheets::run::{opening, step};
 use second_sheets::{EntryRead, HeadRead, OpeningRead, StepRead};
-use std::io::{self, Read};
-
-// How many bytes of the input are read.
-const INPUT_LENGTH: u64 = 98304;
+use std::io;
 
 // Writes a number and a place.
 fn answer(rt: &impl Print, number: u32, place: usize) -> io::Result<()> {
@@ -210,7 +208,7 @@ fn papers(rt: &impl Print, all: &[u8]) -> io::Result<()> {
 }
 
 fn main(rt: HostRuntime) -> io::Result<()> {
-    let mut all = Vec::new(rt.alloc());
-    rt.reader().take(INPUT_LENGTH).read_to_end(&mut all)?;
-    papers(&rt, &all)
+    let mut all = [0u8; 98304];
+    let n = read_full(&mut rt.reader(), &mut all)?;
+    papers(&rt, &all[..n])
 }

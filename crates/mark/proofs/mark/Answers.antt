@@ -27,6 +27,4 @@ shown None old new all i w = tt
 shown (Some bytes) old new all i w = subst (λ (l : List ℕ). Appends old new l) (ap printed i ∙ cut bytes) w
 
 pub returns : goal.returns
-returns g c =
-    let d = c.deref.ensures.value in
-    on_ok_weaker c.write_line.result (λ w. shown (g.R.Read.remaining c.args.input) _ _ _ c.in_ok-all.ensures (rw d at w)) c.write_line.ensures
+returns g c = on_ok_weaker c.write_line.result (shown (g.R.Read.remaining c.args.input) _ _ _ c.in_ok-read.ensures) c.write_line.ensures

@@ -1,13 +1,12 @@
--- A reader that is cut off at the limit gives its first bytes. Assumes nothing.
-use Rattle.std.proofs.Common.{◌≡◌, List, [], ◌++◌, ℕ, take, IfSome, ap}
-use Rattle.std.specs.Option.{option_map}
+-- The buffer holds the first bytes, as many as it has room for. Assumes nothing.
+use Rattle.std.proofs.Common.{◌≡◌, List, ℕ, length, take, IfSome, subst, arith}
 use Rattle.std.specs.declared.option.Option.{Option}
-use Rattle.std.specs.declared.option.Option.TheVariants.{None, Some}
 use Rattle.mark.proofs.read_input.Goals as goal
 
-cut : {m : ℕ} {given : Option (List ℕ)} {before : List ℕ} (n : ℕ) (known : Option (List ℕ)) (after : List ℕ) → m ≡ n → given ≡ known → before ≡ [] → IfSome (option_map (take m) given) (λ xs. after ≡ before ++ xs) → IfSome known (λ bytes. after ≡ take n bytes)
-cut n None after m g e h = tt
-cut n (Some bytes) after m g e h = rw (m, g, e) at h
+first : {room n : ℕ} (known : Option (List ℕ)) (read : List ℕ) → room ≡ n → IfSome known (λ bytes. read ≡ take room bytes) → IfSome known (λ bytes. read ≡ take n bytes)
+first known read e h = subst (λ (k : ℕ). IfSome known (λ bytes. read ≡ take k bytes)) e h
 
 pub returns : goal.returns
-returns g c = cut 65537 (g.R.Read.remaining c.args.input) c.read_to_end.new.buf.items c.take.ensures.limit (ap g.R.Read.remaining c.take.ensures.inner) c.new-all.ensures.items c.in_ok-read_to_end.ensures.bytes
+returns g c =
+    let room : length c.args.buffer.now ≡ 65537 = omega (arith, c.told-buffer) in
+    first (g.R.Read.remaining c.args.input) _ room c.in_ok-n.ensures.bytes
