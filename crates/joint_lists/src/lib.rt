@@ -8,7 +8,7 @@ use models::layout::Index;
 use rules::Answer;
 
 // The answer, and the index of the model; free where the sheet is no model.
-#[derive(Drop)]
+#[derive(Clone, Copy)]
 pub struct Listing {
     pub answer: Answer,
     pub index: Index,
@@ -16,7 +16,7 @@ pub struct Listing {
 
 // Up to 64 records, each packed in one word, and the place in the list after them: a slot, sixteen to a location, and how many joint
 // switches from there on are passed over.
-#[derive(Drop)]
+#[derive(Clone, Copy)]
 pub struct Batch {
     pub words: [u64; 64],
     pub count: usize,

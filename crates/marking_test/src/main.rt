@@ -117,7 +117,7 @@ fn mark<'a>(
 }
 
 // Where the next paper begins, the model that it is marked beside, and the limits that are stated for it.
-#[derive(Drop)]
+#[derive(Clone, Copy)]
 struct Place {
     at: usize,
     model: usize,

@@ -153,7 +153,7 @@ fn try_sheet(rt: &impl Print, all: &[u8], head: usize, model: &[u8], s: &[u8]) -
 }
 
 // Where the next paper begins, and the model that it is read beside.
-#[derive(Drop)]
+#[derive(Clone, Copy)]
 struct Place {
     at: usize,
     model: usize,

@@ -27,14 +27,14 @@ pub enum Reached {
 }
 
 // What was worked out; the form is 0 after a refusal.
-#[derive(Drop)]
+#[derive(Clone, Copy)]
 pub struct Worked {
     pub reached: Reached,
     pub form: Form,
 }
 
 // A number that lies in s32, or does not.
-#[derive(Drop)]
+#[derive(Clone, Copy)]
 pub enum Entry {
     Fits(i32),
     Outside,

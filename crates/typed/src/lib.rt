@@ -11,7 +11,7 @@ mod working;
 
 // What is handed back: number 0 with the row, coefficients from n on 0; or the number that refuses the text and the place in it, with
 // a row of zeros.
-#[derive(Drop)]
+#[derive(Clone, Copy)]
 pub struct TypedRow {
     pub number: u32,
     pub place: u32,

@@ -11,7 +11,7 @@ use crate::signs::{Sign, sign_at, sign_of};
 const NUMBER_LIMIT: u64 = 2147483648;
 
 // A run of digits as a number, cut at the limit, and the place after it.
-#[derive(Drop)]
+#[derive(Clone, Copy)]
 pub struct Digits {
     pub value: u64,
     pub next: usize,

@@ -6,7 +6,7 @@ ghost use Rattle.typed.specs.Scan as scanning;
 use crate::signs::{Sign, sign_of};
 
 // What may come next: a factor; more digits, or what follows a factor; what follows a factor; the `=` of `<=`.
-#[derive(Drop)]
+#[derive(Clone, Copy)]
 pub enum Phase {
     Awaiting,
     Counting,
@@ -15,14 +15,14 @@ pub enum Phase {
 }
 
 // Dead if no ending mends the signs so far; else what may come next, how many brackets are open, and whether `<=` has been passed.
-#[derive(Drop)]
+#[derive(Clone, Copy)]
 pub enum State {
     Dead,
     Live(Phase, usize, bool),
 }
 
 // A text keeps the rules, or fails at a place.
-#[derive(Drop)]
+#[derive(Clone, Copy)]
 pub enum Scanned {
     Keeps,
     Fails(usize),

@@ -4,7 +4,7 @@ ghost use Rattle.typed.specs.Signs.{sign_of, sign_at};
 ghost use Rattle.typed.specs.Turns.{sense_of};
 
 // What a byte stands for: a digit with its value, a letter with its variable, a to h as 0 to 7, or nothing.
-#[derive(Drop)]
+#[derive(Clone, Copy)]
 pub enum Sign {
     Blank,
     Digit(u8),
