@@ -27,14 +27,14 @@ unfolding signed_at
 returns-then-bound-lt-SIGN_BIT c =
     let a = c.args in
     divisor-dropped a.s.now a.at a.n c.common_of-coefficients.result c.common_of-coefficients.ensures c.if-coefficients-eq0.true
-    (ap (λ (n : ℕ). le_z (pos 0) (signed n)) (sym c.number-bound.ensures) ∙ sign_low c.number-bound.result c.if-bound-lt-SIGN_BIT.true)
+    (ap (λ (n : ℕ). le_z (pos 0) (signed n)) (sym c.number-bound.ensures) ∙ sign_low c.number-bound.result (omega arith))
 
 pub returns-then-coefficients-eq0 : goal.returns-then-coefficients-eq0
 unfolding signed_at
 returns-then-coefficients-eq0 c =
     let a = c.args in
     divisor-below a.s.now a.at a.n c.common_of-coefficients.result c.common_of-coefficients.ensures c.magnitude.result c.if-coefficients-eq0.true
-    (ap (λ (n : ℕ). le_z (pos 0) (signed n)) (sym c.number-bound.ensures) ∙ sign_high c.number-bound.result c.if-bound-lt-SIGN_BIT.false)
+    (ap (λ (n : ℕ). le_z (pos 0) (signed n)) (sym c.number-bound.ensures) ∙ sign_high c.number-bound.result (omega arith))
     (c.magnitude.ensures ∙ ap (λ (n : ℕ). nat_abs (signed n)) c.number-bound.ensures)
 
 pub returns : goal.returns
