@@ -1,23 +1,21 @@
--- What the enums that reading answers with mean, by cases: values, or the number and place of a refusal (01, the table). Assumes nothing.
-use Rattle.std.specs.Prelude.{List, ℕ, ◌+◌}
-use Rattle.fields.specs.declared.Field.{Field}
-use Rattle.fields.specs.declared.Field.TheVariants as field
-use Rattle.fields.specs.declared.Next.{Next}
-use Rattle.fields.specs.declared.Next.TheVariants as next
+-- What the results of reading mean, by cases: values, or the number and place of a refusal (01, the table). Assumes nothing.
+use Rattle.std.specs.Prelude.{List, ℕ, ◌+◌, Result, Ok, Err}
+use Rattle.fields.specs.declared.Refusal.{Refusal}
+use Rattle.fields.specs.Causes.{number_of}
 use Rattle.formats.specs.Reading.{Got, got, refused}
 use Rattle.formats.specs.Rows.{Condition}
 use Rattle.fields.specs.Places.{rows_from}
 
-unfoldable pub got_field : Field → Got ℕ
-got_field (field.Value v p) = got v p
-got_field (field.Refused number place) = refused number place
+unfoldable pub got_field : Result (ℕ × ℕ) Refusal → Got ℕ
+got_field (Ok read) = got read.0 read.1
+got_field (Err r) = refused (number_of r.0) r.1
 
 -- where the value is told by another
-unfoldable pub got_as : {A : Type 0} → A → Next → Got A
-got_as a (next.At p) = got a p
-got_as a (next.Refused number place) = refused number place
+unfoldable pub got_as : {A : Type 0} → A → Result ℕ Refusal → Got A
+got_as a (Ok p) = got a p
+got_as a (Err r) = refused (number_of r.0) r.1
 
 -- a condition by its count: its rows begin one byte after its place
-unfoldable pub got_rows : List ℕ → ℕ → ℕ → ℕ → Field → Got Condition
-got_rows s version n at (field.Value count p) = got (rows_from s version n (at + 1) count) p
-got_rows s version n at (field.Refused number place) = refused number place
+unfoldable pub got_rows : List ℕ → ℕ → ℕ → ℕ → Result (ℕ × ℕ) Refusal → Got Condition
+got_rows s version n at (Ok read) = got (rows_from s version n (at + 1) read.0) read.1
+got_rows s version n at (Err r) = refused (number_of r.0) r.1

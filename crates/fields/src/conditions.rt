@@ -7,7 +7,7 @@ ghost use Rattle.fields.specs.Answers.{got_as, got_rows};
 
 use crate::fields::byte_within;
 use crate::versions::rows_bytes;
-use crate::{Field, Next};
+use crate::{Cause, Next, Read, Refusal};
 
 // Passes over so many rows of n coefficients; a cut one is refused at the first of its numbers that is cut.
 pub fn pass_rows(s: &[u8], at: usize, version: u32, count: usize, n: usize) -> Next
@@ -18,22 +18,18 @@ pub fn pass_rows(s: &[u8], at: usize, version: u32, count: usize, n: usize) -> N
     let left = s.len() - at;
     let size = rows_bytes(version, n, count);
     if size <= left {
-        Next::At(at + size)
+        Ok(at + size)
     } else {
-        Next::Refused(4, at + left / 4 * 4)
+        Err(Refusal(Cause::Cut, at + left / 4 * 4))
     }
 }
 
 // A condition with at most so many rows of n coefficients: its count, and the place after it. Its rows begin at the byte after the count.
-pub fn condition(s: &[u8], at: usize, version: u32, most: u32, n: usize) -> Field
+pub fn condition(s: &[u8], at: usize, version: u32, most: u32, n: usize) -> Read<u32>
     requires { (most ≤ 255) × (n ≤ 16) }
     ensures { got_rows s.now version n at result ≡ read_condition version most n s.now at }
 {
-    match byte_within(s, at, 0, most) {
-        Field::Refused(number, place) => Field::Refused(number, place),
-        Field::Value(count, from) => match pass_rows(s, from, version, count as usize, n) {
-            Next::Refused(number, place) => Field::Refused(number, place),
-            Next::At(next) => Field::Value(count, next),
-        },
-    }
+    let (count, from) = byte_within(s, at, 0, most)?;
+    let next = pass_rows(s, from, version, count as usize, n)?;
+    Ok((count, next))
 }

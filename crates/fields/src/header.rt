@@ -6,7 +6,7 @@ ghost use Rattle.fields.specs.Answers.{got_field, got_as};
 
 use crate::fields::word;
 use crate::versions::{HEADER_LENGTH, has_paper, kind_fits, version_fits};
-use crate::{Field, Next};
+use crate::{Cause, Next, Read, Refusal};
 
 // Whether the sheet has from 4 to 32,768 bytes, and its first two say how many follow them.
 pub fn length_right(s: &[u8]) -> bool
@@ -23,30 +23,30 @@ pub fn length_right(s: &[u8]) -> bool
 }
 
 // The header of a sheet of this kind: the version, and the place of the body.
-pub fn header(s: &[u8], kind: u32) -> Field
+pub fn header(s: &[u8], kind: u32) -> Read<u32>
     ensures { got_field result ≡ reading.header kind s.now 0 }
 {
     if !length_right(s) {
-        return Field::Refused(1, 0);
+        return Err(Refusal(Cause::Length, 0));
     }
     let version = s[2] as u32;
     if !version_fits(kind, version) {
-        return Field::Refused(2, 2);
+        return Err(Refusal(Cause::Version, 2));
     }
     if !kind_fits(kind, s[3] as u32) {
-        return Field::Refused(3, 3);
+        return Err(Refusal(Cause::Kind, 3));
     }
-    Field::Value(version, HEADER_LENGTH)
+    Ok((version, HEADER_LENGTH))
 }
 
 // The paper number of a sheet's body, and the place after it: 0 where the version has none.
-pub fn read_paper(s: &[u8], at: usize, version: u32) -> Field
+pub fn read_paper(s: &[u8], at: usize, version: u32) -> Read<u32>
     ensures { got_field result ≡ read_paper version s.now at }
 {
     if has_paper(version) {
         return word(s, at);
     }
-    Field::Value(0, at)
+    Ok((0, at))
 }
 
 // The end of the sheet: no byte is left at this place.
@@ -54,8 +54,8 @@ pub fn finished(s: &[u8], at: usize) -> Next
     ensures { got_as tt result ≡ reading.finished s.now at }
 {
     if s.len() <= at {
-        Next::At(at)
+        Ok(at)
     } else {
-        Next::Refused(4, at)
+        Err(Refusal(Cause::Cut, at))
     }
 }

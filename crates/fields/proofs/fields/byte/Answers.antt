@@ -8,11 +8,9 @@ use Rattle.fields.specs.Answers.{got_field}
 use Rattle.formats.proofs.FieldLaws.{field-got, field_cut, byte_at}
 use Rattle.fields.proofs.fields.byte.Goals as goal
 
--- src/fields.rt:17:22
 pub overflow_cast-result : goal.overflow_cast-result
 overflow_cast-result c = omega (arith, c.shared_slice_known-1.given c.args.at)
 
--- src/fields.rt:13:1
 pub returns-then-at-s : goal.returns-then-at-s
 unfolding got_field u8
 returns-then-at-s c =
@@ -21,7 +19,6 @@ returns-then-at-s c =
     let h : at < length s = c.if-at-s.true in
     sym (field-got 1 s at (omega arith) ∙ ap (λ (v : ℕ). got v (at + 1)) (byte_at s at h))
 
--- src/fields.rt:13:1
 pub returns-else-at-s : goal.returns-else-at-s
 unfolding got_field u8
 returns-else-at-s c =

@@ -1,5 +1,5 @@
 -- The byte, then the test: below the count, or 255, or neither. Assumes nothing.
-use mathlib.Core.Path.{sym, ap, ◌∙◌}
+use Rattle.std.proofs.Common.{rules, ◌≡◌, Err, sym, ap, ◌∙◌}
 use Rattle.formats.specs.Reading.{passing, must}
 use Rattle.fields.specs.Answers.{got_field}
 use Rattle.fields.proofs.AnswerLaws.{field-value, field-refused}
@@ -10,22 +10,23 @@ pub returns-then-value-count : goal.returns-then-value-count
 unfolding got_field must
 returns-then-value-count c =
     let a = c.args in
-    sym (ap (passing (numbered a.count) 5 a.at) (sym c.byte.ensures ∙ field-value c.in-Value.is) ∙ numbered_below a.count c.in-Value.value a.at c.in-Value.next c.if-value-count.true)
+    sym (ap (passing (numbered a.count) 5 a.at) (sym c.byte.ensures ∙ field-value c.in_ok-value.was) ∙ numbered_below a.count c.in_ok-value.value a.at c.in_ok-value.next c.if-value-count.true)
 
 pub returns-then-value-eq255 : goal.returns-then-value-eq255
 unfolding got_field must
 returns-then-value-eq255 c =
     let a = c.args in
-    sym (ap (passing (numbered a.count) 5 a.at) (sym c.byte.ensures ∙ field-value c.in-Value.is) ∙ numbered-last a.count c.in-Value.value a.at c.in-Value.next c.if-value-count.false c.if-value-eq255.true)
+    sym (ap (passing (numbered a.count) 5 a.at) (sym c.byte.ensures ∙ field-value c.in_ok-value.was) ∙ numbered-last a.count c.in_ok-value.value a.at c.in_ok-value.next c.if-value-count.false c.if-value-eq255.true)
 
-pub returns-in-Refused : goal.returns-in-Refused
-unfolding got_field must passing
-returns-in-Refused c =
+pub returns-in_err-value : goal.returns-in_err-value
+unfolding must passing
+returns-in_err-value c =
     let a = c.args in
-    sym (ap (passing (numbered a.count) 5 a.at) (sym c.byte.ensures ∙ field-refused c.in-Refused.is))
+    let same : c.from_residual.result ≡ Err c.in_err-value.field-0.0 = search rules in
+    field-refused same ∙ sym (ap (passing (numbered a.count) 5 a.at) (sym c.byte.ensures ∙ field-refused c.in_err-value.was))
 
-pub returns-else-value-eq255 : goal.returns-else-value-eq255
+pub returns : goal.returns
 unfolding got_field must
-returns-else-value-eq255 c =
+returns c =
     let a = c.args in
-    sym (ap (passing (numbered a.count) 5 a.at) (sym c.byte.ensures ∙ field-value c.in-Value.is) ∙ numbered-not a.count c.in-Value.value a.at c.in-Value.next c.if-value-count.false c.if-value-eq255.false)
+    sym (ap (passing (numbered a.count) 5 a.at) (sym c.byte.ensures ∙ field-value c.in_ok-value.was) ∙ numbered-not a.count c.in_ok-value.value a.at c.in_ok-value.next c.if-value-count.false c.if-value-eq255.false)
