@@ -9,26 +9,33 @@ use Rattle.formats.specs.Reading.{got, refused}
 use Rattle.fields.specs.Answers.{got_field, got_as, got_rows}
 use Rattle.fields.specs.Places.{rows_from}
 
-pub field-value : {f : Result (ℕ × ℕ) Refusal} {r : ℕ × ℕ} → f ≡ Ok r → got_field f ≡ got r.0 r.1
+-- the results of src/lib.rt, as laws name them
+abbrev pub Read : Type 0
+Read = Result (ℕ × ℕ) Refusal
+
+abbrev pub Next : Type 0
+Next = Result ℕ Refusal
+
+pub field-value : {f : Read} {r : ℕ × ℕ} → f ≡ Ok r → got_field f ≡ got r.0 r.1
 unfolding got_field
 field-value e = ap got_field e
 
-pub field-refused : {f : Result (ℕ × ℕ) Refusal} {r : Refusal} → f ≡ Err r → got_field f ≡ refused (number_of r.0) r.1
+pub field-refused : {f : Read} {r : Refusal} → f ≡ Err r → got_field f ≡ refused (number_of r.0) r.1
 unfolding got_field
 field-refused e = ap got_field e
 
-pub next-at : {A : Type 0} (a : A) {x : Result ℕ Refusal} {p : ℕ} → x ≡ Ok p → got_as a x ≡ got a p
+pub next-at : {A : Type 0} (a : A) {x : Next} {p : ℕ} → x ≡ Ok p → got_as a x ≡ got a p
 unfolding got_as
 next-at a e = ap (got_as a) e
 
-pub next-refused : {A : Type 0} (a : A) {x : Result ℕ Refusal} {r : Refusal} → x ≡ Err r → got_as a x ≡ refused (number_of r.0) r.1
+pub next-refused : {A : Type 0} (a : A) {x : Next} {r : Refusal} → x ≡ Err r → got_as a x ≡ refused (number_of r.0) r.1
 unfolding got_as
 next-refused a e = ap (got_as a) e
 
-pub rows-value : (s : List ℕ) (version n at : ℕ) {f : Result (ℕ × ℕ) Refusal} {r : ℕ × ℕ} → f ≡ Ok r → got_rows s version n at f ≡ got (rows_from s version n (at + 1) r.0) r.1
+pub rows-value : (s : List ℕ) (version n at : ℕ) {f : Read} {r : ℕ × ℕ} → f ≡ Ok r → got_rows s version n at f ≡ got (rows_from s version n (at + 1) r.0) r.1
 unfolding got_rows
 rows-value s version n at e = ap (got_rows s version n at) e
 
-pub rows-refused : (s : List ℕ) (version n at : ℕ) {f : Result (ℕ × ℕ) Refusal} {r : Refusal} → f ≡ Err r → got_rows s version n at f ≡ refused (number_of r.0) r.1
+pub rows-refused : (s : List ℕ) (version n at : ℕ) {f : Read} {r : Refusal} → f ≡ Err r → got_rows s version n at f ≡ refused (number_of r.0) r.1
 unfolding got_rows
 rows-refused s version n at e = ap (got_rows s version n at) e

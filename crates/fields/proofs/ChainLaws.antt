@@ -2,26 +2,27 @@
 use mathlib.Core.Path.{◌≡◌, refl, sym, ap, ◌∙◌}
 use mathlib.Core.List.{List}
 use Prim.Native.Nat.{ℕ}
-use Rattle.std.specs.Prelude.{Result, Ok, Err}
+use Rattle.std.specs.Prelude.{Ok, Err}
 use Rattle.fields.specs.declared.Refusal.{Refusal}
 use Rattle.fields.specs.Causes.{number_of}
 use Rattle.formats.specs.Reading.{Got, got, refused, Reader, and_then, ◌>>=◌, give}
 use Rattle.fields.specs.Answers.{got_as}
+use Rattle.fields.proofs.AnswerLaws.{Next}
 use Rattle.formats.proofs.Gives.{bind-got}
 use Rattle.fields.proofs.Skipping.{bind-refused}
 
 -- the last reading, then its value put into a larger one
-pub last-got : {A B : Type 0} (r : Reader A) (f : A → B) (s : List ℕ) (p : ℕ) (a : A) (x : Result ℕ Refusal) → got_as a x ≡ r s p → got_as (f a) x ≡ (r >>= λ v. give (f v)) s p
+pub last-got : {A B : Type 0} (r : Reader A) (f : A → B) (s : List ℕ) (p : ℕ) (a : A) (x : Next) → got_as a x ≡ r s p → got_as (f a) x ≡ (r >>= λ v. give (f v)) s p
 unfolding got_as give
 last-got r f s p a (Ok q) e = sym (bind-got r (λ v. give (f v)) s p (sym e) refl)
 last-got r f s p a (Err w) e = sym (bind-refused r (λ v. give (f v)) s p (sym e))
 
 -- an answer that is known, as the reading
-pub told_at : {A : Type 0} (a : A) (g : Got A) {x : Result ℕ Refusal} {p : ℕ} → got_as a x ≡ g → x ≡ Ok p → g ≡ got a p
+pub told_at : {A : Type 0} (a : A) (g : Got A) {x : Next} {p : ℕ} → got_as a x ≡ g → x ≡ Ok p → g ≡ got a p
 unfolding got_as
 told_at a g e h = sym e ∙ ap (got_as a) h
 
-pub told-refused : {A : Type 0} (a : A) (g : Got A) {x : Result ℕ Refusal} {w : Refusal} → got_as a x ≡ g → x ≡ Err w → g ≡ refused (number_of w.0) w.1
+pub told-refused : {A : Type 0} (a : A) (g : Got A) {x : Next} {w : Refusal} → got_as a x ≡ g → x ≡ Err w → g ≡ refused (number_of w.0) w.1
 unfolding got_as
 told-refused a g e h = sym e ∙ ap (got_as a) h
 

@@ -5,7 +5,7 @@ use Prim.Native.Nat.{ℕ, ◌+◌, ◌*◌, ◌≤◌, ◌<◌}
 use native.Mathlib.Omega.{arith}
 use lib.ListN.{length, set, length-set}
 use Rattle.farkas.specs.Lists.{All}
-use Rattle.fields.specs.declared.Next.{Next}
+use Rattle.fields.proofs.AnswerLaws.{Next}
 use Rattle.formats.specs.Reading.{got, refused, Reader, ◌>>=◌, give, u8, within, below, many}
 use Rattle.formats.specs.Model.{Component, Unsafe, Model, read_component, read_unsafe, read_model_body}
 use Rattle.formats.specs.Joint.{count_up}

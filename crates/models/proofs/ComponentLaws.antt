@@ -9,7 +9,7 @@ use native.Mathlib.Omega.{arith}
 use lib.Dec.{eqb}
 use lib.ListN.{length, get_or, set, length-set}
 use borrow.Author.Tests.{eq-eqb, ne_eqb}
-use Rattle.fields.specs.declared.Next.{Next}
+use Rattle.fields.proofs.AnswerLaws.{Next}
 use Rattle.formats.specs.Reading.{got, refused, Reader, ◌>>=◌, give, field, u8, u16, passing, must, within, many}
 use Rattle.formats.specs.Model.{Mode, Switch, Component, read_mode, read_switch, read_component}
 use Rattle.formats.specs.Joint.{count_up}

@@ -5,9 +5,10 @@ use mathlib.Core.List.{List, map}
 use Prim.Native.Nat.{ℕ, ◌+◌, ◌≤◌, ◌<◌}
 use native.Mathlib.Omega.{arith}
 use lib.ListN.{length}
-use Rattle.fields.specs.declared.Next.{Next}
-use Rattle.fields.specs.declared.Next.TheVariants as next
-use Rattle.formats.specs.Reading.{Got, got, refused, Reader, many}
+use Rattle.fields.proofs.AnswerLaws.{Next, next-refused}
+use Rattle.std.specs.Prelude.{Ok, Err}
+use Rattle.fields.specs.declared.Refusal.{Refusal}
+use Rattle.formats.specs.Reading.{Got, got, Reader, many}
 use Rattle.formats.specs.Joint.{count_up}
 use Rattle.fields.specs.Answers.{got_as}
 use Rattle.fields.proofs.ChainLaws.{told_at, told-refused}
@@ -28,13 +29,13 @@ module _ {A : Type 0} (r : Reader A) (of : List ℕ → ℕ → A) (count : ℕ)
 
   -- a turn that leaves the index y and answers with x
   module _ (index y : List ℕ) (j place : ℕ) (filled : Filled index j place) (more : j < count) (x : Next) (told : got_as (of y j) x ≡ r s place) (low high : ℕ) (after : from ≤ low) (within : high ≤ until) (kept : Kept low high index y) where
-    pub fill_stops : {number cut : ℕ} → x ≡ next.Refused number cut → (refused number cut ≡ whole) × Kept from until before y
-    fill_stops {number} {cut} e = (
-      reading-stops r count s whole (of index) j place number cut filled.1.1.0 more (told-refused (of y j) (r s place) told e),
+    pub fill_stops : {w : Refusal} {answer : Next} → x ≡ Err w → answer ≡ Err w → (got_as (map (of y) (count_up 0 count)) answer ≡ whole) × Kept from until before y
+    fill_stops {w} e same = (
+      next-refused _ same ∙ reading-stops r count s whole (of index) j place _ _ filled.1.1.0 more (told-refused (of y j) (r s place) told e),
       kept_then filled.1.1.1 (kept-wider after within kept),
     )
 
-    pub fill-goes-on : {end : ℕ} → x ≡ next.At end → length y ≡ length index → ((i : ℕ) → i < j → of y i ≡ of index i) → Filled y (j + 1) end
+    pub fill-goes-on : {end : ℕ} → x ≡ Ok end → length y ≡ length index → ((i : ℕ) → i < j → of y i ≡ of index i) → Filled y (j + 1) end
     fill-goes-on {end} e sized same = (
       omega arith,
       (

@@ -5,7 +5,7 @@ use mathlib.Core.List.{List}
 use Prim.Native.Nat.{ℕ, ◌+◌, ◌*◌, ◌≤◌}
 use native.Mathlib.Omega.{arith}
 use lib.Dec.{eqb}
-use Rattle.fields.specs.declared.Next.{Next}
+use Rattle.fields.proofs.AnswerLaws.{Next}
 use Rattle.formats.specs.Reading.{got, refused, ◌>>=◌, give, u8, passing, must, within, below}
 use Rattle.formats.specs.Rows.{Condition, read_condition}
 use Rattle.formats.specs.Model.{has_event, read_mode, read_switch}

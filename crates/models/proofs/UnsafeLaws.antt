@@ -9,7 +9,7 @@ use native.Mathlib.Omega.{arith}
 use lib.Dec.{T, ltb, eqb, ltb→lt}
 use lib.ListN.{length, drop, length-map, drop_of_length-le}
 use borrow.Author.Tests.{eqb-true}
-use Rattle.fields.specs.declared.Next.{Next}
+use Rattle.fields.proofs.AnswerLaws.{Next}
 use Rattle.formats.specs.Reading.{Got, got, refused, Reader, and_then, ◌>>=◌, give, u8, must, each}
 use Rattle.formats.specs.Rows.{Condition, read_condition}
 use Rattle.formats.specs.Model.{Component, read_unsafe}

@@ -7,8 +7,8 @@ ghost use Rattle.fields.specs.Answers.{got_as};
 use crate::layout::{COMPONENTS_AT, CONDITIONS_AT, VARIABLES_AT};
 use crate::model::components_into;
 use crate::unsafes::{owners_into, unsafes_into};
+use fields::Next;
 use fields::fields::byte_within;
-use fields::{Field, Next};
 
 // How many variables, components and unsafe conditions there are, kept at the first three numbers of the index.
 fn totals_into(s: &[u8], at: usize, index: &mut [u16]) -> Next
@@ -16,21 +16,13 @@ fn totals_into(s: &[u8], at: usize, index: &mut [u16]) -> Next
     ensures result_after { got_as (totals_from index.new) result ≡ read_totals s.now at }
     ensures kept { Kept 0 first_owner index.old index.new }
 {
-    match byte_within(s, at, 1, 8) {
-        Field::Refused(number, place) => Next::Refused(number, place),
-        Field::Value(variables, second) => match byte_within(s, second, 1, 4) {
-            Field::Refused(number, place) => Next::Refused(number, place),
-            Field::Value(components, third) => match byte_within(s, third, 0, 16) {
-                Field::Refused(number, place) => Next::Refused(number, place),
-                Field::Value(conditions, next) => {
-                    index[VARIABLES_AT] = variables as u16;
-                    index[COMPONENTS_AT] = components as u16;
-                    index[CONDITIONS_AT] = conditions as u16;
-                    Next::At(next)
-                }
-            },
-        },
-    }
+    let (variables, second) = byte_within(s, at, 1, 8)?;
+    let (components, third) = byte_within(s, second, 1, 4)?;
+    let (conditions, next) = byte_within(s, third, 0, 16)?;
+    index[VARIABLES_AT] = variables as u16;
+    index[COMPONENTS_AT] = components as u16;
+    index[CONDITIONS_AT] = conditions as u16;
+    Ok(next)
 }
 
 // The components, then the unsafe conditions.
@@ -49,10 +41,8 @@ fn parts_into(
     ensures result_after { got_as (parts_from s.now version n c count index.new) result ≡ read_parts version n c count s.now at }
     ensures kept { Kept first_block first_total index.old index.new }
 {
-    match components_into(s, at, version, n, index, c) {
-        Next::Refused(number, place) => Next::Refused(number, place),
-        Next::At(next) => unsafes_into(s, next, version, n, c, count, index),
-    }
+    let next = components_into(s, at, version, n, index, c)?;
+    unsafes_into(s, next, version, n, c, count, index)
 }
 
 // The body from this place on; the index has the version and the paper number already. After a refusal the numbers of the index are free;
@@ -63,16 +53,10 @@ pub fn body_into(s: &[u8], at: usize, version: u32, index: &mut [u16]) -> Next
     ensures result_after { got_as (model_from s.now index.new) result ≡ read_model_body version (paper_in index.old) s.now at }
     ensures kept { Kept 0 first_total index.old index.new }
 {
-    match totals_into(s, at, index) {
-        Next::Refused(number, place) => Next::Refused(number, place),
-        Next::At(second) => {
-            let n = index[VARIABLES_AT] as usize;
-            let c = index[COMPONENTS_AT] as u32;
-            let count = index[CONDITIONS_AT] as usize;
-            match owners_into(s, second, n, c, index) {
-                Next::Refused(number, place) => Next::Refused(number, place),
-                Next::At(third) => parts_into(s, third, version, n, c as usize, count, index),
-            }
-        }
-    }
+    let second = totals_into(s, at, index)?;
+    let n = index[VARIABLES_AT] as usize;
+    let c = index[COMPONENTS_AT] as u32;
+    let count = index[CONDITIONS_AT] as usize;
+    let third = owners_into(s, second, n, c, index)?;
+    parts_into(s, third, version, n, c as usize, count, index)
 }

@@ -14,7 +14,7 @@ use crate::layout::{
 };
 use fields::conditions::condition;
 use fields::fields::{byte_below, byte_within, half};
-use fields::{Field, Next};
+use fields::{Cause, Next, Read, Refusal};
 
 // Keeps the place of a condition's first row, and how many rows it has.
 fn put_span(index: &mut [u16], i: usize, from: usize, count: u32)
@@ -40,13 +40,9 @@ pub fn condition_into(
     ensures result_after { got_as (span_rows s.now version n index.new i) result ≡ read_condition version most n s.now at }
     ensures kept { Kept i (i + 2) index.old index.new }
 {
-    match condition(s, at, version, most, n) {
-        Field::Refused(number, place) => Next::Refused(number, place),
-        Field::Value(count, next) => {
-            put_span(index, i, at + 1, count);
-            Next::At(next)
-        }
-    }
+    let (count, next) = condition(s, at, version, most, n)?;
+    put_span(index, i, at + 1, count);
+    Ok(next)
 }
 
 // A mode's three conditions, initial with at most so many rows, invariant and flow, kept at six numbers of the index.
@@ -64,13 +60,9 @@ fn conditions_into(
     ensures result_after { got_as (three_from s.now version n index.new i) result ≡ read_three version most n s.now at }
     ensures kept { Kept i (i + 6) index.old index.new }
 {
-    match condition_into(s, at, most, version, n, index, i) {
-        Next::Refused(number, place) => Next::Refused(number, place),
-        Next::At(second) => match condition_into(s, second, 8, version, n, index, i + SECOND_SPAN) {
-            Next::Refused(number, place) => Next::Refused(number, place),
-            Next::At(third) => condition_into(s, third, 8, version, n, index, i + THIRD_SPAN),
-        },
-    }
+    let second = condition_into(s, at, most, version, n, index, i)?;
+    let third = condition_into(s, second, 8, version, n, index, i + SECOND_SPAN)?;
+    condition_into(s, third, 8, version, n, index, i + THIRD_SPAN)
 }
 
 // How many initial rows a mode may have: none where start is 0.
@@ -90,21 +82,17 @@ fn mode_into(s: &[u8], at: usize, version: u32, n: usize, index: &mut [u16], i: 
     ensures result_after { got_as (mode_from s.now version n index.new i) result ≡ read_mode version n s.now at }
     ensures kept { Kept i (i + 7) index.old index.new }
 {
-    match byte_within(s, at, 0, 1) {
-        Field::Refused(number, place) => Next::Refused(number, place),
-        Field::Value(start, next) => {
-            index[i] = start as u16;
-            conditions_into(
-                s,
-                next,
-                most_initial(start),
-                version,
-                n,
-                index,
-                i + INITIAL_AT,
-            )
-        }
-    }
+    let (start, next) = byte_within(s, at, 0, 1)?;
+    index[i] = start as u16;
+    conditions_into(
+        s,
+        next,
+        most_initial(start),
+        version,
+        n,
+        index,
+        i + INITIAL_AT,
+    )
 }
 
 // So many modes of the component whose block begins here.
@@ -123,22 +111,17 @@ fn modes_into(
     ensures kept { Kept (block + first_mode) (block + first_switch) index.old index.new }
 {
     let mut place = at;
-    let mut j: usize = 0;
-    while j < count {
-        match mode_into(
+    for j in 0..count {
+        place = mode_into(
             s,
             place,
             version,
             n,
             index,
             block + FIRST_MODE + MODE_LENGTH * j,
-        ) {
-            Next::Refused(number, cut) => return Next::Refused(number, cut),
-            Next::At(next) => place = next,
-        }
-        j += 1;
+        )?;
     }
-    Next::At(place)
+    Ok(place)
 }
 
 // Whether an alphabet has an event.
@@ -150,21 +133,17 @@ pub fn has_event(alphabet: u32, e: u32) -> bool
 }
 
 // A label: 0, or an event of the alphabet, else refused as 6.
-fn label(s: &[u8], at: usize, alphabet: u32) -> Field
+fn label(s: &[u8], at: usize, alphabet: u32) -> Read<u32>
     ensures { got_field result ≡ read_label alphabet s.now at }
 {
-    match byte_within(s, at, 0, 15) {
-        Field::Refused(number, place) => Field::Refused(number, place),
-        Field::Value(value, next) => {
-            if value == 0 {
-                return Field::Value(value, next);
-            }
-            if has_event(alphabet, value) {
-                return Field::Value(value, next);
-            }
-            Field::Refused(6, at)
-        }
+    let (value, next) = byte_within(s, at, 0, 15)?;
+    if value == 0 {
+        return Ok((value, next));
     }
+    if has_event(alphabet, value) {
+        return Ok((value, next));
+    }
+    Err(Refusal(Cause::Label, at))
 }
 
 // A switch's label and jump condition, kept at three numbers of the index.
@@ -182,13 +161,9 @@ fn labelled_into(
     ensures result_after { got_as (labelled_from s.now version n index.new i) result ≡ read_labelled version n alphabet s.now at }
     ensures kept { Kept i (i + 3) index.old index.new }
 {
-    match label(s, at, alphabet) {
-        Field::Refused(number, place) => Next::Refused(number, place),
-        Field::Value(value, next) => {
-            index[i] = value as u16;
-            condition_into(s, next, 8, version, 2 * n, index, i + LABEL_LENGTH)
-        }
-    }
+    let (value, next) = label(s, at, alphabet)?;
+    index[i] = value as u16;
+    condition_into(s, next, 8, version, 2 * n, index, i + LABEL_LENGTH)
 }
 
 // A switch, kept at five numbers of the index.
@@ -207,17 +182,11 @@ fn switch_into(
     ensures result_after { got_as (switch_from s.now version n index.new i) result ≡ read_switch version n alphabet modes s.now at }
     ensures kept { Kept i (i + 5) index.old index.new }
 {
-    match byte_below(s, at, modes) {
-        Field::Refused(number, place) => Next::Refused(number, place),
-        Field::Value(source, second) => match byte_below(s, second, modes) {
-            Field::Refused(number, place) => Next::Refused(number, place),
-            Field::Value(target, third) => {
-                index[i] = source as u16;
-                index[i + TARGET_AT] = target as u16;
-                labelled_into(s, third, version, n, alphabet, index, i + LABEL_AT)
-            }
-        },
-    }
+    let (source, second) = byte_below(s, at, modes)?;
+    let (target, third) = byte_below(s, second, modes)?;
+    index[i] = source as u16;
+    index[i + TARGET_AT] = target as u16;
+    labelled_into(s, third, version, n, alphabet, index, i + LABEL_AT)
 }
 
 // What a switch of a component may name: its events, and so many modes.
@@ -244,9 +213,8 @@ fn switches_into(
     ensures kept { Kept (block + first_switch) (block + block_length) index.old index.new }
 {
     let mut place = at;
-    let mut j: usize = 0;
-    while j < count {
-        match switch_into(
+    for j in 0..count {
+        place = switch_into(
             s,
             place,
             version,
@@ -255,28 +223,20 @@ fn switches_into(
             may.modes,
             index,
             block + FIRST_SWITCH + SWITCH_LENGTH * j,
-        ) {
-            Next::Refused(number, cut) => return Next::Refused(number, cut),
-            Next::At(next) => place = next,
-        }
-        j += 1;
+        )?;
     }
-    Next::At(place)
+    Ok(place)
 }
 
 // An alphabet: two bytes, bit 0 clear.
-fn alphabet(s: &[u8], at: usize) -> Field
+fn alphabet(s: &[u8], at: usize) -> Read<u32>
     ensures { got_field result ≡ read_alphabet s.now at }
 {
-    match half(s, at) {
-        Field::Refused(number, place) => Field::Refused(number, place),
-        Field::Value(value, next) => {
-            if value % 2 == 0 {
-                return Field::Value(value, next);
-            }
-            Field::Refused(5, at)
-        }
+    let (value, next) = half(s, at)?;
+    if value % 2 == 0 {
+        return Ok((value, next));
     }
+    Err(Refusal(Cause::Range, at))
 }
 
 // A component's alphabet, mode count and switch count, kept at three numbers of the index.
@@ -285,21 +245,13 @@ fn counts_into(s: &[u8], at: usize, index: &mut [u16], block: usize) -> Next
     ensures result_after { got_as (counts_from index.new block) result ≡ read_counts s.now at }
     ensures kept { Kept block (block + first_mode) index.old index.new }
 {
-    match alphabet(s, at) {
-        Field::Refused(number, place) => Next::Refused(number, place),
-        Field::Value(events, second) => match byte_within(s, second, 1, 8) {
-            Field::Refused(number, place) => Next::Refused(number, place),
-            Field::Value(modes, third) => match byte_within(s, third, 0, 32) {
-                Field::Refused(number, place) => Next::Refused(number, place),
-                Field::Value(switches, next) => {
-                    index[block] = (events % 65536) as u16;
-                    index[block + MODE_COUNT_AT] = modes as u16;
-                    index[block + SWITCH_COUNT_AT] = switches as u16;
-                    Next::At(next)
-                }
-            },
-        },
-    }
+    let (events, second) = alphabet(s, at)?;
+    let (modes, third) = byte_within(s, second, 1, 8)?;
+    let (switches, next) = byte_within(s, third, 0, 32)?;
+    index[block] = (events % 65536) as u16;
+    index[block + MODE_COUNT_AT] = modes as u16;
+    index[block + SWITCH_COUNT_AT] = switches as u16;
+    Ok(next)
 }
 
 // A component, kept at the block that begins here.
@@ -316,30 +268,24 @@ fn component_into(
     ensures result_after { got_as (component_from s.now version n index.new block) result ≡ read_component version n s.now at }
     ensures kept { Kept block (block + block_length) index.old index.new }
 {
-    match counts_into(s, at, index, block) {
-        Next::Refused(number, place) => Next::Refused(number, place),
-        Next::At(second) => {
-            let events = index[block] as u32;
-            let modes = index[block + MODE_COUNT_AT] as u32;
-            let switches = index[block + SWITCH_COUNT_AT] as usize;
-            match modes_into(s, second, version, n, index, block, modes as usize) {
-                Next::Refused(number, place) => Next::Refused(number, place),
-                Next::At(third) => switches_into(
-                    s,
-                    third,
-                    version,
-                    n,
-                    Naming {
-                        alphabet: events,
-                        modes,
-                    },
-                    index,
-                    block,
-                    switches,
-                ),
-            }
-        }
-    }
+    let second = counts_into(s, at, index, block)?;
+    let events = index[block] as u32;
+    let modes = index[block + MODE_COUNT_AT] as u32;
+    let switches = index[block + SWITCH_COUNT_AT] as usize;
+    let third = modes_into(s, second, version, n, index, block, modes as usize)?;
+    switches_into(
+        s,
+        third,
+        version,
+        n,
+        Naming {
+            alphabet: events,
+            modes,
+        },
+        index,
+        block,
+        switches,
+    )
 }
 
 // So many components.
@@ -357,13 +303,8 @@ pub fn components_into(
     ensures kept { Kept first_block first_unsafe index.old index.new }
 {
     let mut place = at;
-    let mut k: usize = 0;
-    while k < count {
-        match component_into(s, place, version, n, index, FIRST_BLOCK + BLOCK_LENGTH * k) {
-            Next::Refused(number, cut) => return Next::Refused(number, cut),
-            Next::At(next) => place = next,
-        }
-        k += 1;
+    for k in 0..count {
+        place = component_into(s, place, version, n, index, FIRST_BLOCK + BLOCK_LENGTH * k)?;
     }
-    Next::At(place)
+    Ok(place)
 }

@@ -11,8 +11,8 @@ use crate::layout::{
     BLOCK_LENGTH, FIRST_MODE_COUNT, FIRST_OWNER, FIRST_UNSAFE, UNSAFE_LENGTH, UNSAFE_ROWS_AT,
 };
 use crate::model::condition_into;
+use fields::Next;
 use fields::fields::{byte_below, byte_numbered};
-use fields::{Field, Next};
 
 // So many owners, each a byte below the count of components.
 pub fn owners_into(s: &[u8], at: usize, n: usize, c: u32, index: &mut [u16]) -> Next
@@ -22,18 +22,12 @@ pub fn owners_into(s: &[u8], at: usize, n: usize, c: u32, index: &mut [u16]) -> 
     ensures kept { Kept 3 11 index.old index.new }
 {
     let mut place = at;
-    let mut v: usize = 0;
-    while v < n {
-        match byte_below(s, place, c) {
-            Field::Refused(number, cut) => return Next::Refused(number, cut),
-            Field::Value(owner, next) => {
-                index[FIRST_OWNER + v] = owner as u16;
-                place = next;
-            }
-        }
-        v += 1;
+    for v in 0..n {
+        let (owner, next) = byte_below(s, place, c)?;
+        index[FIRST_OWNER + v] = owner as u16;
+        place = next;
     }
-    Next::At(place)
+    Ok(place)
 }
 
 // A byte for each component, one of its modes or 255, kept from a number of the index on.
@@ -45,19 +39,13 @@ fn unsafe_modes_into(s: &[u8], at: usize, c: usize, index: &mut [u16], i: usize)
     ensures kept { Kept i (i + 4) index.old index.new }
 {
     let mut place = at;
-    let mut k: usize = 0;
-    while k < c {
+    for k in 0..c {
         let modes = index[FIRST_MODE_COUNT + BLOCK_LENGTH * k] as u32;
-        match byte_numbered(s, place, modes) {
-            Field::Refused(number, cut) => return Next::Refused(number, cut),
-            Field::Value(mode, next) => {
-                index[i + k] = mode as u16;
-                place = next;
-            }
-        }
-        k += 1;
+        let (mode, next) = byte_numbered(s, place, modes)?;
+        index[i + k] = mode as u16;
+        place = next;
     }
-    Next::At(place)
+    Ok(place)
 }
 
 // An unsafe condition, kept at six numbers of the index: its modes, and its rows at the last two.
@@ -76,10 +64,8 @@ fn unsafe_into(
     ensures result_after { got_as (unsafe_from s.now version n c index.new i) result ≡ read_unsafe version n (components_from s.now index.old) s.now at }
     ensures kept { Kept i (i + 6) index.old index.new }
 {
-    match unsafe_modes_into(s, at, c, index, i) {
-        Next::Refused(number, place) => Next::Refused(number, place),
-        Next::At(next) => condition_into(s, next, 8, version, n, index, i + UNSAFE_ROWS_AT),
-    }
+    let next = unsafe_modes_into(s, at, c, index, i)?;
+    condition_into(s, next, 8, version, n, index, i + UNSAFE_ROWS_AT)
 }
 
 // So many unsafe conditions. The components that they name stay as they were.
@@ -99,9 +85,8 @@ pub fn unsafes_into(
     ensures kept { Kept first_unsafe first_total index.old index.new }
 {
     let mut place = at;
-    let mut u: usize = 0;
-    while u < count {
-        match unsafe_into(
+    for u in 0..count {
+        place = unsafe_into(
             s,
             place,
             version,
@@ -109,11 +94,7 @@ pub fn unsafes_into(
             c,
             index,
             FIRST_UNSAFE + UNSAFE_LENGTH * u,
-        ) {
-            Next::Refused(number, cut) => return Next::Refused(number, cut),
-            Next::At(next) => place = next,
-        }
-        u += 1;
+        )?;
     }
-    Next::At(place)
+    Ok(place)
 }

@@ -1,5 +1,5 @@
 -- Counts, owners, components and unsafe conditions in a chain; each keeps the numbers of those before it. Assumes nothing.
-use mathlib.Core.Path.{◌≡◌, refl, sym, ap, ap₂, ◌∙◌}
+use Rattle.std.proofs.Common.{rules, Err, ◌≡◌, refl, sym, ap, ap₂, ◌∙◌}
 use native.Mathlib.Omega.{arith}
 use Rattle.formats.specs.Reading.{got, u8, many, below}
 use Rattle.models.specs.Index.{entry, owner_place, paper_in, Kept, read_totals, totals_from, parts_from}
@@ -8,6 +8,8 @@ use Rattle.fields.proofs.ChainLaws.{told_at, told-refused}
 use Rattle.formats.specs.Joint.{count_up}
 use mathlib.Core.List.{List, map}
 use Prim.Native.Nat.{ℕ, ◌+◌, ◌*◌}
+use Rattle.fields.proofs.AnswerLaws.{next-refused}
+use Rattle.fields.specs.Causes.{number_of}
 use Rattle.models.proofs.BodyLaws.{totals-small, body-first, body-second, body-read, model-whole}
 use Rattle.models.proofs.IndexLaws.{kept_then, kept-wider}
 use Rattle.models.proofs.body.body_into.Goals as goal
@@ -19,20 +21,11 @@ paper-same w = ap₂ (λ (a b : ℕ). a * 65536 + b) (sym (w.kept 12 (λ p q. om
 pub bounds-index-0 : goal.bounds-index-0
 bounds-index-0 c = omega (arith, c.requires.sized.long, c.totals_into.auto.index)
 
-pub overflow_cast-n : goal.overflow_cast-n
-overflow_cast-n c = omega (arith, c.slice_known-in-At-1.given 0)
-
 pub bounds-index-1 : goal.bounds-index-1
 bounds-index-1 c = omega (arith, c.requires.sized.long, c.totals_into.auto.index)
 
-pub overflow_cast-c : goal.overflow_cast-c
-overflow_cast-c c = omega (arith, c.slice_known-in-At-2-1.given 1)
-
 pub bounds-index-2 : goal.bounds-index-2
 bounds-index-2 c = omega (arith, c.requires.sized.long, c.totals_into.auto.index)
-
-pub overflow_cast-count : goal.overflow_cast-count
-overflow_cast-count c = omega (arith, c.slice_known-in-At-3-1.given 2)
 
 pub owners_into-requires : goal.owners_into-requires
 unfolding entry totals_from
@@ -41,19 +34,19 @@ owners_into-requires c =
     let s = a.s.now in
     let x = c.totals_into.new.index in
     let t = totals_from x in
-    let second = c.in-At.second in
-    let one : read_totals s a.at ≡ got t second = told_at t (read_totals s a.at) c.totals_into.ensures.result_after c.in-At.is in
+    let second = c.in_ok-second.second in
+    let one : read_totals s a.at ≡ got t second = told_at t (read_totals s a.at) c.totals_into.ensures.result_after c.in_ok-second.was in
     let small = totals-small s a.at t second one in record { sized = record { short = c.requires.sized.short; long = omega (arith, c.requires.sized.long, c.totals_into.auto.index) }; n_bound = (small.most, small.few) }
 
-pub overflow_cast-c-in-At-owners_into : goal.overflow_cast-c-in-At-owners_into
+pub overflow_cast-c : goal.overflow_cast-c
 unfolding entry totals_from
-overflow_cast-c-in-At-owners_into c =
+overflow_cast-c c =
     let a = c.args in
     let s = a.s.now in
     let x = c.totals_into.new.index in
     let t = totals_from x in
-    let second = c.in-At.second in
-    let one : read_totals s a.at ≡ got t second = told_at t (read_totals s a.at) c.totals_into.ensures.result_after c.in-At.is in
+    let second = c.in_ok-second.second in
+    let one : read_totals s a.at ≡ got t second = told_at t (read_totals s a.at) c.totals_into.ensures.result_after c.in_ok-second.was in
     let small = totals-small s a.at t second one in
     omega (arith, small.few)
 
@@ -64,50 +57,54 @@ parts_into-requires c =
     let s = a.s.now in
     let x = c.totals_into.new.index in
     let t = totals_from x in
-    let second = c.in-At.second in
-    let one : read_totals s a.at ≡ got t second = told_at t (read_totals s a.at) c.totals_into.ensures.result_after c.in-At.is in
+    let second = c.in_ok-second.second in
+    let one : read_totals s a.at ≡ got t second = told_at t (read_totals s a.at) c.totals_into.ensures.result_after c.in_ok-second.was in
     let small = totals-small s a.at t second one in
     let y = c.owners_into.new.index in
     let k₁ = c.owners_into.ensures.kept in
     let os = map (λ v. entry y (owner_place v)) (count_up 0 (entry x 0)) in record { sized = record { short = c.requires.sized.short; long = omega (arith, c.requires.sized.long, c.totals_into.auto.index, c.owners_into.auto.index) }; n_bound = (small.most, (small.few, small.conditions)); n_value = (sym (k₁.kept 0 (λ p q. omega arith)), (sym (k₁.kept 1 (λ p q. omega arith)), c.requires.version_value ∙ sym (c.totals_into.ensures.kept.kept 11 (λ p q. omega arith)) ∙ sym (k₁.kept 11 (λ p q. omega arith)))) }
 
-pub returns-in-Refused : goal.returns-in-Refused
+pub returns-in_err-second : goal.returns-in_err-second
 unfolding got_as
-returns-in-Refused c =
+returns-in_err-second c =
     let a = c.args in
     let s = a.s.now in
-    let x = c.totals_into.new.index in record { result_after = sym (body-first a.version (paper_in a.index.now) s a.at c.in-Refused.number c.in-Refused.place (told-refused (totals_from x) (read_totals s a.at) c.totals_into.ensures.result_after c.in-Refused.is)); kept = kept-wider (omega arith) (omega arith) c.totals_into.ensures.kept }
+    let x = c.totals_into.new.index in
+    let same : c.from_residual.result ≡ Err c.in_err-second.field-0.0 = search rules in
+    record { result_after = next-refused _ same ∙ sym (body-first a.version (paper_in a.index.now) s a.at (number_of c.in_err-second.field-0.0.0) c.in_err-second.field-0.0.1 (told-refused (totals_from x) (read_totals s a.at) c.totals_into.ensures.result_after c.in_err-second.was)); kept = kept-wider (omega arith) (omega arith) c.totals_into.ensures.kept }
 
-pub returns-in-Refused-owners_into : goal.returns-in-Refused-owners_into
+pub returns-in_err-third : goal.returns-in_err-third
 unfolding got_as entry totals_from
-returns-in-Refused-owners_into c =
+returns-in_err-third c =
     let a = c.args in
     let s = a.s.now in
     let x = c.totals_into.new.index in
     let t = totals_from x in
-    let second = c.in-At.second in
-    let one : read_totals s a.at ≡ got t second = told_at t (read_totals s a.at) c.totals_into.ensures.result_after c.in-At.is in
+    let second = c.in_ok-second.second in
+    let one : read_totals s a.at ≡ got t second = told_at t (read_totals s a.at) c.totals_into.ensures.result_after c.in_ok-second.was in
     let small = totals-small s a.at t second one in
     let y = c.owners_into.new.index in
     let k₁ = c.owners_into.ensures.kept in
-    let os = map (λ v. entry y (owner_place v)) (count_up 0 (entry x 0)) in record { result_after = sym (body-second a.version (paper_in a.index.now) s a.at t second one c.in-Refused-owners_into.number c.in-Refused-owners_into.place (told-refused os (many (entry x 0) (below (entry x 1) u8) s second) c.owners_into.ensures.result_after c.in-Refused-owners_into.is)); kept = kept_then (kept-wider (omega arith) (omega arith) c.totals_into.ensures.kept) (kept-wider (omega arith) (omega arith) (k₁)) }
+    let os = map (λ v. entry y (owner_place v)) (count_up 0 (entry x 0)) in
+    let same : c.from_residual-in_err-third.result ≡ Err c.in_err-third.field-0.0 = search rules in
+    record { result_after = next-refused _ same ∙ sym (body-second a.version (paper_in a.index.now) s a.at t second one (number_of c.in_err-third.field-0.0.0) c.in_err-third.field-0.0.1 (told-refused os (many (entry x 0) (below (entry x 1) u8) s second) c.owners_into.ensures.result_after c.in_err-third.was)); kept = kept_then (kept-wider (omega arith) (omega arith) c.totals_into.ensures.kept) (kept-wider (omega arith) (omega arith) (k₁)) }
 
-pub returns-in-At-owners_into : goal.returns-in-At-owners_into
+pub returns : goal.returns
 unfolding entry totals_from
-returns-in-At-owners_into c =
+returns c =
     let a = c.args in
     let s = a.s.now in
     let x = c.totals_into.new.index in
     let t = totals_from x in
-    let second = c.in-At.second in
-    let one : read_totals s a.at ≡ got t second = told_at t (read_totals s a.at) c.totals_into.ensures.result_after c.in-At.is in
+    let second = c.in_ok-second.second in
+    let one : read_totals s a.at ≡ got t second = told_at t (read_totals s a.at) c.totals_into.ensures.result_after c.in_ok-second.was in
     let small = totals-small s a.at t second one in
     let y = c.owners_into.new.index in
     let k₁ = c.owners_into.ensures.kept in
     let os = map (λ v. entry y (owner_place v)) (count_up 0 (entry x 0)) in
     let z = c.parts_into.new.index in
-    let third = c.in-At-owners_into.third in
-    let two = told_at os (many (entry x 0) (below (entry x 1) u8) s second) c.owners_into.ensures.result_after c.in-At-owners_into.is in
+    let third = c.in_ok-third.third in
+    let two = told_at os (many (entry x 0) (below (entry x 1) u8) s second) c.owners_into.ensures.result_after c.in_ok-third.was in
     let p = parts_from s a.version (entry x 0) (entry x 1) (entry x 2) z in
     let first = c.totals_into.ensures.kept in
     let e = body-read a.version (paper_in a.index.now) s a.at t second one os third two p c.parts_into.result c.parts_into.ensures.result_after in record { result_after = ap (λ w. got_as w c.parts_into.result) (model-whole a.version (paper_in a.index.now) s x y z os (c.requires.version_value ∙ sym (c.totals_into.ensures.kept.kept 11 (λ p q. omega arith))) (paper-same first) refl k₁ c.parts_into.ensures.kept small.most) ∙ e; kept = kept_then (kept-wider (omega arith) (omega arith) c.totals_into.ensures.kept) (kept_then (kept-wider (omega arith) (omega arith) (k₁)) (kept-wider (omega arith) (omega arith) c.parts_into.ensures.kept)) }

@@ -1,11 +1,13 @@
 -- Components, then unsafe conditions over them. Assumes nothing.
-use mathlib.Core.Path.{◌≡◌, sym, ap, ◌∙◌}
+use Rattle.std.proofs.Common.{rules, Err, ◌≡◌, sym, ap, ◌∙◌}
 use Prim.Native.Nat.{ℕ}
 use native.Mathlib.Omega.{arith}
 use Rattle.formats.specs.Reading.{got, many}
 use Rattle.models.specs.Index.{entry, component_from, component_place, unsafe_place, unsafe_from, components_from, parts_from}
 use Rattle.fields.specs.Answers.{got_as}
 use Rattle.fields.proofs.ChainLaws.{told_at, told-refused}
+use Rattle.fields.proofs.AnswerLaws.{next-refused}
+use Rattle.fields.specs.Causes.{number_of}
 use Rattle.models.proofs.IndexLaws.{kept_then, kept-wider}
 use Rattle.formats.specs.Model.{read_component, read_unsafe}
 use Rattle.formats.specs.Joint.{count_up}
@@ -30,13 +32,13 @@ unsafes_into-requires c =
     let e₁ : m ≡ entry y 1 = c.requires.n_value.1.0 ∙ sym (k₁.kept 1 (λ p q. omega arith)) in
     let e₂ : version ≡ entry y 11 = c.requires.n_value.1.1 ∙ sym (k₁.kept 11 (λ p q. omega arith)) in
     let cs = map (λ k. component_from s version n y (component_place k)) (count_up 0 m) in
-    let next = c.in-At.next in
-    let one : many m (read_component version n) s a.at ≡ got cs next = told_at cs (many m (read_component version n) s a.at) c.components_into.ensures.result_after c.in-At.is in
+    let next = c.in_ok-next.next in
+    let one : many m (read_component version n) s a.at ≡ got cs next = told_at cs (many m (read_component version n) s a.at) c.components_into.ensures.result_after c.in_ok-next.was in
     let small = blocks-read s version n m a.at y next one in record { sized = record { short = c.requires.sized.short; long = omega (arith, c.requires.sized.long, c.components_into.auto.index) }; n_bound = (c.requires.n_bound.0, (e₁, (c.requires.n_bound.1.0, c.requires.n_bound.1.1))); by_index = small }
 
-pub returns-in-Refused : goal.returns-in-Refused
+pub returns-in_err-next : goal.returns-in_err-next
 unfolding got_as
-returns-in-Refused c =
+returns-in_err-next c =
     let a = c.args in
     let s = a.s.now in
     let n = a.n in
@@ -47,11 +49,13 @@ returns-in-Refused c =
     let k₁ = c.components_into.ensures.kept in
     let e₀ : n ≡ entry y 0 = c.requires.n_value.0 ∙ sym (k₁.kept 0 (λ p q. omega arith)) in
     let e₁ : m ≡ entry y 1 = c.requires.n_value.1.0 ∙ sym (k₁.kept 1 (λ p q. omega arith)) in
-    let e₂ : version ≡ entry y 11 = c.requires.n_value.1.1 ∙ sym (k₁.kept 11 (λ p q. omega arith)) in record { result_after = sym (parts_first version n m a.count s a.at c.in-Refused.number c.in-Refused.place (told-refused (map (λ k. component_from s version n y (component_place k)) (count_up 0 m)) (many m (read_component version n) s a.at) c.components_into.ensures.result_after c.in-Refused.is)); kept = kept-wider (omega arith) (omega arith) k₁ }
+    let e₂ : version ≡ entry y 11 = c.requires.n_value.1.1 ∙ sym (k₁.kept 11 (λ p q. omega arith)) in
+    let same : c.from_residual.result ≡ Err c.in_err-next.field-0.0 = search rules in
+    record { result_after = next-refused _ same ∙ sym (parts_first version n m a.count s a.at (number_of c.in_err-next.field-0.0.0) c.in_err-next.field-0.0.1 (told-refused (map (λ k. component_from s version n y (component_place k)) (count_up 0 m)) (many m (read_component version n) s a.at) c.components_into.ensures.result_after c.in_err-next.was)); kept = kept-wider (omega arith) (omega arith) k₁ }
 
-pub returns-in-At : goal.returns-in-At
+pub returns : goal.returns
 unfolding parts_from components_from
-returns-in-At c =
+returns c =
     let a = c.args in
     let s = a.s.now in
     let n = a.n in
@@ -64,8 +68,8 @@ returns-in-At c =
     let e₁ : m ≡ entry y 1 = c.requires.n_value.1.0 ∙ sym (k₁.kept 1 (λ p q. omega arith)) in
     let e₂ : version ≡ entry y 11 = c.requires.n_value.1.1 ∙ sym (k₁.kept 11 (λ p q. omega arith)) in
     let cs = map (λ k. component_from s version n y (component_place k)) (count_up 0 m) in
-    let next = c.in-At.next in
-    let one : many m (read_component version n) s a.at ≡ got cs next = told_at cs (many m (read_component version n) s a.at) c.components_into.ensures.result_after c.in-At.is in
+    let next = c.in_ok-next.next in
+    let one : many m (read_component version n) s a.at ≡ got cs next = told_at cs (many m (read_component version n) s a.at) c.components_into.ensures.result_after c.in_ok-next.was in
     let small = blocks-read s version n m a.at y next one in
     let z = c.unsafes_into.new.index in
     let k₂ = c.unsafes_into.ensures.kept in

@@ -1,11 +1,13 @@
 -- The start byte, then the three conditions. Assumes nothing.
-use mathlib.Core.Path.{◌≡◌, sym, ap, ◌∙◌}
+use Rattle.std.proofs.Common.{rules, Err, ◌≡◌, sym, ap, ◌∙◌}
 use Prim.Native.Nat.{ℕ, ◌+◌}
 use native.Mathlib.Omega.{arith}
 use lib.ListN.{set, length-set}
 use Rattle.formats.specs.Reading.{got, u8, within}
 use Rattle.models.specs.Index.{entry, span_rows, three_from, read_three, mode_from}
 use Rattle.fields.specs.Answers.{got_as}
+use Rattle.fields.proofs.AnswerLaws.{next-refused}
+use Rattle.fields.specs.Causes.{number_of}
 use Rattle.models.proofs.ModelLaws.{mode-refused, mode-read, initial-small, three-on, five-on}
 use Rattle.models.proofs.IndexLaws.{kept_then, kept-wider, entry-same, kept_at, kept_set, kept-none}
 use Rattle.fields.proofs.AnswerLaws.{field-value, field-refused}
@@ -17,9 +19,9 @@ pub overflow_cast-index : goal.overflow_cast-index
 overflow_cast-index c =
     let a = c.args in
     let s = a.s.now in
-    let start = c.in-Value.start in
-    let next = c.in-Value.next in
-    let one : within 0 1 u8 s a.at ≡ got start next = sym c.byte_within.ensures ∙ field-value c.in-Value.is in
+    let start = c.in_ok-start.start in
+    let next = c.in_ok-start.next in
+    let one : within 0 1 u8 s a.at ≡ got start next = sym c.byte_within.ensures ∙ field-value c.in_ok-start.was in
     let w = range-read u8 0 1 s a.at start next one in
     omega arith
 
@@ -33,26 +35,28 @@ pub conditions_into-requires : goal.conditions_into-requires
 conditions_into-requires c =
     let a = c.args in
     let s = a.s.now in
-    let start = c.in-Value.start in
-    let next = c.in-Value.next in
-    let one : within 0 1 u8 s a.at ≡ got start next = sym c.byte_within.ensures ∙ field-value c.in-Value.is in
+    let start = c.in_ok-start.start in
+    let next = c.in_ok-start.next in
+    let one : within 0 1 u8 s a.at ≡ got start next = sym c.byte_within.ensures ∙ field-value c.in_ok-start.was in
     let w = range-read u8 0 1 s a.at start next one in record { sized = record { short = c.requires.sized.short; long = simp length-set (omega (arith, c.requires.sized.long)) }; most_bound = (initial-small (eqb start 0) c.most_initial.result c.most_initial.ensures, omega (arith, c.requires.n_bound)) }
 
-pub returns-in-Refused : goal.returns-in-Refused
+pub returns-in_err-start : goal.returns-in_err-start
 unfolding got_as
-returns-in-Refused c = let a = c.args in record { result_after = sym (mode-refused a.version a.n a.s.now a.at c.in-Refused.number c.in-Refused.place (sym c.byte_within.ensures ∙ field-refused c.in-Refused.is)); kept = kept-none a.i (a.i + 7) a.index.now }
+returns-in_err-start c = let a = c.args in
+    let same : c.from_residual.result ≡ Err c.in_err-start.field-0.0 = search rules in
+    record { result_after = next-refused _ same ∙ (sym (mode-refused a.version a.n a.s.now a.at (number_of c.in_err-start.field-0.0.0) c.in_err-start.field-0.0.1 (sym c.byte_within.ensures ∙ field-refused c.in_err-start.was))); kept = kept-none a.i (a.i + 7) a.index.now }
 
 pub shape_of-index : goal.shape_of-index
-shape_of-index c = c.conditions_into.auto.index ∙ length-set c.args.index.now c.args.i c.in-Value.start
+shape_of-index c = c.conditions_into.auto.index ∙ length-set c.args.index.now c.args.i c.in_ok-start.start
 
-pub returns-in-Value : goal.returns-in-Value
+pub returns : goal.returns
 unfolding mode_from three_from
-returns-in-Value c =
+returns c =
     let a = c.args in
     let s = a.s.now in
-    let start = c.in-Value.start in
-    let next = c.in-Value.next in
-    let one : within 0 1 u8 s a.at ≡ got start next = sym c.byte_within.ensures ∙ field-value c.in-Value.is in
+    let start = c.in_ok-start.start in
+    let next = c.in_ok-start.next in
+    let one : within 0 1 u8 s a.at ≡ got start next = sym c.byte_within.ensures ∙ field-value c.in_ok-start.was in
     let w = range-read u8 0 1 s a.at start next one in
     let old = a.index.now in
     let put = set old a.i start in

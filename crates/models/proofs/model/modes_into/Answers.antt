@@ -1,5 +1,5 @@
 -- The read-loop law: the modes so far, in front of those to come, are all of them. Assumes nothing.
-use mathlib.Core.Path.{◌∙◌}
+use Rattle.std.proofs.Common.{rules, Err, ◌≡◌}
 use Prim.Native.Nat.{◌+◌, ◌*◌}
 use native.Mathlib.Omega.{arith}
 use Rattle.models.specs.Index.{mode_from, mode_place}
@@ -27,24 +27,17 @@ overflow_add-block-in-loop-j c = omega (arith, c.requires.n_bound, c.loop-j-test
 pub mode_into-requires : goal.mode_into-requires
 mode_into-requires c = record { sized = record { short = c.requires.sized.short; long = omega (arith, c.requires.sized.long, c.loop-j.invariant.1.0) }; n_bound = (c.requires.n_bound.0, omega (arith, c.requires.n_bound, c.loop-j-test.true)) }
 
-pub shape_of-index-in-Refused : goal.shape_of-index-in-Refused
-shape_of-index-in-Refused c = c.mode_into.auto.index ∙ c.loop-j.invariant.1.0
-
-pub returns-in-Refused : goal.returns-in-Refused
+pub returns-in_err-place : goal.returns-in_err-place
 unfolding got_as mode_place
-returns-in-Refused c =
+returns-in_err-place c =
     let a = c.args in
     let s = a.s.now in
     let loop = c.loop-j in
     let into = c.mode_into in
     let x = loop.index in
-    let y = into.new.index in let both = fill_stops (read_mode a.version a.n) (λ x i. mode_from s a.version a.n x (mode_place a.block i)) a.count s a.at (a.block + 3) (a.block + 59) a.index.now x y loop.j loop.place loop.invariant c.loop-j-test.true into.result into.ensures.result_after (a.block + 3 + 7 * loop.j) (a.block + 3 + 7 * loop.j + 7) (omega arith) (omega (arith, c.requires.n_bound, c.loop-j-test.true)) into.ensures.kept c.in-Refused.is in record { result_after = both.0; kept = both.1 }
-
-pub overflow_add-j : goal.overflow_add-j
-overflow_add-j c = omega (arith, c.requires.n_bound, c.loop-j-test.true)
-
-pub loop-j-smaller : goal.loop-j-smaller
-loop-j-smaller c = omega (arith, c.loop-j-test.true)
+    let y = into.new.index in let same : c.from_residual.result ≡ Err c.in_err-place.field-0.0 = search rules in
+    let both = fill_stops (read_mode a.version a.n) (λ x i. mode_from s a.version a.n x (mode_place a.block i)) a.count s a.at (a.block + 3) (a.block + 59) a.index.now x y loop.j loop.place loop.invariant c.loop-j-test.true into.result into.ensures.result_after (a.block + 3 + 7 * loop.j) (a.block + 3 + 7 * loop.j + 7) (omega arith) (omega (arith, c.requires.n_bound, c.loop-j-test.true)) into.ensures.kept c.in_err-place.was same in
+    record { result_after = both.0; kept = both.1 }
 
 pub loop-j-preserved : goal.loop-j-preserved
 unfolding mode_place
@@ -55,7 +48,7 @@ loop-j-preserved c =
     let into = c.mode_into in
     let x = loop.index in
     let y = into.new.index in
-    fill-goes-on (read_mode a.version a.n) (λ x i. mode_from s a.version a.n x (mode_place a.block i)) a.count s a.at (a.block + 3) (a.block + 59) a.index.now x y loop.j loop.place loop.invariant c.loop-j-test.true into.result into.ensures.result_after (a.block + 3 + 7 * loop.j) (a.block + 3 + 7 * loop.j + 7) (omega arith) (omega (arith, c.requires.n_bound, c.loop-j-test.true)) into.ensures.kept c.in-At.is
+    fill-goes-on (read_mode a.version a.n) (λ x i. mode_from s a.version a.n x (mode_place a.block i)) a.count s a.at (a.block + 3) (a.block + 59) a.index.now x y loop.j loop.place loop.invariant c.loop-j-test.true into.result into.ensures.result_after (a.block + 3 + 7 * loop.j) (a.block + 3 + 7 * loop.j + 7) (omega arith) (omega (arith, c.requires.n_bound, c.loop-j-test.true)) into.ensures.kept c.in_ok-place.was
     into.auto.index
     (λ i h. mode-same s a.version a.n x y (a.block + 3 + 7 * i) (agree-low into.ensures.kept (omega arith)))
 

@@ -1,11 +1,13 @@
 -- Source and target, then the label and the jump condition. Assumes nothing.
-use mathlib.Core.Path.{◌≡◌, sym, ap, ◌∙◌}
+use Rattle.std.proofs.Common.{rules, Err, ◌≡◌, sym, ap, ◌∙◌}
 use Prim.Native.Nat.{ℕ, ◌+◌, ◌*◌, ◌<◌}
 use native.Mathlib.Omega.{arith}
 use lib.ListN.{length, set, length-set}
 use Rattle.formats.specs.Reading.{got, u8, below}
 use Rattle.models.specs.Index.{entry, span_rows, labelled_from, switch_from}
 use Rattle.fields.specs.Answers.{got_as}
+use Rattle.fields.proofs.AnswerLaws.{next-refused}
+use Rattle.fields.specs.Causes.{number_of}
 use Rattle.models.proofs.ModelLaws.{switch-first, switch-second, switch-read, three-more}
 use Rattle.models.proofs.IndexLaws.{kept_then, kept-wider, entry-same, kept_at, kept_set, kept-none, entry_other}
 use Rattle.fields.proofs.AnswerLaws.{field-value, field-refused}
@@ -16,62 +18,66 @@ pub overflow_cast-index : goal.overflow_cast-index
 overflow_cast-index c =
     let a = c.args in
     let s = a.s.now in
-    let source = c.in-Value.source in
-    let second = c.in-Value.second in
-    let one : below a.modes u8 s a.at ≡ got source second = sym c.byte_below.ensures ∙ field-value c.in-Value.is in
-    let target = c.in-Value-byte_below.target in
-    let third = c.in-Value-byte_below.third in
-    let two : below a.modes u8 s second ≡ got target third = sym c.byte_below-in-Value.ensures ∙ field-value c.in-Value-byte_below.is in
+    let source = c.in_ok-source.source in
+    let second = c.in_ok-source.second in
+    let one : below a.modes u8 s a.at ≡ got source second = sym c.byte_below.ensures ∙ field-value c.in_ok-source.was in
+    let target = c.in_ok-target.target in
+    let third = c.in_ok-target.third in
+    let two : below a.modes u8 s second ≡ got target third = sym c.byte_below-2.ensures ∙ field-value c.in_ok-target.was in
     omega (arith, (count-read u8 a.modes s a.at source second one).less, c.requires.n_bound)
 
 pub bounds-index-i : goal.bounds-index-i
 bounds-index-i c = omega (arith, c.requires.sized.long, c.requires.n_bound)
 
-pub overflow_cast-index-in-Value-byte_below : goal.overflow_cast-index-in-Value-byte_below
-overflow_cast-index-in-Value-byte_below c =
+pub overflow_cast-index-2 : goal.overflow_cast-index-2
+overflow_cast-index-2 c =
     let a = c.args in
     let s = a.s.now in
-    let source = c.in-Value.source in
-    let second = c.in-Value.second in
-    let one : below a.modes u8 s a.at ≡ got source second = sym c.byte_below.ensures ∙ field-value c.in-Value.is in
-    let target = c.in-Value-byte_below.target in
-    let third = c.in-Value-byte_below.third in
-    let two : below a.modes u8 s second ≡ got target third = sym c.byte_below-in-Value.ensures ∙ field-value c.in-Value-byte_below.is in
+    let source = c.in_ok-source.source in
+    let second = c.in_ok-source.second in
+    let one : below a.modes u8 s a.at ≡ got source second = sym c.byte_below.ensures ∙ field-value c.in_ok-source.was in
+    let target = c.in_ok-target.target in
+    let third = c.in_ok-target.third in
+    let two : below a.modes u8 s second ≡ got target third = sym c.byte_below-2.ensures ∙ field-value c.in_ok-target.was in
     omega (arith, (count-read u8 a.modes s second target third two).less, c.requires.n_bound)
 
-pub bounds-index-i-in-Value-byte_below : goal.bounds-index-i-in-Value-byte_below
-bounds-index-i-in-Value-byte_below c = simp length-set (omega (arith, c.requires.sized.long, c.requires.n_bound))
+pub bounds-index-i-2 : goal.bounds-index-i-2
+bounds-index-i-2 c = simp length-set (omega (arith, c.requires.sized.long, c.requires.n_bound))
 
 pub labelled_into-requires : goal.labelled_into-requires
 labelled_into-requires c = record { sized = record { short = c.requires.sized.short; long = simp length-set (omega (arith, c.requires.sized.long)) }; n_bound = omega (arith, c.requires.n_bound) }
 
-pub returns-in-Refused : goal.returns-in-Refused
+pub returns-in_err-source : goal.returns-in_err-source
 unfolding got_as
-returns-in-Refused c = let a = c.args in record { result_after = sym (switch-first a.version a.n a.alphabet a.modes a.s.now a.at c.in-Refused.number c.in-Refused.place (sym c.byte_below.ensures ∙ field-refused c.in-Refused.is)); kept = kept-none a.i (a.i + 5) a.index.now }
+returns-in_err-source c = let a = c.args in
+    let same : c.from_residual.result ≡ Err c.in_err-source.field-0.0 = search rules in
+    record { result_after = next-refused _ same ∙ (sym (switch-first a.version a.n a.alphabet a.modes a.s.now a.at (number_of c.in_err-source.field-0.0.0) c.in_err-source.field-0.0.1 (sym c.byte_below.ensures ∙ field-refused c.in_err-source.was))); kept = kept-none a.i (a.i + 5) a.index.now }
 
-pub returns-in-Refused-byte_below : goal.returns-in-Refused-byte_below
+pub returns-in_err-target : goal.returns-in_err-target
 unfolding got_as
-returns-in-Refused-byte_below c =
+returns-in_err-target c =
     let a = c.args in
     let s = a.s.now in
-    let source = c.in-Value.source in
-    let second = c.in-Value.second in
-    let one : below a.modes u8 s a.at ≡ got source second = sym c.byte_below.ensures ∙ field-value c.in-Value.is in record { result_after = sym (switch-second a.version a.n a.alphabet a.modes s a.at source second one c.in-Refused-byte_below.number c.in-Refused-byte_below.place (sym c.byte_below-in-Value.ensures ∙ field-refused c.in-Refused-byte_below.is)); kept = kept-none a.i (a.i + 5) a.index.now }
+    let source = c.in_ok-source.source in
+    let second = c.in_ok-source.second in
+    let one : below a.modes u8 s a.at ≡ got source second = sym c.byte_below.ensures ∙ field-value c.in_ok-source.was in
+    let same : c.from_residual-in_err-target.result ≡ Err c.in_err-target.field-0.0 = search rules in
+    record { result_after = next-refused _ same ∙ (sym (switch-second a.version a.n a.alphabet a.modes s a.at source second one (number_of c.in_err-target.field-0.0.0) c.in_err-target.field-0.0.1 (sym c.byte_below-2.ensures ∙ field-refused c.in_err-target.was))); kept = kept-none a.i (a.i + 5) a.index.now }
 
 pub shape_of-index : goal.shape_of-index
-shape_of-index c = c.labelled_into.auto.index ∙ length-set (set c.args.index.now c.args.i c.in-Value.source) (c.args.i + 1) c.in-Value-byte_below.target ∙ length-set c.args.index.now c.args.i c.in-Value.source
+shape_of-index c = c.labelled_into.auto.index ∙ length-set (set c.args.index.now c.args.i c.in_ok-source.source) (c.args.i + 1) c.in_ok-target.target ∙ length-set c.args.index.now c.args.i c.in_ok-source.source
 
-pub returns-in-Value-byte_below : goal.returns-in-Value-byte_below
+pub returns : goal.returns
 unfolding switch_from labelled_from
-returns-in-Value-byte_below c =
+returns c =
     let a = c.args in
     let s = a.s.now in
-    let source = c.in-Value.source in
-    let second = c.in-Value.second in
-    let one : below a.modes u8 s a.at ≡ got source second = sym c.byte_below.ensures ∙ field-value c.in-Value.is in
-    let target = c.in-Value-byte_below.target in
-    let third = c.in-Value-byte_below.third in
-    let two : below a.modes u8 s second ≡ got target third = sym c.byte_below-in-Value.ensures ∙ field-value c.in-Value-byte_below.is in
+    let source = c.in_ok-source.source in
+    let second = c.in_ok-source.second in
+    let one : below a.modes u8 s a.at ≡ got source second = sym c.byte_below.ensures ∙ field-value c.in_ok-source.was in
+    let target = c.in_ok-target.target in
+    let third = c.in_ok-target.third in
+    let two : below a.modes u8 s second ≡ got target third = sym c.byte_below-2.ensures ∙ field-value c.in_ok-target.was in
     let old = a.index.now in
     let put = set old a.i source in
     let z = c.labelled_into.new.index in

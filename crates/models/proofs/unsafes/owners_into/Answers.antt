@@ -1,5 +1,5 @@
 -- The read-loop law: the owners so far, in front of those to come, are all of them. Assumes nothing.
-use mathlib.Core.Path.{◌≡◌, refl, sym, ap, ◌∙◌}
+use Rattle.std.proofs.Common.{rules, Err, ◌≡◌, refl, sym, ap, ◌∙◌}
 use Prim.Native.Nat.{ℕ, ◌+◌}
 use native.Mathlib.Omega.{arith}
 use lib.ListN.{set, length-set}
@@ -8,6 +8,8 @@ use Rattle.models.specs.Index.{entry, owner_place}
 use Rattle.fields.specs.Answers.{got_as}
 use Rattle.fields.proofs.AnswerLaws.{field-value, field-refused}
 use Rattle.formats.proofs.FieldLaws.{count-read}
+use Rattle.fields.proofs.AnswerLaws.{next-refused}
+use Rattle.fields.specs.Causes.{number_of}
 use Rattle.models.proofs.IndexLaws.{entry-same, entry_other, kept-none, kept_set, kept_then}
 use Rattle.fields.proofs.ReadLoop.{up_to, reading-starts, reading-goes-on, reading-stops, reading-ends}
 use Rattle.models.proofs.unsafes.owners_into.Goals as goal
@@ -19,21 +21,20 @@ loop-v-init c =
     let r = below a.c u8 in
     (omega arith, (refl, (reading-starts r a.n s (many a.n r s a.at) (λ i. entry a.index.now (owner_place i)) a.at refl, kept-none 3 11 a.index.now)))
 
-pub shape_of-index-in-Refused : goal.shape_of-index-in-Refused
-shape_of-index-in-Refused c = c.loop-v.invariant.1.0
-
-pub returns-in-Refused : goal.returns-in-Refused
+pub returns-in_err-owner : goal.returns-in_err-owner
 unfolding got_as
-returns-in-Refused c =
+returns-in_err-owner c =
     let a = c.args in
     let s = a.s.now in
     let r = below a.c u8 in
     let x = c.loop-v.index in
     let v = c.loop-v.v in
     let inv = c.loop-v.invariant in
-    let whole = many a.n r s a.at in record {
-      result_after = reading-stops r a.n s whole (λ i. entry x (owner_place i)) v c.loop-v.place c.in-Refused.number c.in-Refused.cut inv.1.1.0 c.loop-v-test.true
-          (sym c.byte_below.ensures ∙ field-refused c.in-Refused.is);
+    let whole = many a.n r s a.at in
+    let same : c.from_residual.result ≡ Err c.in_err-owner.field-0.0 = search rules in
+    record {
+      result_after = next-refused _ same ∙ (reading-stops r a.n s whole (λ i. entry x (owner_place i)) v c.loop-v.place (number_of c.in_err-owner.field-0.0.0) c.in_err-owner.field-0.0.1 inv.1.1.0 c.loop-v-test.true
+          (sym c.byte_below.ensures ∙ field-refused c.in_err-owner.was));
       kept = inv.1.1.1;
     }
 
@@ -42,9 +43,9 @@ overflow_cast-index c =
     let a = c.args in
     let s = a.s.now in
     let r = below a.c u8 in
-    let owner = c.in-Value.owner in
-    let next = c.in-Value.next in
-    let e : r s c.loop-v.place ≡ got owner next = sym c.byte_below.ensures ∙ field-value c.in-Value.is in
+    let owner = c.in_ok-owner.owner in
+    let next = c.in_ok-owner.next in
+    let e : r s c.loop-v.place ≡ got owner next = sym c.byte_below.ensures ∙ field-value c.in_ok-owner.was in
     omega (arith, (count-read u8 a.c s c.loop-v.place owner next e).less, c.requires.n_bound)
 
 pub overflow_add-index : goal.overflow_add-index
@@ -56,12 +57,6 @@ offset_bounds-index-v c = omega (arith, c.requires.n_bound, c.requires.sized.lon
 pub bounds-index-v : goal.bounds-index-v
 bounds-index-v c = omega (arith, c.requires.n_bound, c.requires.sized.long, c.loop-v.invariant.1.0, c.loop-v-test.true)
 
-pub overflow_add-v : goal.overflow_add-v
-overflow_add-v c = omega (arith, c.requires.n_bound, c.loop-v-test.true)
-
-pub loop-v-smaller : goal.loop-v-smaller
-loop-v-smaller c = omega (arith, c.loop-v-test.true)
-
 pub loop-v-preserved : goal.loop-v-preserved
 unfolding owner_place
 loop-v-preserved c =
@@ -72,9 +67,9 @@ loop-v-preserved c =
     let v = c.loop-v.v in
     let inv = c.loop-v.invariant in
     let whole = many a.n r s a.at in
-    let owner = c.in-Value.owner in
-    let next = c.in-Value.next in
-    let e : r s c.loop-v.place ≡ got owner next = sym c.byte_below.ensures ∙ field-value c.in-Value.is in
+    let owner = c.in_ok-owner.owner in
+    let next = c.in_ok-owner.next in
+    let e : r s c.loop-v.place ≡ got owner next = sym c.byte_below.ensures ∙ field-value c.in_ok-owner.was in
     let y = set x (3 + v) owner in
     let put : entry y (3 + v) ≡ owner = entry-same x (3 + v) owner (omega (arith, c.requires.n_bound, c.requires.sized.long, inv.1.0, c.loop-v-test.true)) in (
       omega (arith, c.loop-v-test.true),

@@ -1,5 +1,5 @@
 -- The law of a loop over a list: the modes so far, in front of those of the components to come, are all of them. Assumes nothing.
-use mathlib.Core.Path.{◌≡◌, refl, sym, ap, ◌∙◌}
+use Rattle.std.proofs.Common.{rules, Err, ◌≡◌, refl, sym, ap, ◌∙◌}
 use Prim.Native.Nat.{ℕ, ◌+◌, ◌*◌, ◌<◌}
 use native.Mathlib.Omega.{arith}
 use lib.ListN.{set, length-set}
@@ -7,11 +7,12 @@ use Rattle.formats.specs.Reading.{got, u8, must, each}
 use Rattle.models.specs.Index.{entry, component_place, components_from}
 use Rattle.fields.specs.Answers.{got_as}
 use Rattle.fields.proofs.AnswerLaws.{field-value, field-refused}
+use Rattle.fields.proofs.AnswerLaws.{next-refused}
 use Rattle.models.proofs.IndexLaws.{entry-same, entry_other, kept-none, kept_set, kept_then}
 use Rattle.fields.proofs.ReadLoop.{up_to}
 use Rattle.formats.proofs.FieldLaws.{numbered}
 use Rattle.models.proofs.UnsafeLaws.{each-starts, each-goes-on, each-stops, each-ends, components-length, component-next, mode_small, read_mode_byte, mode_of, modes-kept}
-use Rattle.models.proofs.unsafes.unsafe_modes_into.Goals.{In-Value, In-loop-k}
+use Rattle.models.proofs.unsafes.unsafe_modes_into.Goals.{In_ok-mode, In-loop-k}
 use Rattle.models.proofs.unsafes.unsafe_modes_into.Goals as goal
 
 -- the component of a turn is one of the model's, and the index still has how many modes it has
@@ -22,9 +23,9 @@ low c = omega (arith, c.loop-k-test.true, c.requires.c_value)
 kept : (c : In-loop-k) → entry c.loop-k.index (17 + 219 * c.loop-k.k) ≡ entry c.args.index.now (component_place c.loop-k.k + 1)
 kept c = modes-kept c.loop-k.invariant.1.1.1 c.loop-k.k c.requires.c_value.1.1.0 (omega (arith, c.loop-k-test.true, c.requires.c_value))
 
-mode-read : (c : In-Value) → must (numbered (entry c.loop-k.index (17 + 219 * c.loop-k.k))) 5 u8 c.args.s.now c.loop-k.place ≡ got c.in-Value.mode c.in-Value.next
+mode-read : (c : In_ok-mode) → must (numbered (entry c.loop-k.index (17 + 219 * c.loop-k.k))) 5 u8 c.args.s.now c.loop-k.place ≡ got c.in_ok-mode.mode c.in_ok-mode.next
 unfolding entry
-mode-read c = sym c.byte_numbered.ensures ∙ field-value c.in-Value.is
+mode-read c = sym c.byte_numbered.ensures ∙ field-value c.in_ok-mode.was
 
 pub loop-k-init : goal.loop-k-init
 loop-k-init c =
@@ -49,13 +50,12 @@ pub overflow_cast-modes : goal.overflow_cast-modes
 unfolding entry
 overflow_cast-modes c = omega (arith, kept (goal.at.overflow_cast-modes c).In-loop-k, c.requires.by_index c.loop-k.k c.loop-k-test.true)
 
-pub shape_of-index-in-Refused : goal.shape_of-index-in-Refused
-shape_of-index-in-Refused c = c.loop-k.invariant.1.0
-
-pub returns-in-Refused : goal.returns-in-Refused
+pub returns-in_err-mode : goal.returns-in_err-mode
 unfolding got_as entry
-returns-in-Refused c =
-    let inv = c.loop-k.invariant in record { result_after = each-stops read_mode_byte _ _ _ _ _ _ _ _ _ inv.1.1.0 (component-next _ _ _ (low (goal.at.returns-in-Refused c).In-loop-k)) (mode_of _ _ _ _ _ _ _ (kept (goal.at.returns-in-Refused c).In-loop-k) (sym c.byte_numbered.ensures ∙ field-refused c.in-Refused.is)); kept = inv.1.1.1 }
+returns-in_err-mode c =
+    let inv = c.loop-k.invariant in
+    let same : c.from_residual.result ≡ Err c.in_err-mode.field-0.0 = search rules in
+    record { result_after = next-refused _ same ∙ (each-stops read_mode_byte _ _ _ _ _ _ _ _ _ inv.1.1.0 (component-next _ _ _ (low (goal.at.returns-in_err-mode c).In-loop-k)) (mode_of _ _ _ _ _ _ _ (kept (goal.at.returns-in_err-mode c).In-loop-k) (sym c.byte_numbered.ensures ∙ field-refused c.in_err-mode.was))); kept = inv.1.1.1 }
 
 pub overflow_cast-index : goal.overflow_cast-index
 unfolding entry
@@ -71,12 +71,6 @@ offset_bounds-index-i c = omega (arith, c.requires.c_value, c.requires.sized.lon
 pub bounds-index-i : goal.bounds-index-i
 bounds-index-i c = omega (arith, c.requires.c_value, c.requires.sized.long, c.loop-k.invariant.1.0, c.loop-k-test.true)
 
-pub overflow_add-k : goal.overflow_add-k
-overflow_add-k c = omega (arith, c.requires.c_value, c.loop-k-test.true)
-
-pub loop-k-smaller : goal.loop-k-smaller
-loop-k-smaller c = omega (arith, c.loop-k-test.true)
-
 pub loop-k-preserved : goal.loop-k-preserved
 unfolding entry
 loop-k-preserved c =
@@ -85,8 +79,8 @@ loop-k-preserved c =
     let x = c.loop-k.index in
     let k = c.loop-k.k in
     let inv = c.loop-k.invariant in
-    let mode = c.in-Value.mode in
-    let next = c.in-Value.next in
+    let mode = c.in_ok-mode.mode in
+    let next = c.in_ok-mode.next in
     let put : entry (set x (i + k) mode) (i + k) ≡ mode = entry-same x (i + k) mode (omega (arith, p.c_value, p.sized.long, inv.1.0, c.loop-k-test.true)) in (
       omega (arith, c.loop-k-test.true),
       (

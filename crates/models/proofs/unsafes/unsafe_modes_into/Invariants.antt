@@ -1,5 +1,5 @@
 use mathlib.Core.Path.{◌≡◌}
-use Prim.Native.Nat.{◌+◌, ◌-◌, ◌≤◌}
+use Prim.Native.Nat.{◌+◌, ◌≤◌}
 use lib.ListN.{length}
 use Rattle.formats.specs.Reading.{each}
 use Rattle.models.specs.Index.{entry, components_from, Kept}
@@ -9,7 +9,3 @@ use Rattle.models.proofs.unsafes.unsafe_modes_into.Given as goal
 abbrev pub invariant-loop-k : goal.invariant-loop-k
 invariant-loop-k l =
     (l.k ≤ l.c) × ((length l.index ≡ length l.initial.index) × (ReadingEach read_mode_byte (components_from l.s l.initial.index) l.s (each read_mode_byte (components_from l.s l.initial.index) l.s l.at) (λ j. entry l.index (l.i + j)) l.k l.place × Kept l.i (l.i + 4) l.initial.index l.index))
-
-abbrev pub decreases-loop-k : goal.decreases-loop-k
-decreases-loop-k l =
-    l.c - l.k

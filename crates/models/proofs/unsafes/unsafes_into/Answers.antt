@@ -1,5 +1,5 @@
 -- The read-loop law; the components are the same at each turn, since only numbers after their blocks change. Assumes nothing.
-use mathlib.Core.Path.{◌≡◌, ◌∙◌, subst}
+use Rattle.std.proofs.Common.{rules, Err, ◌≡◌, subst}
 use mathlib.Core.List.{List}
 use Prim.Native.Nat.{ℕ, ◌+◌, ◌*◌}
 use native.Mathlib.Omega.{arith}
@@ -35,9 +35,6 @@ loop-u-init c =
 pub overflow_mul-u : goal.overflow_mul-u
 overflow_mul-u c = omega (arith, c.requires.n_bound, c.loop-u-test.true)
 
-pub overflow_add-u : goal.overflow_add-u
-overflow_add-u c = omega (arith, c.requires.n_bound, c.loop-u-test.true)
-
 pub unsafe_into-requires : goal.unsafe_into-requires
 unfolding component_place
 unsafe_into-requires c =
@@ -45,20 +42,13 @@ unsafe_into-requires c =
     let p = c.requires.n_bound in
     let ones = kept_at kept 1 (λ h l. omega arith) in record { sized = record { short = c.requires.sized.short; long = omega (arith, c.requires.sized.long, c.loop-u.invariant.1.0) }; n_bound = (p.0, (omega (arith, p.1.0, ones), (p.1.1.0, (omega arith, omega (arith, p.1.1.1, c.loop-u-test.true))))); by_index = λ k l. omega (arith, kept_at kept (16 + 219 * k + 1) (λ h m. omega (arith, p.1.1.0)), (c.requires.by_index k l).0) }
 
-pub shape_of-index-in-Refused : goal.shape_of-index-in-Refused
-shape_of-index-in-Refused c = c.unsafe_into.auto.index ∙ c.loop-u.invariant.1.0
-
-pub returns-in-Refused : goal.returns-in-Refused
+pub returns-in_err-place : goal.returns-in_err-place
 unfolding got_as unsafe_place
-returns-in-Refused c =
+returns-in_err-place c =
     let l = c.loop-u in
-    let taken = c.loop-u-test.true in let both = fill_stops _ (told-by (goal.at.returns-in-Refused c).Start) _ _ _ 892 988 _ _ _ l.u _ l.invariant taken _ (told (goal.at.returns-in-Refused c).After-unsafe_into) (892 + 6 * l.u) (892 + 6 * l.u + 6) (omega arith) (omega (arith, c.requires.n_bound, taken)) c.unsafe_into.ensures.kept c.in-Refused.is in record { result_after = both.0; kept = both.1 }
-
-pub overflow_add-u-in-loop-u : goal.overflow_add-u-in-loop-u
-overflow_add-u-in-loop-u c = omega (arith, c.requires.n_bound, c.loop-u-test.true)
-
-pub loop-u-smaller : goal.loop-u-smaller
-loop-u-smaller c = omega (arith, c.loop-u-test.true)
+    let taken = c.loop-u-test.true in let same : c.from_residual.result ≡ Err c.in_err-place.field-0.0 = search rules in
+    let both = fill_stops _ (told-by (goal.at.returns-in_err-place c).Start) _ _ _ 892 988 _ _ _ l.u _ l.invariant taken _ (told (goal.at.returns-in_err-place c).After-unsafe_into) (892 + 6 * l.u) (892 + 6 * l.u + 6) (omega arith) (omega (arith, c.requires.n_bound, taken)) c.unsafe_into.ensures.kept c.in_err-place.was same in
+    record { result_after = both.0; kept = both.1 }
 
 pub loop-u-preserved : goal.loop-u-preserved
 unfolding unsafe_place
@@ -67,7 +57,7 @@ loop-u-preserved c =
     let l = c.loop-u in
     let taken = c.loop-u-test.true in
     let into = c.unsafe_into in
-    fill-goes-on _ (told-by (goal.at.loop-u-preserved c).Start) _ _ _ 892 988 _ _ _ l.u _ l.invariant taken _ (told (goal.at.loop-u-preserved c).After-unsafe_into) (892 + 6 * l.u) (892 + 6 * l.u + 6) (omega arith) (omega (arith, c.requires.n_bound, taken)) into.ensures.kept c.in-At.is
+    fill-goes-on _ (told-by (goal.at.loop-u-preserved c).Start) _ _ _ 892 988 _ _ _ l.u _ l.invariant taken _ (told (goal.at.loop-u-preserved c).After-unsafe_into) (892 + 6 * l.u) (892 + 6 * l.u + 6) (omega arith) (omega (arith, c.requires.n_bound, taken)) into.ensures.kept c.in_ok-place.was
     into.auto.index
     (λ j h. unsafe-same a.s.now a.version a.n a.c l.index into.new.index (892 + 6 * j) c.requires.n_bound.1.1.0 (agree-low into.ensures.kept (omega arith)))
 
