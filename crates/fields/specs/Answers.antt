@@ -6,7 +6,7 @@ use Rattle.formats.specs.Reading.{Got, got, refused}
 use Rattle.formats.specs.Rows.{Condition}
 use Rattle.fields.specs.Places.{rows_from}
 
-unfoldable pub got_field : Result (ℕ × ℕ) Refusal → Got ℕ
+unfoldable pub got_field : {A : Type 0} → Result (A × ℕ) Refusal → Got A
 got_field (Ok read) = got read.0 read.1
 got_field (Err r) = refused (number_of r.0) r.1
 

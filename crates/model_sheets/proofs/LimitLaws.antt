@@ -6,7 +6,9 @@ use Prim.Native.Nat.{ℕ, ◌+◌, ◌≤◌, ◌<◌}
 use native.Mathlib.Decide.{ℕ_discrete}
 use native.Mathlib.Omega.{arith}
 use lib.ListN.{length, get_or, set, length-set}
-use Rattle.fields.specs.declared.Next.TheVariants as next
+use Rattle.std.specs.Prelude.{Err}
+use Rattle.fields.specs.declared.Refusal.{Refusal}
+use Rattle.fields.proofs.AnswerLaws.{Next}
 use Rattle.formats.specs.Locations.{location_count}
 use Rattle.formats.specs.Joint.{count_up, joints}
 use Rattle.formats.specs.JointTotals.{event_total, joint_total}
@@ -86,5 +88,5 @@ counted {s} {before} {after} g totals joined locations p q r w same =
 pub no-counts : (index : List ℕ) → OnlyCounts index index
 no-counts index = record { same = same_none index; kept = kept-none 0 1004 index }
 
-pub refused-uncounted : (s index : List ℕ) (number place : ℕ) → CountedAfter s index (next.Refused number place)
-refused-uncounted s index number place end e = let z : ◌≡◌ {A = ℕ} 0 1 = cc in absurd (omega arith)
+pub refused-uncounted : (s index : List ℕ) {r : Next} {w : Refusal} → r ≡ Err w → CountedAfter s index r
+refused-uncounted s index h end e = let z : ◌≡◌ {A = ℕ} 0 1 = cc in absurd (omega arith)

@@ -5,8 +5,8 @@ use Prim.Native.Nat.{ℕ, ◌≤◌, ◌<◌}
 use borrow.Author.Tests.{le-leb, lt-leb}
 use lib.Dec.{T}
 use lib.ListN.{length}
-use Rattle.fields.specs.declared.Next.{Next}
-use Rattle.fields.specs.declared.Next.TheVariants as next
+use Rattle.std.specs.Prelude.{Ok, Err}
+use Rattle.fields.proofs.AnswerLaws.{Next}
 use Rattle.formats.specs.Versions.{version_fits}
 use Rattle.formats.specs.Reading.{Got, got, refused, Reader, and_then, ◌>>=◌, ◌>>◌, give, here, expect, header, read_paper, finished}
 use Rattle.formats.specs.Model.{Component, Model, read_model_body}
@@ -44,8 +44,8 @@ then-refused r t s p e = ap (λ g. and_then g (λ a. t) s) e
 
 limits-then : {A : Type 0} (a : A) (r : Reader (Unit {0})) (s : List ℕ) (p : ℕ) (x : Next) → got_as tt x ≡ r s p → got_as a x ≡ (r >> give a) s p
 unfolding ◌>>◌ and_then give got_as
-limits-then a r s p (next.At q) e = ap (λ g. and_then g (λ u. give a) s) e
-limits-then a r s p (next.Refused number q) e = ap (λ g. and_then g (λ u. give a) s) e
+limits-then a r s p (Ok q) e = ap (λ g. and_then g (λ u. give a) s) e
+limits-then a r s p (Err w) e = ap (λ g. and_then g (λ u. give a) s) e
 
 -- the two limits, by the counts
 module _ (limits : Limits) (components : List Component) (body : ℕ) (s : List ℕ) (p : ℕ) where

@@ -1,7 +1,6 @@
 -- What is kept of a model that is within the limits: its counts, in the index. Assumes nothing.
-use Rattle.std.specs.Prelude.{◌≡◌, List, ℕ, ◌+◌, ◌≤◌, ◌<◌, get_or}
-use Rattle.fields.specs.declared.Next.{Next}
-use Rattle.fields.specs.declared.Next.TheVariants as next
+use Rattle.std.specs.Prelude.{Result, Ok, ◌≡◌, List, ℕ, ◌+◌, ◌≤◌, ◌<◌, get_or}
+use Rattle.fields.specs.declared.Refusal.{Refusal}
 use Rattle.models.specs.Index.{entry, joints_at, locations_at, first_total, index_length, Kept, SameSheet}
 use Rattle.joint_switches.specs.Counted.{Counted}
 
@@ -23,5 +22,5 @@ pub record OnlyCounts (before after : List ℕ) : Type 0 where
   pub kept : Kept 0 index_length before after
 
 -- after an acceptance they stand for the model
-abbrev pub CountedAfter : List ℕ → List ℕ → Next → Type 0
-CountedAfter s index r = (end : ℕ) → r ≡ next.At end → Counted s index
+abbrev pub CountedAfter : List ℕ → List ℕ → Result ℕ Refusal → Type 0
+CountedAfter s index r = (end : ℕ) → r ≡ Ok end → Counted s index

@@ -7,7 +7,7 @@ ghost use Rattle.model_sheets.specs.Limits.{Small, Standing, OnlyCounts, Counted
 ghost use Rattle.model_sheets.specs.Opening.{read_opening, opening_from};
 
 use fields::header::{finished, header, read_paper};
-use fields::{Field, Next};
+use fields::{Cause, Next, Refusal};
 use formats::Limits;
 use joint_switches::joints::{location_count, wide};
 use joint_switches::totals::{event_totals, joint_total};
@@ -30,16 +30,10 @@ fn opening_into(s: &[u8], index: &mut Index) -> Next
     ensures result_after { got_as (opening_from index.new) result ≡ read_opening s.now 0 }
     ensures kept { Kept 0 index_length index.old index.new }
 {
-    match header(s, 1) {
-        Field::Refused(number, place) => Next::Refused(number, place),
-        Field::Value(version, at) => match read_paper(s, at, version) {
-            Field::Refused(number, place) => Next::Refused(number, place),
-            Field::Value(paper, body) => {
-                keep_opening(version, paper, index);
-                Next::At(body)
-            }
-        },
-    }
+    let (version, at) = header(s, 1)?;
+    let (paper, body) = read_paper(s, at, version)?;
+    keep_opening(version, paper, index);
+    Ok(body)
 }
 
 // Keeps the counts in an index.
@@ -48,10 +42,8 @@ fn keep_counts(totals: [u32; 16], joints: u32, locations: u32, index: &mut [u16]
     ensures standing { Standing totals joints locations index.new }
     ensures only_counts { OnlyCounts index.old index.new }
 {
-    let mut e: usize = 0;
-    while e < 16 {
+    for e in 0..16 {
         index[FIRST_TOTAL + e] = totals[e] as u16;
-        e += 1;
     }
     index[JOINTS_AT] = joints as u16;
     index[LOCATIONS_AT] = locations as u16;
@@ -66,15 +58,15 @@ fn within_limits(s: &[u8], index: &mut Index, body: usize, next: usize, limits: 
 {
     let locations = location_count(s, index);
     if limits.locations < locations {
-        return Next::Refused(7, body);
+        return Err(Refusal(Cause::Locations, body));
     }
     let totals = event_totals(s, index);
     let joints = joint_total(s, index, totals);
     if limits.joints < joints {
-        return Next::Refused(8, body);
+        return Err(Refusal(Cause::Joints, body));
     }
     keep_counts(totals, joints, locations, index);
-    Next::At(next)
+    Ok(next)
 }
 
 // A model sheet, read under stated limits into a lent index, which then has its counts too. After a refusal the index is free.
@@ -84,17 +76,9 @@ pub fn model_into(s: &[u8], index: &mut Index, limits: Limits) -> Next
     ensures kept { Kept 0 index_length index.old index.new }
     ensures counted_after { CountedAfter s.now index.new result }
 {
-    match opening_into(s, index) {
-        Next::Refused(number, place) => Next::Refused(number, place),
-        Next::At(body) => {
-            let version = wide(index[VERSION_AT]);
-            match body_into(s, body, version, index) {
-                Next::Refused(number, place) => Next::Refused(number, place),
-                Next::At(end) => match finished(s, end) {
-                    Next::Refused(number, place) => Next::Refused(number, place),
-                    Next::At(next) => within_limits(s, index, body, next, limits),
-                },
-            }
-        }
-    }
+    let body = opening_into(s, index)?;
+    let version = wide(index[VERSION_AT]);
+    let end = body_into(s, body, version, index)?;
+    let next = finished(s, end)?;
+    within_limits(s, index, body, next, limits)
 }

@@ -12,7 +12,7 @@ use lib.ListN.{length, set}
 use borrow.Author.Tests.{le-leb, lt-leb}
 use Rattle.farkas.specs.Farkas.{Proof}
 use Rattle.farkas.specs.Lists.{All, none, more}
-use Rattle.fields.specs.declared.Next.{Next}
+use Rattle.fields.proofs.AnswerLaws.{Next}
 use Rattle.fields.specs.Answers.{got_as}
 use Rattle.formats.specs.Reading.{got, refused, Reader, and_then, ◌>>=◌, give, u8, u32, passing, must, within, many}
 use Rattle.formats.specs.Rows.{Condition, read_row, read_condition}
@@ -21,7 +21,8 @@ use Rattle.formats.specs.Model.{Model}
 use Rattle.formats.specs.Locations.{location_count}
 use Rattle.models.specs.Index.{entry, span_rows, Kept}
 use Rattle.formats.specs.Certificate.{read_regions, read_entries, read_proof}
-use Rattle.second_sheets.specs.CertificateAnswers.{regions_from, regions_for, GoodRegions, Head, read_head}
+use Rattle.second_sheets.specs.CertificateAnswers.{regions_from, regions_for, GoodRegions, read_head}
+use Rattle.second_sheets.specs.declared.Head.{Head}
 use Rattle.formats.proofs.Gives.{got-value, passes, bind-got}
 use Rattle.fields.proofs.Skipping.{rows-got, rows_cut}
 use Rattle.fields.proofs.ChainLaws.{regroup}

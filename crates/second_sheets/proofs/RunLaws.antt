@@ -12,14 +12,12 @@ use lib.ListN.{length, get_or, take, drop, set, replicate, length-set, length-re
 use lib.Seq.{take-suc, drop-cons, drop-set-lt, get_or-set_same, get_or-set_other, length-take-le}
 use lib.Signed.{le_z, lt_z}
 use borrow.Author.Tests.{le-leb, lt-leb, lt-ltb, le-ltb}
-use Rattle.second_sheets.specs.declared.Signed.{Signed}
-use Rattle.second_sheets.specs.declared.Signed.TheVariants as variants
 use Rattle.formats.specs.Reading.{got, refused, give, u8, u32, s32, signed, passing, must, within_signed, many}
 use Rattle.fields.specs.Places.{signed_at}
 use Rattle.formats.specs.Joint.{stays, count_up}
 use Rattle.models.specs.Index.{entry, component_place}
 use Rattle.formats.specs.RunSheet.{read_values}
-use Rattle.second_sheets.specs.RunAnswers.{read_value, got_signed, KeptValues, held_switches, switch_byte, switch_bytes}
+use Rattle.second_sheets.specs.RunAnswers.{read_value, KeptValues, held_switches, switch_byte, switch_bytes}
 use Rattle.formats.proofs.Gives.{bind-got, tested}
 use Rattle.fields.proofs.Skipping.{bind-refused}
 use Rattle.formats.proofs.FieldLaws.{byte_at, byte-read, field-got, field_cut, numbered}
@@ -64,14 +62,6 @@ value-whole s p h = ap (passing in_range 5 p) (bind-got u32 (λ n. give (signed 
 pub value-cut : (s : List ℕ) (p : ℕ) → length s < p + 4 → read_value s p ≡ refused 4 p
 unfolding read_value within_signed must s32 passing u32
 value-cut s p h = ap (passing in_range 5 p) (bind-refused u32 (λ n. give (signed n)) s p (field_cut 4 s p h))
-
-pub signed-value : {f : Signed} {v : ℤ} {p : ℕ} → f ≡ variants.Value v p → got_signed f ≡ got v p
-unfolding got_signed
-signed-value e = ap got_signed e
-
-pub signed-refused : {f : Signed} {n p : ℕ} → f ≡ variants.Refused n p → got_signed f ≡ refused n p
-unfolding got_signed
-signed-refused e = ap got_signed e
 
 -- An array that a loop fills from the front: from i on it is as it was at first, the same everywhere
 pub record Front {A : Type 0} (d : A) (size : ℕ) (xs : List A) (i : ℕ) : Type 0 where

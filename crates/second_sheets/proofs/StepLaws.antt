@@ -8,16 +8,13 @@ use native.Mathlib.Omega.{arith}
 use lib.Dec.{ltb, eqb}
 use lib.IntN.{ℤ}
 use lib.ListN.{length, get_or, take, length-map}
-use Rattle.fields.specs.declared.Next.{Next}
-use Rattle.fields.specs.declared.Next.TheVariants as next
+use Rattle.std.specs.Prelude.{Ok, Err}
+use Rattle.fields.specs.declared.Refusal.{Refusal}
+use Rattle.fields.specs.Causes.{number_of}
 use Rattle.second_sheets.specs.declared.Switches.{Switches}
-use Rattle.second_sheets.specs.declared.SwitchesRead.{SwitchesRead}
-use Rattle.second_sheets.specs.declared.SwitchesRead.TheVariants as switches
 use Rattle.second_sheets.specs.declared.Step as coded
 use Rattle.second_sheets.specs.declared.Step.TheVariants as step
-use Rattle.second_sheets.specs.declared.StepRead.TheVariants as read
-use Rattle.second_sheets.specs.declared.OpeningRead.{OpeningRead}
-use Rattle.second_sheets.specs.declared.OpeningRead.TheVariants as opening
+use Rattle.second_sheets.specs.declared.Opening as opening
 use Rattle.formats.specs.Reading.{Got, got, refused, Reader, and_then, ◌>>=◌, give, here, u8, u16, u32, field, must, within, below, each}
 use Rattle.formats.specs.Model.{Component, Model}
 use Rattle.formats.specs.Locations.{location_count}
@@ -28,8 +25,8 @@ use Rattle.second_sheets.specs.RunAnswers.{switches_in, held_switches, switch_by
 use Rattle.formats.proofs.Gives.{Gives, gives-bind, gives-give, gives-any, bind-got}
 use Rattle.fields.proofs.Skipping.{bind-refused}
 use Rattle.formats.proofs.FieldLaws.{field-read, range-read}
-use Rattle.fields.specs.Answers.{got_as}
-use Rattle.fields.proofs.AnswerLaws.{next-at, next-refused}
+use Rattle.fields.specs.Answers.{got_field, got_as}
+use Rattle.fields.proofs.AnswerLaws.{Read, Next, field-value, field-refused, next-at, next-refused}
 use Rattle.fields.proofs.ChainLaws.{regroup, last-got}
 
 -- The four switches are the switches that were read
@@ -47,21 +44,21 @@ four-take ws c e h = ap (λ (k : ℕ). take k (switches_in (held_switches ws))) 
 
 -- A step with its values, from what the reading of the values answered
 module _ (st : coded.Step) (n : ℕ) (s : List ℕ) (at : ℕ) (xs : List ℤ) (x : Next) (told : got_as xs x ≡ read_values n s at) where
-  pub with_at : (after : ℕ) → x ≡ next.At after → (c : ℕ) → step_as c xs (read.Good st after) ≡ read_with n c st s at
+  pub with_at : (after : ℕ) → x ≡ Ok after → (c : ℕ) → step_as c xs (Ok (st, after)) ≡ read_with n c st s at
   unfolding step_as read_with
   with_at after h c = sym (next-at (step_of c st xs) h) ∙ last-got (read_values n) (step_of c st) s at xs x told
 
-  pub with-held : (after : ℕ) → x ≡ next.At after → read.Good st after ≡ held_with st (read_values n s at)
+  pub with-held : (after : ℕ) → x ≡ Ok after → got st after ≡ held_with st (read_values n s at)
   unfolding held_with
   with-held after h = ap (held_with st) (sym (next-at xs h) ∙ told)
 
-  pub with-refused : (number place : ℕ) → x ≡ next.Refused number place → (c : ℕ) → step_as c xs (read.Refused number place) ≡ read_with n c st s at
+  pub with-refused : (w : Refusal) → x ≡ Err w → (c : ℕ) → step_as c xs (Err w) ≡ read_with n c st s at
   unfolding step_as read_with
-  with-refused number place h c = sym (next-refused (step_of c st xs) h) ∙ last-got (read_values n) (step_of c st) s at xs x told
+  with-refused w h c = sym (next-refused (step_of c st xs) h) ∙ last-got (read_values n) (step_of c st) s at xs x told
 
-  pub with_none : (number place : ℕ) → x ≡ next.Refused number place → read.Refused number place ≡ held_with st (read_values n s at)
+  pub with_none : (w : Refusal) → x ≡ Err w → refused (number_of w.0) w.1 ≡ held_with st (read_values n s at)
   unfolding held_with
-  with_none number place h = ap (held_with st) (sym (next-refused xs h) ∙ told)
+  with_none w h = ap (held_with st) (sym (next-refused xs h) ∙ told)
 
 held-flow : (δ : ℕ) (g : Got (List ℤ)) (s : List ℕ) → held_step (and_then g (λ xs. give (flow δ xs)) s) ≡ held_with (step.Flow δ) g
 unfolding and_then give held_step held_with
@@ -114,28 +111,28 @@ pub record SwitchesTold (g : Got (List ℕ)) (by : Switches) (after : ℕ) : Typ
   pub read : g ≡ got list after
   pub same : by ≡ held_switches list
 
-pub switches-told : (g : Got (List ℕ)) (r : SwitchesRead) (by : Switches) (after : ℕ) → r ≡ held_bytes g → r ≡ switches.Good by after → SwitchesTold g by after
+pub switches-told : (g : Got (List ℕ)) (r : Read Switches) (by : Switches) (after : ℕ) → got_field r ≡ held_bytes g → r ≡ Ok (by, after) → SwitchesTold g by after
 unfolding held_bytes
 switches-told (got ws p) r by after e h =
-    let n : switches.Good (held_switches ws) p ≡ switches.Good by after = sym e ∙ h in
+    let n : got (held_switches ws) p ≡ got by after = sym e ∙ field-value h in
     let q : by ≡ held_switches ws = cc in
     let place : p ≡ after = cc in
     record { list = ws; read = ap (λ (x : ℕ). got ws x) place; same = q }
 switches-told (refused number place) r by after e h =
-    let n : switches.Refused number place ≡ switches.Good by after = sym e ∙ h in
+    let n : refused number place ≡ got by after = sym e ∙ field-value h in
     let z : ◌≡◌ {A = ℕ} 0 1 = cc in
     absurd (omega arith)
 
-pub switches-refused : (g : Got (List ℕ)) (r : SwitchesRead) (number place : ℕ) → r ≡ held_bytes g → r ≡ switches.Refused number place → g ≡ refused number place
+pub switches-refused : (g : Got (List ℕ)) (r : Read Switches) (w : Refusal) → got_field r ≡ held_bytes g → r ≡ Err w → g ≡ refused (number_of w.0) w.1
 unfolding held_bytes
-switches-refused (got ws p) r number place e h =
-    let n : switches.Good (held_switches ws) p ≡ switches.Refused number place = sym e ∙ h in
+switches-refused (got ws p) r w e h =
+    let n : got (held_switches ws) p ≡ refused (number_of w.0) w.1 = sym e ∙ field-refused h in
     let z : ◌≡◌ {A = ℕ} 0 1 = cc in
     absurd (omega arith)
-switches-refused (refused number' place') r number place e h =
-    let n : switches.Refused number' place' ≡ switches.Refused number place = sym e ∙ h in
-    let q : number' ≡ number = cc in
-    let place : place' ≡ place = cc in
+switches-refused (refused number place) r w e h =
+    let n : ◌≡◌ {A = Got Switches} (refused number place) (refused (number_of w.0) w.1) = sym e ∙ field-refused h in
+    let q : number ≡ number_of w.0 = cc in
+    let t : place ≡ w.1 = cc in
     cc
 
 -- A flow and a jump of the model that an index has
@@ -258,11 +255,11 @@ module _ (s : List ℕ) (at locations : ℕ) where
           (ap (λ (p : ℕ). got (record { q = q; steps = steps; place = p; location = location; values = [] }) after) location-place)))
 
 -- what the answer means once its case is known
-pub fields_value : (xs : List ℤ) (at : ℕ) {r : OpeningRead} {q steps location after : ℕ} → r ≡ opening.Opening q steps location after → opening_as xs at r ≡ got (record { q = q; steps = steps; place = at + 6; location = location; values = xs }) after
+pub fields_value : (xs : List ℤ) (at : ℕ) {r : Read opening.Opening} {o : opening.Opening} {after : ℕ} → r ≡ Ok (o, after) → opening_as xs at r ≡ got (record { q = o.q; steps = o.steps; place = at + 6; location = o.location; values = xs }) after
 unfolding opening_as
 fields_value xs at e = ap (opening_as xs at) e
 
-pub fields-refused : (xs : List ℤ) (at : ℕ) {r : OpeningRead} {number place : ℕ} → r ≡ opening.Refused number place → opening_as xs at r ≡ refused number place
+pub fields-refused : (xs : List ℤ) (at : ℕ) {r : Read opening.Opening} {w : Refusal} → r ≡ Err w → opening_as xs at r ≡ refused (number_of w.0) w.1
 unfolding opening_as
 fields-refused xs at e = ap (opening_as xs at) e
 

@@ -1,10 +1,11 @@
--- What the readings of a certificate answer with: regions by the places that the code keeps, and the enums by cases. Assumes nothing.
-use Rattle.std.specs.Prelude.{Bool, cond, List, map, ℕ, ◌+◌, ◌*◌, ◌-◌, ◌^◌, ◌≤◌, ◌<◌, eqb, length}
+-- What the readings of a certificate answer with: regions by the places that the code keeps, how a proof begins, and its entries. Assumes
+-- nothing.
+use Rattle.std.specs.Prelude.{Result, Ok, Err, Bool, cond, List, map, ℕ, ◌+◌, ◌*◌, ◌-◌, ◌^◌, ◌≤◌, ◌<◌, eqb, length}
 use Rattle.farkas.specs.Farkas.{Entry}
-use Rattle.second_sheets.specs.declared.HeadRead.{HeadRead}
-use Rattle.second_sheets.specs.declared.HeadRead.TheVariants as head
-use Rattle.second_sheets.specs.declared.EntryRead.{EntryRead}
-use Rattle.second_sheets.specs.declared.EntryRead.TheVariants as entries
+use Rattle.second_sheets.specs.declared.Head.{Head}
+use Rattle.second_sheets.specs.declared.Entry as coded
+use Rattle.fields.specs.declared.Refusal.{Refusal}
+use Rattle.fields.specs.Causes.{number_of}
 use Rattle.formats.specs.Reading.{Got, got, refused, Reader, ◌>>=◌, give, u8, u32, must, within, many}
 use Rattle.formats.specs.Rows.{Condition, read_condition}
 use Rattle.formats.specs.Joint.{count_up}
@@ -27,20 +28,13 @@ pub record GoodRegions (s : List ℕ) (version n count : ℕ) (regions : List �
   pub within : (l : ℕ) → l < count → (j : ℕ) → j < entry regions (2 * l + 1) → entry regions (2 * l) + row_bytes version n * (j + 1) ≤ length s
 
 -- how a proof begins: "u32 k, 0..2^24−1; u8 entries, 0..128", and "An unsafe goal has k = 0 only, else 5 at k"
-pub record Head : Type 0 where
-  pub k : ℕ
-  pub count : ℕ
-
 unfoldable pub read_head : Bool → Reader Head
 read_head unsafe = do
   k ← within 0 (cond unsafe 0 (2 ^ 24 - 1)) u32
   count ← within 0 128 u8
   give (record { k = k; count = count })
 
-unfoldable pub got_head : HeadRead → Got Head
-got_head (head.Head k count p) = got (record { k = k; count = count }) p
-got_head (head.Refused number place) = refused number place
-
-unfoldable pub got_entry : EntryRead → Got Entry
-got_entry (entries.Entry hypothesis multiplier p) = got (record { hypothesis = hypothesis; multiplier = multiplier }) p
-got_entry (entries.Refused number place) = refused number place
+-- an entry that the code read, as the test of a proof has it
+unfoldable pub got_entry : Result (coded.Entry × ℕ) Refusal → Got Entry
+got_entry (Ok read) = got (record { hypothesis = read.0.hypothesis; multiplier = read.0.multiplier }) read.1
+got_entry (Err r) = refused (number_of r.0) r.1

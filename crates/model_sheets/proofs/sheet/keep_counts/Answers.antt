@@ -27,12 +27,6 @@ offset_bounds-index-e c = omega (arith, c.loop-e-test.true)
 pub bounds-index-e : goal.bounds-index-e
 bounds-index-e c = omega (arith, c.loop-e-test.true, c.loop-e.invariant.1, c.requires.0)
 
-pub overflow_add-e : goal.overflow_add-e
-overflow_add-e c = omega (arith, c.loop-e-test.true)
-
-pub loop-e-smaller : goal.loop-e-smaller
-loop-e-smaller c = omega (arith, c.loop-e-test.true)
-
 pub loop-e-preserved : goal.loop-e-preserved
 loop-e-preserved c =
     let l = c.loop-e in

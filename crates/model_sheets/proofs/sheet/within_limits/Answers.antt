@@ -1,5 +1,5 @@
 -- By the two counts; those of a model within the limits are kept. Assumes nothing.
-use mathlib.Core.Path.{sym, subst}
+use mathlib.Core.Path.{refl, sym, subst}
 use Prim.Native.Nat.{ℕ, ◌<◌, ◌≤◌}
 use native.Mathlib.Omega.{arith}
 use borrow.Author.Rules.{rules}
@@ -16,7 +16,7 @@ unfolding got_as
 returns-then-limits-locations c =
     let a = c.args in
     let s = a.s.now in
-    let components = components_from s a.index.now in record { result_value = sym (limits-seven a.limits components a.body s a.next (subst (λ (n : ℕ). a.limits.locations < n) c.location_count-locations.ensures c.if-limits-locations.true)); only_counts = (no-counts a.index.now, refused-uncounted s a.index.now 7 a.body) }
+    let components = components_from s a.index.now in record { result_value = sym (limits-seven a.limits components a.body s a.next (subst (λ (n : ℕ). a.limits.locations < n) c.location_count-locations.ensures c.if-limits-locations.true)); only_counts = (no-counts a.index.now, refused-uncounted s a.index.now refl) }
 
 pub returns-then-limits-joints : goal.returns-then-limits-joints
 unfolding got_as
@@ -24,7 +24,7 @@ returns-then-limits-joints c =
     let a = c.args in
     let s = a.s.now in
     let components = components_from s a.index.now in
-    let few : location_count components ≤ a.limits.locations = subst (λ (n : ℕ). n ≤ a.limits.locations) c.location_count-locations.ensures c.if-limits-locations.false in record { result_value = sym (limits-eight a.limits components a.body s a.next few (omega (arith, c.if-limits-joints.true, c.joint_total-joints.ensures))); only_counts = (no-counts a.index.now, refused-uncounted s a.index.now 8 a.body) }
+    let few : location_count components ≤ a.limits.locations = subst (λ (n : ℕ). n ≤ a.limits.locations) c.location_count-locations.ensures c.if-limits-locations.false in record { result_value = sym (limits-eight a.limits components a.body s a.next few (omega (arith, c.if-limits-joints.true, c.joint_total-joints.ensures))); only_counts = (no-counts a.index.now, refused-uncounted s a.index.now refl) }
 
 pub keep_counts-requires : goal.keep_counts-requires
 keep_counts-requires c =

@@ -1,5 +1,5 @@
 -- The regions before this one are kept, and the rest is read from here; each turn keeps one more. Assumes nothing.
-use mathlib.Core.Path.{◌≡◌, refl, sym, ◌∙◌}
+use Rattle.std.proofs.Common.{rules, Err, ◌≡◌, refl, sym, ◌∙◌}
 use Prim.Native.Nat.{◌+◌, ◌*◌, ◌<◌}
 use native.Mathlib.Omega.{arith}
 use lib.ListN.{length-set}
@@ -10,8 +10,10 @@ use Rattle.fields.specs.Answers.{got_as}
 use Rattle.models.proofs.IndexLaws.{kept-none}
 use Rattle.fields.proofs.AnswerLaws.{rows-value, rows-refused}
 use Rattle.fields.proofs.ConditionLaws.{CountRead, condition-read}
+use Rattle.fields.proofs.AnswerLaws.{next-refused}
+use Rattle.fields.specs.Causes.{number_of}
 use Rattle.second_sheets.proofs.CertificateLaws.{regions-start, regions-go-on, regions-stop, regions-kept, regions-end}
-use Rattle.second_sheets.proofs.certificate.regions_into.Goals.{In-Value}
+use Rattle.second_sheets.proofs.certificate.regions_into.Goals.{In_ok-rows}
 use Rattle.second_sheets.proofs.certificate.regions_into.Goals as goal
 
 pub loop-l-init : goal.loop-l-init
@@ -22,22 +24,21 @@ loop-l-init c =
 pub condition-requires : goal.condition-requires
 condition-requires c = (omega arith, omega arith)
 
-pub shape_of-regions-in-Refused : goal.shape_of-regions-in-Refused
-shape_of-regions-in-Refused c = c.loop-l.invariant.1.0
-
-pub returns-in-Refused : goal.returns-in-Refused
+pub returns-in_err-rows : goal.returns-in_err-rows
 unfolding got_as
-returns-in-Refused c =
+returns-in_err-rows c =
     let a = c.args in
     let l = c.loop-l in
-    let cut = sym c.condition.ensures ∙ rows-refused a.s.now a.version a.n l.place c.in-Refused.is in record { result_after = regions-stop a.s.now a.version a.n a.count a.at l.regions l.l l.place l.invariant.1.1.1 c.loop-l-test.true c.in-Refused.number c.in-Refused.cut cut; kept = l.invariant.1.1.0 }
+    let cut = sym c.condition.ensures ∙ rows-refused a.s.now a.version a.n l.place c.in_err-rows.was in
+    let same : c.from_residual.result ≡ Err c.in_err-rows.field-0.0 = search rules in
+    record { result_after = next-refused _ same ∙ regions-stop a.s.now a.version a.n a.count a.at l.regions l.l l.place l.invariant.1.1.1 c.loop-l-test.true (number_of c.in_err-rows.field-0.0.0) c.in_err-rows.field-0.0.1 cut; kept = l.invariant.1.1.0 }
 
 -- what this turn read, and that its count byte was there and is at most 16
-rows-read : (c : In-Value) → read_condition c.args.version 16 c.args.n c.args.s.now c.loop-l.place ≡ got (rows_from c.args.s.now c.args.version c.args.n (c.loop-l.place + 1) c.in-Value.rows) c.in-Value.next
-rows-read c = sym c.condition.ensures ∙ rows-value c.args.s.now c.args.version c.args.n c.loop-l.place c.in-Value.is
+rows-read : (c : In_ok-rows) → read_condition c.args.version 16 c.args.n c.args.s.now c.loop-l.place ≡ got (rows_from c.args.s.now c.args.version c.args.n (c.loop-l.place + 1) c.in_ok-rows.rows) c.in_ok-rows.next
+rows-read c = sym c.condition.ensures ∙ rows-value c.args.s.now c.args.version c.args.n c.loop-l.place c.in_ok-rows.was
 
-count-told : (c : In-Value) → CountRead 16 c.args.n c.args.s.now c.loop-l.place c.in-Value.rows
-count-told c = condition-read 16 c.args.version c.args.n c.args.s.now c.loop-l.place (c.loop-l.place + 1) c.in-Value.rows c.in-Value.next (rows-read c)
+count-told : (c : In_ok-rows) → CountRead 16 c.args.n c.args.s.now c.loop-l.place c.in_ok-rows.rows
+count-told c = condition-read 16 c.args.version c.args.n c.args.s.now c.loop-l.place (c.loop-l.place + 1) c.in_ok-rows.rows c.in_ok-rows.next (rows-read c)
 
 pub overflow_mul-i : goal.overflow_mul-i
 overflow_mul-i c = omega arith
@@ -54,32 +55,26 @@ offset_bounds-regions-i c = omega arith
 pub bounds-regions-i : goal.bounds-regions-i
 bounds-regions-i c = omega arith
 
-pub overflow_cast-regions-in-Value : goal.overflow_cast-regions-in-Value
-overflow_cast-regions-in-Value c = omega (arith, count-told c)
+pub overflow_cast-regions-2 : goal.overflow_cast-regions-2
+overflow_cast-regions-2 c = omega (arith, count-told c)
 
-pub overflow_add-regions-in-Value : goal.overflow_add-regions-in-Value
-overflow_add-regions-in-Value c = omega arith
+pub overflow_add-regions-2 : goal.overflow_add-regions-2
+overflow_add-regions-2 c = omega arith
 
-pub offset_bounds-regions-i-in-Value : goal.offset_bounds-regions-i-in-Value
-offset_bounds-regions-i-in-Value c = omega arith
+pub offset_bounds-regions-i-2 : goal.offset_bounds-regions-i-2
+offset_bounds-regions-i-2 c = omega arith
 
-pub bounds-regions-i-in-Value : goal.bounds-regions-i-in-Value
-bounds-regions-i-in-Value c = simp length-set (omega arith)
-
-pub overflow_add-l : goal.overflow_add-l
-overflow_add-l c = omega arith
-
-pub loop-l-smaller : goal.loop-l-smaller
-loop-l-smaller c = omega arith
+pub bounds-regions-i-2 : goal.bounds-regions-i-2
+bounds-regions-i-2 c = simp length-set (omega arith)
 
 pub loop-l-preserved : goal.loop-l-preserved
 loop-l-preserved c =
     let a = c.args in
     let l = c.loop-l in
-    let rows = c.in-Value.rows in
+    let rows = c.in_ok-rows.rows in
     let h : l.l < a.count = c.loop-l-test.true in
     let kept = regions-kept a.s.now a.version a.n a.count a.at a.regions.now l.regions l.l (l.place + 1) rows l.invariant.1.1.0 h in
-    let more = regions-go-on a.s.now a.version a.n a.count a.at l.regions l.l l.place l.invariant.1.1.1 h _ rows c.in-Value.next (omega arith) refl (rows-read c) in
+    let more = regions-go-on a.s.now a.version a.n a.count a.at l.regions l.l l.place l.invariant.1.1.1 h _ rows c.in_ok-rows.next (omega arith) refl (rows-read c) in
     (omega arith, (simp length-set l.invariant.1.0, (kept, more)))
 
 pub shape_of-regions : goal.shape_of-regions

@@ -1,5 +1,5 @@
 -- The time in its range, then the values. Assumes nothing.
-use mathlib.Core.Path.{◌≡◌, sym, ap, ◌∙◌}
+use Rattle.std.proofs.Common.{rules, Err, ◌≡◌, sym, ap, ◌∙◌}
 use mathlib.Core.List.{List}
 use Prim.Native.Nat.{ℕ, ◌-◌, ◌^◌}
 use native.Mathlib.Omega.{arith}
@@ -8,33 +8,34 @@ use Rattle.models.specs.Index.{entry, model_from}
 use Rattle.formats.specs.RunSheet.{read_flow}
 use Rattle.second_sheets.specs.RunAnswers.{step_as, held_step}
 use Rattle.fields.proofs.AnswerLaws.{field-value, field-refused}
+use Rattle.fields.specs.Causes.{number_of}
 use Rattle.second_sheets.proofs.RunLaws.{kept_same}
 use Rattle.second_sheets.proofs.StepLaws.{flow-refused, flow-told, flow-held}
 use Rattle.second_sheets.proofs.run.flow_step.Goals.{In-Refused}
 use Rattle.second_sheets.proofs.run.flow_step.Goals as goal
-
-pub overflow_cast-index : goal.overflow_cast-index
-overflow_cast-index c = omega (arith, c.shared_slice_known-in-Value-1.given 0)
 
 pub with_values-requires : goal.with_values-requires
 unfolding entry
 with_values-requires c = c.requires.1
 
 -- the time was refused
-cut : (c : In-Refused) (model : List ℕ) → read_flow (model_from model c.args.index.now) c.args.s.now c.args.at ≡ refused c.in-Refused.number c.in-Refused.place
+cut : (c : In-Refused) (model : List ℕ) → read_flow (model_from model c.args.index.now) c.args.s.now c.args.at ≡ refused (number_of c.in_err-time.field-0.0.0) c.in_err-time.field-0.0.1
 cut c model =
     let a = c.args in
-    flow-refused model a.index.now a.s.now a.at c.in-Refused.number c.in-Refused.place (sym c.word_within.ensures ∙ field-refused c.in-Refused.is)
+    flow-refused model a.index.now a.s.now a.at (number_of c.in_err-time.field-0.0.0) c.in_err-time.field-0.0.1 (sym c.word_within.ensures ∙ field-refused c.in_err-time.was)
 
-pub returns-in-Refused : goal.returns-in-Refused
+pub returns-in_err-time : goal.returns-in_err-time
 unfolding step_as held_step
-returns-in-Refused c = let a = c.args in record { by_index = λ model. sym (cut c model); by_index_2 = λ model. ap held_step (sym (cut c model)); kept_values = kept_same 0 (entry a.index.now 0) a.values.now }
+returns-in_err-time c =
+    let same : c.from_residual.result ≡ Err c.in_err-time.field-0.0 = search rules in
+    field-refused same ∙ let a = c.args in record { by_index = λ model. sym (cut c model); by_index_2 = λ model. ap held_step (sym (cut c model)); kept_values = kept_same 0 (entry a.index.now 0) a.values.now }
 
-pub returns-in-Value : goal.returns-in-Value
+
+pub returns : goal.returns
 unfolding entry
-returns-in-Value c =
+returns c =
     let a = c.args in
     let s = a.s.now in
     let index = a.index.now in
     let read = c.with_values in
-    let e : within 0 (2 ^ 24 - 1) u32 s a.at ≡ got c.in-Value.time c.in-Value.next = sym c.word_within.ensures ∙ field-value c.in-Value.is in record { by_index = λ model. read.ensures.by_index (entry index 1) ∙ flow-told model index s a.at c.in-Value.time c.in-Value.next e; by_index_2 = λ model. read.ensures.value ∙ flow-held model index s a.at c.in-Value.time c.in-Value.next e; kept_values = read.ensures.kept_values }
+    let e : within 0 (2 ^ 24 - 1) u32 s a.at ≡ got c.in_ok-time.time c.in_ok-time.next = sym c.word_within.ensures ∙ field-value c.in_ok-time.was in record { by_index = λ model. read.ensures.by_index (entry index 1) ∙ flow-told model index s a.at c.in_ok-time.time c.in_ok-time.next e; by_index_2 = λ model. read.ensures.value ∙ flow-held model index s a.at c.in_ok-time.time c.in_ok-time.next e; kept_values = read.ensures.kept_values }

@@ -1,5 +1,5 @@
 -- The bytes before this one are in their places and 255 stands after them, and the rest is read from here. Assumes nothing.
-use mathlib.Core.Path.{◌≡◌, sym, ap, ◌∙◌, subst}
+use Rattle.std.proofs.Common.{rules, Err, ◌≡◌, sym, ap, ◌∙◌, subst}
 use Prim.Native.Nat.{ℕ, ◌+◌, ◌*◌, ◌<◌}
 use native.Mathlib.Omega.{arith}
 use lib.ListN.{take, replicate}
@@ -9,14 +9,12 @@ use Rattle.formats.specs.Joint.{stays}
 use Rattle.second_sheets.specs.RunAnswers.{switch_byte, switch_bytes, held_bytes}
 use Rattle.models.specs.Index.{entry, component_place}
 use Rattle.fields.proofs.AnswerLaws.{field-value, field-refused}
+use Rattle.fields.specs.Causes.{number_of}
 use Rattle.second_sheets.proofs.RunLaws.{Front, front-start, front-put, switch-is, bytes-start, bytes-stop, bytes-go-on, bytes-end, bytes-held}
 use Rattle.second_sheets.proofs.run.switches.Goals as goal
 
 pub bounds-index-1 : goal.bounds-index-1
 bounds-index-1 c = omega arith
-
-pub overflow_cast-components : goal.overflow_cast-components
-overflow_cast-components c = omega (arith, c.shared_slice_known-3-1.given 1)
 
 pub loop-k-init : goal.loop-k-init
 loop-k-init c = (omega arith, (front-start 255 4, bytes-start c.args.index.now c.args.s.now c.args.at (replicate 4 255)))
@@ -24,10 +22,6 @@ loop-k-init c = (omega arith, (front-start 255 4, bytes-start c.args.index.now c
 pub overflow_mul-k : goal.overflow_mul-k
 unfolding entry
 overflow_mul-k c = omega arith
-
-pub overflow_add-k : goal.overflow_add-k
-unfolding entry
-overflow_add-k c = omega arith
 
 pub overflow_add-k-in-loop-k : goal.overflow_add-k-in-loop-k
 unfolding entry
@@ -41,16 +35,15 @@ pub bounds-index-k : goal.bounds-index-k
 unfolding entry
 bounds-index-k c = omega arith
 
-pub overflow_cast-index : goal.overflow_cast-index
-overflow_cast-index c = omega (arith, c.shared_slice_known-in-loop-k-1.given (16 + 219 * c.loop-k.k + 2))
-
-pub returns-in-Refused : goal.returns-in-Refused
+pub returns-in_err-switch : goal.returns-in_err-switch
 unfolding held_bytes entry component_place switch_byte stays
-returns-in-Refused c =
+returns-in_err-switch c =
     let a = c.args in
     let s = a.s.now in
     let l = c.loop-k in
-    ap held_bytes (bytes-stop a.index.now s a.at l.bytes l.k l.place l.invariant.1.1 c.loop-k-test.true c.in-Refused.number c.in-Refused.cut (sym c.byte_numbered.ensures ∙ field-refused c.in-Refused.is))
+    let same : c.from_residual.result ≡ Err c.in_err-switch.field-0.0 = search rules in
+    field-refused same ∙ ap held_bytes (bytes-stop a.index.now s a.at l.bytes l.k l.place l.invariant.1.1 c.loop-k-test.true (number_of c.in_err-switch.field-0.0.0) c.in_err-switch.field-0.0.1 (sym c.byte_numbered.ensures ∙ field-refused c.in_err-switch.was))
+
 
 pub overflow_cast-bytes : goal.overflow_cast-bytes
 unfolding entry component_place switch_byte stays
@@ -60,9 +53,9 @@ overflow_cast-bytes c =
     let l = c.loop-k in
     let index = a.index.now in
     let count = entry index (component_place l.k + 2) in
-    let v = c.in-Value.switch in
-    let after = c.in-Value.next in
-    let e : switch_byte count s l.place ≡ got v after = sym c.byte_numbered.ensures ∙ field-value c.in-Value.is in
+    let v = c.in_ok-switch.switch in
+    let after = c.in_ok-switch.next in
+    let e : switch_byte count s l.place ≡ got v after = sym c.byte_numbered.ensures ∙ field-value c.in_ok-switch.was in
     omega (arith, switch-is count s l.place v after e, c.shared_slice_known-2-1.given l.place)
 
 pub bounds-bytes-k : goal.bounds-bytes-k
@@ -73,9 +66,6 @@ pub overflow_add-k-in-loop-k-2 : goal.overflow_add-k-in-loop-k-2
 unfolding entry
 overflow_add-k-in-loop-k-2 c = omega arith
 
-pub loop-k-smaller : goal.loop-k-smaller
-loop-k-smaller c = omega arith
-
 pub loop-k-preserved : goal.loop-k-preserved
 unfolding entry component_place switch_byte stays
 loop-k-preserved c =
@@ -84,9 +74,9 @@ loop-k-preserved c =
     let l = c.loop-k in
     let index = a.index.now in
     let count = entry index (component_place l.k + 2) in
-    let v = c.in-Value.switch in
-    let after = c.in-Value.next in
-    let e : switch_byte count s l.place ≡ got v after = sym c.byte_numbered.ensures ∙ field-value c.in-Value.is in
+    let v = c.in_ok-switch.switch in
+    let after = c.in_ok-switch.next in
+    let e : switch_byte count s l.place ≡ got v after = sym c.byte_numbered.ensures ∙ field-value c.in_ok-switch.was in
     let room : l.k < 4 = omega arith in
     (omega arith, (front-put 255 4 l.bytes l.k v l.invariant.1.0 room, bytes-go-on index s a.at l.bytes l.k l.place l.invariant.1.1 c.loop-k-test.true v after (omega arith) e))
 

@@ -5,6 +5,3 @@ use Rattle.second_sheets.proofs.run.switches.Given as goal
 abbrev pub invariant-loop-k : goal.invariant-loop-k
 invariant-loop-k l =
     (l.k ≤ l.components) × (Front 255 4 l.bytes l.k × BytesRead l.index l.s l.at l.bytes l.k l.place)
-
-abbrev pub decreases-loop-k : goal.decreases-loop-k
-decreases-loop-k l = l.components - l.k

@@ -8,6 +8,3 @@ use Rattle.second_sheets.proofs.run.values_into.Given as goal
 abbrev pub invariant-loop-i : goal.invariant-loop-i
 invariant-loop-i l =
     (l.i ≤ l.n) × ((length l.values ≡ length l.initial.values) × (KeptValues 0 l.n l.initial.values l.values × ValuesRead l.s l.n l.at l.values l.i l.place))
-
-abbrev pub decreases-loop-i : goal.decreases-loop-i
-decreases-loop-i l = l.n - l.i

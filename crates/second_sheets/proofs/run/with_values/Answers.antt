@@ -1,18 +1,22 @@
 -- The values, then the step beside them, or the refusal. Assumes nothing.
+use Rattle.std.proofs.Common.{rules, Err, ◌≡◌}
 use lib.ListN.{take}
+use Rattle.fields.specs.Causes.{number_of}
 use Rattle.second_sheets.proofs.StepLaws.{with_at, with-held, with-refused, with_none}
 use Rattle.second_sheets.proofs.run.with_values.Goals as goal
 
-pub returns-in-Refused : goal.returns-in-Refused
-returns-in-Refused c =
+pub returns-in_err-after : goal.returns-in_err-after
+returns-in_err-after c =
     let a = c.args in
     let read = c.values_into in
     let xs = take a.n read.new.values in
-    let s = a.s.now in record { by_index = with-refused a.step a.n s a.at xs read.result read.ensures.result_after c.in-Refused.number c.in-Refused.place c.in-Refused.is; value = with_none a.step a.n s a.at xs read.result read.ensures.result_after c.in-Refused.number c.in-Refused.place c.in-Refused.is; kept_values = read.ensures.kept_values }
+    let same : c.from_residual.result ≡ Err c.in_err-after.field-0.0 = search rules in
+    field-refused same ∙ let s = a.s.now in record { by_index = with-refused a.step a.n s a.at xs read.result read.ensures.result_after (number_of c.in_err-after.field-0.0.0) c.in_err-after.field-0.0.1 c.in_err-after.was; value = with_none a.step a.n s a.at xs read.result read.ensures.result_after (number_of c.in_err-after.field-0.0.0) c.in_err-after.field-0.0.1 c.in_err-after.was; kept_values = read.ensures.kept_values }
 
-pub returns-in-At : goal.returns-in-At
-returns-in-At c =
+
+pub returns : goal.returns
+returns c =
     let a = c.args in
     let read = c.values_into in
     let xs = take a.n read.new.values in
-    let s = a.s.now in record { by_index = with_at a.step a.n s a.at xs read.result read.ensures.result_after c.in-At.after c.in-At.is; value = with-held a.step a.n s a.at xs read.result read.ensures.result_after c.in-At.after c.in-At.is; kept_values = read.ensures.kept_values }
+    let s = a.s.now in record { by_index = with_at a.step a.n s a.at xs read.result read.ensures.result_after c.in_ok-after.after c.in_ok-after.was; value = with-held a.step a.n s a.at xs read.result read.ensures.result_after c.in_ok-after.after c.in_ok-after.was; kept_values = read.ensures.kept_values }
