@@ -27,8 +27,7 @@ returns-in_err-hypothesis c =
     let a = c.args in
     let s = a.s.now in
     let same : c.from_residual.result ≡ Err c.in_err-hypothesis.field-0.0 = search rules in
-    field-refused same ∙ sym (bind-refused (must (λ v. leb a.least v) 9 (below a.hypotheses u8)) _ s a.at (ap (passing (λ v. leb a.least v) 9 a.at) (sym c.byte_below.ensures ∙ field-refused c.in_err-hypothesis.was)))
-
+    ap got_entry same ∙ sym (bind-refused (must (λ v. leb a.least v) 9 (below a.hypotheses u8)) _ s a.at (ap (passing (λ v. leb a.least v) 9 a.at) (sym c.byte_below.ensures ∙ field-refused c.in_err-hypothesis.was)))
 
 pub returns-in_err-multiplier : goal.returns-in_err-multiplier
 unfolding got_entry read_entry must
@@ -40,8 +39,7 @@ returns-in_err-multiplier c =
     let e : below a.hypotheses u8 s a.at ≡ got hypothesis next = sym c.byte_below.ensures ∙ field-value c.in_ok-hypothesis.was in
     let one : must (λ v. leb a.least v) 9 (below a.hypotheses u8) s a.at ≡ got hypothesis next = ap (passing (λ v. leb a.least v) 9 a.at) e ∙ least-in a.least hypothesis a.at next c.if-hypothesis-least.false in
     let same : c.from_residual-in_err-multiplier.result ≡ Err c.in_err-multiplier.field-0.0 = search rules in
-    field-refused same ∙ sym (bind-got (must (λ v. leb a.least v) 9 (below a.hypotheses u8)) _ s a.at one (bind-refused (within 1 (2 ^ 24 - 1) u32) _ s next (sym c.word_within.ensures ∙ field-refused c.in_err-multiplier.was)))
-
+    ap got_entry same ∙ sym (bind-got (must (λ v. leb a.least v) 9 (below a.hypotheses u8)) _ s a.at one (bind-refused (within 1 (2 ^ 24 - 1) u32) _ s next (sym c.word_within.ensures ∙ field-refused c.in_err-multiplier.was)))
 
 pub returns : goal.returns
 unfolding got_entry read_entry must give

@@ -4,14 +4,14 @@ use Prim.Native.Nat.{ℕ, ◌-◌, ◌^◌}
 use mathlib.Core.Bool.{cond}
 use Rattle.formats.specs.Reading.{got, u8, u32, within, give}
 use Rattle.fields.specs.Answers.{got_field}
-use Rattle.second_sheets.specs.CertificateAnswers.{read_head, got_head}
+use Rattle.second_sheets.specs.CertificateAnswers.{read_head}
 use Rattle.fields.proofs.AnswerLaws.{field-value, field-refused}
 use Rattle.formats.proofs.Gives.{bind-got}
 use Rattle.fields.proofs.Skipping.{bind-refused}
 use Rattle.second_sheets.proofs.certificate.proof_head.Goals as goal
 
 pub returns-in_err-k : goal.returns-in_err-k
-unfolding got_head read_head
+unfolding got_field read_head
 returns-in_err-k c =
     let a = c.args in
     let s = a.s.now in
@@ -20,9 +20,8 @@ returns-in_err-k c =
     let same : c.from_residual.result ≡ Err c.in_err-k.field-0.0 = search rules in
     field-refused same ∙ sym (bind-refused (within 0 most u32) _ s a.at (sym word ∙ field-refused c.in_err-k.was))
 
-
 pub returns-in_err-count : goal.returns-in_err-count
-unfolding got_head read_head
+unfolding got_field read_head
 returns-in_err-count c =
     let a = c.args in
     let s = a.s.now in
@@ -34,9 +33,8 @@ returns-in_err-count c =
     let same : c.from_residual-in_err-count.result ≡ Err c.in_err-count.field-0.0 = search rules in
     field-refused same ∙ sym (bind-got (within 0 most u32) _ s a.at e (bind-refused (within 0 128 u8) _ s next (sym c.byte_within.ensures ∙ field-refused c.in_err-count.was)))
 
-
 pub returns : goal.returns
-unfolding got_head read_head give
+unfolding got_field read_head give
 returns c =
     let a = c.args in
     let s = a.s.now in

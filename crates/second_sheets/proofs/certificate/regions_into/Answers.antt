@@ -40,32 +40,14 @@ rows-read c = sym c.condition.ensures ∙ rows-value c.args.s.now c.args.version
 count-told : (c : In_ok-rows) → CountRead 16 c.args.n c.args.s.now c.loop-l.place c.in_ok-rows.rows
 count-told c = condition-read 16 c.args.version c.args.n c.args.s.now c.loop-l.place (c.loop-l.place + 1) c.in_ok-rows.rows c.in_ok-rows.next (rows-read c)
 
-pub overflow_mul-i : goal.overflow_mul-i
-overflow_mul-i c = omega arith
-
 pub overflow_add-regions : goal.overflow_add-regions
 overflow_add-regions c = omega (arith, count-told c)
 
 pub overflow_cast-regions : goal.overflow_cast-regions
 overflow_cast-regions c = omega (arith, count-told c)
 
-pub offset_bounds-regions-i : goal.offset_bounds-regions-i
-offset_bounds-regions-i c = omega arith
-
-pub bounds-regions-i : goal.bounds-regions-i
-bounds-regions-i c = omega arith
-
-pub overflow_cast-regions-2 : goal.overflow_cast-regions-2
-overflow_cast-regions-2 c = omega (arith, count-told c)
-
-pub overflow_add-regions-2 : goal.overflow_add-regions-2
-overflow_add-regions-2 c = omega arith
-
-pub offset_bounds-regions-i-2 : goal.offset_bounds-regions-i-2
-offset_bounds-regions-i-2 c = omega arith
-
-pub bounds-regions-i-2 : goal.bounds-regions-i-2
-bounds-regions-i-2 c = simp length-set (omega arith)
+pub overflow_cast-regions-in-loop-l : goal.overflow_cast-regions-in-loop-l
+overflow_cast-regions-in-loop-l c = omega (arith, count-told c)
 
 pub loop-l-preserved : goal.loop-l-preserved
 loop-l-preserved c =

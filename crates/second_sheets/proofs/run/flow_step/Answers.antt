@@ -2,7 +2,6 @@
 use Rattle.std.proofs.Common.{rules, Err, ◌≡◌, sym, ap, ◌∙◌}
 use mathlib.Core.List.{List}
 use Prim.Native.Nat.{ℕ, ◌-◌, ◌^◌}
-use native.Mathlib.Omega.{arith}
 use Rattle.formats.specs.Reading.{got, refused, u32, within}
 use Rattle.models.specs.Index.{entry, model_from}
 use Rattle.formats.specs.RunSheet.{read_flow}
@@ -11,7 +10,7 @@ use Rattle.fields.proofs.AnswerLaws.{field-value, field-refused}
 use Rattle.fields.specs.Causes.{number_of}
 use Rattle.second_sheets.proofs.RunLaws.{kept_same}
 use Rattle.second_sheets.proofs.StepLaws.{flow-refused, flow-told, flow-held}
-use Rattle.second_sheets.proofs.run.flow_step.Goals.{In-Refused}
+use Rattle.second_sheets.proofs.run.flow_step.Goals.{In_err-time}
 use Rattle.second_sheets.proofs.run.flow_step.Goals as goal
 
 pub with_values-requires : goal.with_values-requires
@@ -19,7 +18,7 @@ unfolding entry
 with_values-requires c = c.requires.1
 
 -- the time was refused
-cut : (c : In-Refused) (model : List ℕ) → read_flow (model_from model c.args.index.now) c.args.s.now c.args.at ≡ refused (number_of c.in_err-time.field-0.0.0) c.in_err-time.field-0.0.1
+cut : (c : In_err-time) (model : List ℕ) → read_flow (model_from model c.args.index.now) c.args.s.now c.args.at ≡ refused (number_of c.in_err-time.field-0.0.0) c.in_err-time.field-0.0.1
 cut c model =
     let a = c.args in
     flow-refused model a.index.now a.s.now a.at (number_of c.in_err-time.field-0.0.0) c.in_err-time.field-0.0.1 (sym c.word_within.ensures ∙ field-refused c.in_err-time.was)
@@ -28,8 +27,7 @@ pub returns-in_err-time : goal.returns-in_err-time
 unfolding step_as held_step
 returns-in_err-time c =
     let same : c.from_residual.result ≡ Err c.in_err-time.field-0.0 = search rules in
-    field-refused same ∙ let a = c.args in record { by_index = λ model. sym (cut c model); by_index_2 = λ model. ap held_step (sym (cut c model)); kept_values = kept_same 0 (entry a.index.now 0) a.values.now }
-
+    let a = c.args in record { by_index = λ model. ap (step_as _ _) same ∙ sym (cut (goal.at.returns-in_err-time c).In_err-time model); by_index_2 = λ model. field-refused same ∙ ap held_step (sym (cut (goal.at.returns-in_err-time c).In_err-time model)); kept_values = kept_same 0 (entry a.index.now 0) a.values.now }
 
 pub returns : goal.returns
 unfolding entry

@@ -2,7 +2,6 @@
 use Rattle.std.proofs.Common.{rules, Err, ◌≡◌, sym, ap, ◌∙◌}
 use mathlib.Core.List.{List}
 use Prim.Native.Nat.{ℕ}
-use native.Mathlib.Omega.{arith}
 use Rattle.formats.specs.Reading.{got, refused, u8, within}
 use Rattle.models.specs.Index.{entry, model_from}
 use Rattle.formats.specs.RunSheet.{read_jump}
@@ -11,7 +10,7 @@ use Rattle.fields.proofs.AnswerLaws.{field-value, field-refused}
 use Rattle.fields.specs.Causes.{number_of}
 use Rattle.second_sheets.proofs.RunLaws.{kept_same}
 use Rattle.second_sheets.proofs.StepLaws.{switches-told, switches-refused, jump-refused, jump-cut, jump-told, jump-held}
-use Rattle.second_sheets.proofs.run.jump_step.Goals.{After-switches, In-Refused, In-Refused-switches}
+use Rattle.second_sheets.proofs.run.jump_step.Goals.{After-switches, In_err-event, In_err-by}
 use Rattle.second_sheets.proofs.run.jump_step.Goals as goal
 
 pub with_values-requires : goal.with_values-requires
@@ -23,30 +22,28 @@ event-read : (c : After-switches) → within 0 15 u8 c.args.s.now c.args.at ≡ 
 event-read c = sym c.byte_within.ensures ∙ field-value c.in_ok-event.was
 
 -- the event was refused, and a switch byte
-no-event : (c : In-Refused) (model : List ℕ) → read_jump (model_from model c.args.index.now) c.args.s.now c.args.at ≡ refused (number_of c.in_err-event.field-0.0.0) c.in_err-event.field-0.0.1
+no-event : (c : In_err-event) (model : List ℕ) → read_jump (model_from model c.args.index.now) c.args.s.now c.args.at ≡ refused (number_of c.in_err-event.field-0.0.0) c.in_err-event.field-0.0.1
 no-event c model =
     let a = c.args in
     jump-refused model a.index.now a.s.now a.at (number_of c.in_err-event.field-0.0.0) c.in_err-event.field-0.0.1 (sym c.byte_within.ensures ∙ field-refused c.in_err-event.was)
 
-no_switch : (c : In-Refused-switches) (model : List ℕ) → read_jump (model_from model c.args.index.now) c.args.s.now c.args.at ≡ refused (number_of c.in_err-by.field-0.0.0) c.in_err-by.field-0.0.1
+no_switch : (c : In_err-by) (model : List ℕ) → read_jump (model_from model c.args.index.now) c.args.s.now c.args.at ≡ refused (number_of c.in_err-by.field-0.0.0) c.in_err-by.field-0.0.1
 no_switch c model =
     let a = c.args in
     let bytes = switch_bytes a.index.now a.s.now c.in_ok-event.next in
-    jump-cut model a.index.now a.s.now a.at c.in_ok-event.event c.in_ok-event.next (event-read (goal.at.In-Refused-switches c).After-switches) (number_of c.in_err-by.field-0.0.0) c.in_err-by.field-0.0.1 (switches-refused bytes c.switches.result (number_of c.in_err-by.field-0.0.0) c.in_err-by.field-0.0.1 c.switches.ensures c.in_err-by.was)
+    jump-cut model a.index.now a.s.now a.at c.in_ok-event.event c.in_ok-event.next (event-read (goal.at.In_err-by c).After-switches) (number_of c.in_err-by.field-0.0.0) c.in_err-by.field-0.0.1 (switches-refused bytes c.switches.result _ c.switches.ensures c.in_err-by.was)
 
 pub returns-in_err-event : goal.returns-in_err-event
 unfolding step_as held_step
 returns-in_err-event c =
     let same : c.from_residual.result ≡ Err c.in_err-event.field-0.0 = search rules in
-    field-refused same ∙ let a = c.args in record { by_index = λ model. sym (no-event c model); by_index_2 = λ model. ap held_step (sym (no-event c model)); kept_values = kept_same 0 (entry a.index.now 0) a.values.now }
-
+    let a = c.args in record { by_index = λ model. ap (step_as _ _) same ∙ sym (no-event (goal.at.returns-in_err-event c).In_err-event model); by_index_2 = λ model. field-refused same ∙ ap held_step (sym (no-event (goal.at.returns-in_err-event c).In_err-event model)); kept_values = kept_same 0 (entry a.index.now 0) a.values.now }
 
 pub returns-in_err-by : goal.returns-in_err-by
 unfolding step_as held_step
 returns-in_err-by c =
     let same : c.from_residual-in_err-by.result ≡ Err c.in_err-by.field-0.0 = search rules in
-    field-refused same ∙ let a = c.args in record { by_index = λ model. sym (no_switch c model); by_index_2 = λ model. ap held_step (sym (no_switch c model)); kept_values = kept_same 0 (entry a.index.now 0) a.values.now }
-
+    let a = c.args in record { by_index = λ model. ap (step_as _ _) same ∙ sym (no_switch (goal.at.returns-in_err-by c).In_err-by model); by_index_2 = λ model. field-refused same ∙ ap held_step (sym (no_switch (goal.at.returns-in_err-by c).In_err-by model)); kept_values = kept_same 0 (entry a.index.now 0) a.values.now }
 
 pub returns : goal.returns
 unfolding entry

@@ -5,7 +5,7 @@ use Rattle.formats.specs.Reading.{got, u16, u32, within}
 use Rattle.second_sheets.specs.RunAnswers.{opening_as}
 use Rattle.fields.proofs.AnswerLaws.{field-value, field-refused}
 use Rattle.fields.specs.Causes.{number_of}
-use Rattle.second_sheets.proofs.StepLaws.{fields-first, fields-second, fields-third, fields_read}
+use Rattle.second_sheets.proofs.StepLaws.{fields-refused, fields-first, fields-second, fields-third, fields_read}
 use Rattle.second_sheets.proofs.run.opening_fields.Goals as goal
 
 pub returns-in_err-q : goal.returns-in_err-q
@@ -14,8 +14,7 @@ returns-in_err-q c =
     let a = c.args in
     let s = a.s.now in
     let same : c.from_residual.result ≡ Err c.in_err-q.field-0.0 = search rules in
-    field-refused same ∙ sym (fields-first s a.at a.locations (number_of c.in_err-q.field-0.0.0) c.in_err-q.field-0.0.1 (sym c.word_within.ensures ∙ field-refused c.in_err-q.was))
-
+    fields-refused _ _ same ∙ sym (fields-first s a.at a.locations (number_of c.in_err-q.field-0.0.0) c.in_err-q.field-0.0.1 (sym c.word_within.ensures ∙ field-refused c.in_err-q.was))
 
 pub returns-in_err-steps : goal.returns-in_err-steps
 unfolding opening_as
@@ -26,8 +25,7 @@ returns-in_err-steps c =
     let second = c.in_ok-q.second in
     let one : within 1 (2 ^ 24 - 1) u32 s a.at ≡ got q second = sym c.word_within.ensures ∙ field-value c.in_ok-q.was in
     let same : c.from_residual-in_err-steps.result ≡ Err c.in_err-steps.field-0.0 = search rules in
-    field-refused same ∙ sym (fields-second s a.at a.locations q second one (number_of c.in_err-steps.field-0.0.0) c.in_err-steps.field-0.0.1 (sym c.half_within.ensures ∙ field-refused c.in_err-steps.was))
-
+    fields-refused _ _ same ∙ sym (fields-second s a.at a.locations q second one (number_of c.in_err-steps.field-0.0.0) c.in_err-steps.field-0.0.1 (sym c.half_within.ensures ∙ field-refused c.in_err-steps.was))
 
 pub returns-in_err-location : goal.returns-in_err-location
 unfolding opening_as
@@ -41,8 +39,7 @@ returns-in_err-location c =
     let third = c.in_ok-steps.third in
     let two : within 0 4095 u16 s second ≡ got steps third = sym c.half_within.ensures ∙ field-value c.in_ok-steps.was in
     let same : c.from_residual-in_err-location.result ≡ Err c.in_err-location.field-0.0 = search rules in
-    field-refused same ∙ sym (fields-third s a.at a.locations q second one steps third two (number_of c.in_err-location.field-0.0.0) c.in_err-location.field-0.0.1 (sym c.byte_below.ensures ∙ field-refused c.in_err-location.was))
-
+    fields-refused _ _ same ∙ sym (fields-third s a.at a.locations q second one steps third two (number_of c.in_err-location.field-0.0.0) c.in_err-location.field-0.0.1 (sym c.byte_below.ensures ∙ field-refused c.in_err-location.was))
 
 pub returns : goal.returns
 unfolding opening_as

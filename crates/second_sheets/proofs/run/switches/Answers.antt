@@ -1,9 +1,10 @@
 -- The bytes before this one are in their places and 255 stands after them, and the rest is read from here. Assumes nothing.
 use Rattle.std.proofs.Common.{rules, Err, ◌≡◌, sym, ap, ◌∙◌, subst}
-use Prim.Native.Nat.{ℕ, ◌+◌, ◌*◌, ◌<◌}
+use Prim.Native.Nat.{ℕ, ◌+◌, ◌<◌}
 use native.Mathlib.Omega.{arith}
 use lib.ListN.{take, replicate}
-use Rattle.second_sheets.specs.declared.SwitchesRead.TheVariants as switches
+use Rattle.formats.specs.Reading.{got}
+use Rattle.fields.specs.Answers.{got_field}
 use Rattle.formats.specs.Reading.{got}
 use Rattle.formats.specs.Joint.{stays}
 use Rattle.second_sheets.specs.RunAnswers.{switch_byte, switch_bytes, held_bytes}
@@ -44,7 +45,6 @@ returns-in_err-switch c =
     let same : c.from_residual.result ≡ Err c.in_err-switch.field-0.0 = search rules in
     field-refused same ∙ ap held_bytes (bytes-stop a.index.now s a.at l.bytes l.k l.place l.invariant.1.1 c.loop-k-test.true (number_of c.in_err-switch.field-0.0.0) c.in_err-switch.field-0.0.1 (sym c.byte_numbered.ensures ∙ field-refused c.in_err-switch.was))
 
-
 pub overflow_cast-bytes : goal.overflow_cast-bytes
 unfolding entry component_place switch_byte stays
 overflow_cast-bytes c =
@@ -62,10 +62,6 @@ pub bounds-bytes-k : goal.bounds-bytes-k
 unfolding entry
 bounds-bytes-k c = omega arith
 
-pub overflow_add-k-in-loop-k-2 : goal.overflow_add-k-in-loop-k-2
-unfolding entry
-overflow_add-k-in-loop-k-2 c = omega arith
-
 pub loop-k-preserved : goal.loop-k-preserved
 unfolding entry component_place switch_byte stays
 loop-k-preserved c =
@@ -81,7 +77,7 @@ loop-k-preserved c =
     (omega arith, (front-put 255 4 l.bytes l.k v l.invariant.1.0 room, bytes-go-on index s a.at l.bytes l.k l.place l.invariant.1.1 c.loop-k-test.true v after (omega arith) e))
 
 pub returns : goal.returns
-unfolding held_bytes entry
+unfolding got_field held_bytes entry
 returns c =
     let a = c.args in
     let s = a.s.now in
@@ -90,4 +86,4 @@ returns c =
     let count = entry index 1 in
     let h : l.k ≡ count = omega arith in
     let e : got (take count l.bytes) l.place ≡ switch_bytes index s a.at = bytes-end index s a.at l.bytes l.k l.place l.invariant.1.1 h (omega arith) in
-    ap (λ w. switches.Good w l.place) (bytes-held l.bytes count (subst (λ (k : ℕ). Front 255 4 l.bytes k) h l.invariant.1.0) c.requires.1) ∙ ap held_bytes e
+    ap (λ w. got w l.place) (bytes-held l.bytes count (subst (λ (k : ℕ). Front 255 4 l.bytes k) h l.invariant.1.0) c.requires.1) ∙ ap held_bytes e

@@ -1,4 +1,4 @@
-use Prim.Native.Nat.{◌-◌, ◌≤◌}
+use Prim.Native.Nat.{◌≤◌}
 use Rattle.second_sheets.proofs.RunLaws.{Front, BytesRead}
 use Rattle.second_sheets.proofs.run.switches.Given as goal
 

@@ -10,7 +10,8 @@ use mir.Syntax.{w64}
 use mir.Val.{to_z, of_z}
 use mir.Facts.{to_z-of_z}
 use Rattle.formats.specs.Reading.{got, passing}
-use Rattle.second_sheets.specs.RunAnswers.{read_value, got_signed}
+use Rattle.fields.specs.Answers.{got_field}
+use Rattle.second_sheets.specs.RunAnswers.{read_value}
 use Rattle.second_sheets.proofs.RunLaws.{in_range, value_low, value-high, value_in, value-whole, value-cut}
 use Rattle.second_sheets.proofs.run.value.Goals.{After-signed_word-value, Else-value-lt-LEAST_VALUE}
 use Rattle.second_sheets.proofs.run.value.Goals as goal
@@ -29,21 +30,21 @@ low : (c : Else-value-lt-LEAST_VALUE) → lt_z c.signed_word-value.result (negsu
 low c = ap (λ (x : ℤ). lt_z x (negsuc 134217727)) (sym (back (goal.at.Else-value-lt-LEAST_VALUE c).After-signed_word-value)) ∙ c.if-value-lt-LEAST_VALUE.false
 
 pub returns-then-length-lt4 : goal.returns-then-length-lt4
-unfolding got_signed
+unfolding got_field
 returns-then-length-lt4 c =
     let a = c.args in
     let h : length a.s.now < 4 = c.if-length-lt4.true in
     sym (value-cut a.s.now a.at (omega arith))
 
 pub returns-then-length-at : goal.returns-then-length-at
-unfolding got_signed
+unfolding got_field
 returns-then-length-at c =
     let a = c.args in
     let h : length a.s.now < a.at + 4 = omega (arith, c.if-length-lt4.false, c.if-length-at.true) in
     sym (value-cut a.s.now a.at h)
 
 pub returns-then-value-lt-LEAST_VALUE : goal.returns-then-value-lt-LEAST_VALUE
-unfolding got_signed
+unfolding got_field
 returns-then-value-lt-LEAST_VALUE c =
     let a = c.args in
     let v = c.signed_word-value.result in
@@ -51,7 +52,7 @@ returns-then-value-lt-LEAST_VALUE c =
     sym (told (goal.at.returns-then-value-lt-LEAST_VALUE c).After-signed_word-value ∙ value_low v a.at (a.at + 4) under)
 
 pub returns-then-value-gt-MOST_VALUE : goal.returns-then-value-gt-MOST_VALUE
-unfolding got_signed
+unfolding got_field
 returns-then-value-gt-MOST_VALUE c =
     let a = c.args in
     let v = c.signed_word-value.result in
@@ -59,7 +60,7 @@ returns-then-value-gt-MOST_VALUE c =
     sym (told (goal.at.returns-then-value-gt-MOST_VALUE c).After-signed_word-value ∙ value-high v a.at (a.at + 4) (low (goal.at.returns-then-value-gt-MOST_VALUE c).Else-value-lt-LEAST_VALUE) high)
 
 pub returns : goal.returns
-unfolding got_signed
+unfolding got_field
 returns c =
     let a = c.args in
     let v = c.signed_word-value.result in

@@ -10,9 +10,9 @@ use mir.Facts.{to_z-of_z}
 use Rattle.formats.specs.Reading.{got}
 use Rattle.fields.specs.Answers.{got_as}
 use Rattle.second_sheets.specs.RunAnswers.{read_value}
-use Rattle.fields.proofs.AnswerLaws.{next-refused}
+use Rattle.fields.proofs.AnswerLaws.{field-value, field-refused, next-refused}
 use Rattle.fields.specs.Causes.{number_of}
-use Rattle.second_sheets.proofs.RunLaws.{signed-value, signed-refused, values-start, values-stop, values-go-on, values-end, kept_same, kept_put}
+use Rattle.second_sheets.proofs.RunLaws.{values-start, values-stop, values-go-on, values-end, kept_same, kept_put}
 use Rattle.second_sheets.proofs.run.values_into.Goals as goal
 
 pub loop-i-init : goal.loop-i-init
@@ -28,7 +28,7 @@ returns-in_err-v c =
     let number = (number_of c.in_err-v.field-0.0.0) in
     let cut = c.in_err-v.field-0.0.1 in
     let same : c.from_residual.result ≡ Err c.in_err-v.field-0.0 = search rules in
-    record { result_after = next-refused _ same ∙ (values-stop a.s.now a.n a.at l.values l.i l.place l.invariant.1.1.1 c.loop-i-test.true number cut (sym c.value.ensures ∙ signed-refused c.in_err-v.was)); kept_values = l.invariant.1.1.0 }
+    record { result_after = next-refused _ same ∙ (values-stop a.s.now a.n a.at l.values l.i l.place l.invariant.1.1.1 c.loop-i-test.true number cut (sym c.value.ensures ∙ field-refused c.in_err-v.was)); kept_values = l.invariant.1.1.0 }
 
 pub offset_bounds-values-i : goal.offset_bounds-values-i
 offset_bounds-values-i c = omega arith
@@ -44,7 +44,7 @@ loop-i-preserved c =
     let after = c.in_ok-v.next in
     let h = c.loop-i-test.true in
     let back : to_z w64 (of_z w64 v) ≡ v = to_z-of_z {w = w64} {z = v} (search rules) in
-    let e : read_value a.s.now l.place ≡ got (to_z w64 (of_z w64 v)) after = sym c.value.ensures ∙ signed-value c.in_ok-v.was ∙ ap (λ (x : ℤ). got x after) (sym back) in (
+    let e : read_value a.s.now l.place ≡ got (to_z w64 (of_z w64 v)) after = sym c.value.ensures ∙ field-value c.in_ok-v.was ∙ ap (λ (x : ℤ). got x after) (sym back) in (
       omega arith,
       (simp length-set l.invariant.1.0, (kept_put a.n l.values l.i (to_z w64 (of_z w64 v)) h l.invariant.1.1.0, values-go-on a.s.now a.n a.at l.values l.i l.place l.invariant.1.1.1 h (to_z w64 (of_z w64 v)) after (omega arith) e)),
     )

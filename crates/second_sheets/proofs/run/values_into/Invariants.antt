@@ -1,5 +1,5 @@
 use mathlib.Core.Path.{◌≡◌}
-use Prim.Native.Nat.{◌-◌, ◌≤◌}
+use Prim.Native.Nat.{◌≤◌}
 use lib.ListN.{length}
 use Rattle.second_sheets.specs.RunAnswers.{KeptValues}
 use Rattle.second_sheets.proofs.RunLaws.{ValuesRead}
