@@ -22,14 +22,13 @@ use Rattle.papers.proofs.PaperLaws.{accepted}
 use Rattle.papers.proofs.SecondLaws.{second-stops, second-body, second-goes-on}
 
 -- an answer that refuses has a number
-pub refuses : {a : Answer} (number sheet place done score : ℕ) → a ≡ answer number sheet place done score → 1 ≤ number → a.number ≡ 0 → ⊥
+pub has-number : {a : Answer} (number sheet place done score : ℕ) → a ≡ answer number sheet place done score → 1 ≤ number → 1 ≤ a.number
 unfolding answer
-refuses number sheet place done score e h z = omega (arith, ap (λ (x : Answer). x.number) e)
+has-number number sheet place done score e h = omega (arith, ap (λ (x : Answer). x.number) e)
 
--- an answer's place
-pub answer-place : {a : Answer} (number sheet place done score : ℕ) → a ≡ answer number sheet place done score → a.place ≡ place
-unfolding answer
-answer-place number sheet place done score e = ap (λ (x : Answer). x.place) e
+-- an answer that equals one with a number refuses
+pub numbered : {a b : Answer} → a ≡ b → 1 ≤ a.number → b.number ≡ 0 → ⊥
+numbered e h z = omega (arith, ap (λ (x : Answer). x.number) e)
 
 -- the model's answer: number 0, or the refusal
 module _ (limits : Limits) (model : List ℕ) where

@@ -9,8 +9,6 @@ use Rattle.models.specs.Index.{version_in, entry, components_from, GoodIndex, mo
 use Rattle.joint_switches.specs.Counted.{Counted}
 use Rattle.second_sheets.specs.CertificateAnswers.{regions_from, GoodRegions}
 use Rattle.rules.specs.Obligations.{region_of, Obligation, obligations, location_obligations, jumps_obligations}
-use Rattle.fields.specs.declared.Next.{Next}
-use Rattle.fields.specs.declared.Next.TheVariants as next
 
 -- a model that was read: its index is good and has its counts, its sheet is short, and its locations and joint switches are no more than
 -- the exam allows
@@ -44,7 +42,7 @@ location_obligations_for model index second regions = location_obligations (mode
 abbrev pub jumps_obligations_for : List ℕ → List ℕ → List ℕ → List ℕ → ℕ → List JointSwitch → List Obligation
 jumps_obligations_for model index second regions = jumps_obligations (model_from model index) (regions_of model index second regions)
 
--- where reading went on, or the refusal
-unfoldable pub held_next : {A : Type 0} → Got A → Next
-held_next (got a p) = next.At p
-held_next (refused number place) = next.Refused number place
+-- where reading went on, whatever was read, or the refusal
+unfoldable pub held_next : {A : Type 0} → Got A → Got (Unit {0})
+held_next (got a p) = got tt p
+held_next (refused number place) = refused number place

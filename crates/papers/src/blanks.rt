@@ -21,13 +21,11 @@ fn unmentioned(s: &[u8], index: &Index, place: usize, count: usize, i: usize) ->
     let version = version_of(index);
     let rows = number_at(index, place + COUNT_AT);
     let mut at = number_at(index, place);
-    let mut j: usize = 0;
-    while j < rows {
+    for _j in 0..rows {
         if number(s, at + 4 * i) != 0 {
             return false;
         }
         at += row_bytes(version, count);
-        j += 1;
     }
     true
 }

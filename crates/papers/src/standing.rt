@@ -26,12 +26,10 @@ pub fn all_start(model: &[u8], index: &Index, modes: [u8; 4]) -> bool
     ensures { result ≡ every (λ mode. eqb mode.start 1) (present (components_from model.now index.now) (per_component index.now modes)) }
 {
     let components = index[COMPONENTS_AT] as usize;
-    let mut k: usize = 0;
-    while k < components {
+    for k in 0..components {
         if !is_start(index, k, modes[k]) {
             return false;
         }
-        k += 1;
     }
     true
 }
@@ -52,12 +50,10 @@ pub fn modes_fit(model: &[u8], index: &Index, u: usize, modes: [u8; 4]) -> bool
     ensures { result ≡ modes_fit (condition_at model.now index.now u).modes (per_component index.now modes) }
 {
     let components = index[COMPONENTS_AT] as usize;
-    let mut k: usize = 0;
-    while k < components {
+    for k in 0..components {
         if !mode_fits(index[FIRST_UNSAFE + UNSAFE_LENGTH * u + k], modes[k]) {
             return false;
         }
-        k += 1;
     }
     true
 }

@@ -42,9 +42,9 @@ rows-within c =
     let version = c.version_of-version in
     let l = c.loop-j in
     let index = c.args.index.now in
-    let few : l.j < entry index (c.args.place + 1) = omega (arith, c.loop-j-test.true, c.number_at-rows.ensures) in
-    row_room (entry index c.args.place) version.result c.args.count l.at l.j l.invariant.1.0 (length c.args.s.now)
-    (subst (λ (v : ℕ). entry index c.args.place + row_bytes v c.args.count * (l.j + 1) ≤ length c.args.s.now) (sym version.ensures) (c.requires.s_len_bound.1.1.within l.j few))
+    let few : l._j < entry index (c.args.place + 1) = omega (arith, c.loop-j-test.true, c.number_at-rows.ensures) in
+    row_room (entry index c.args.place) version.result c.args.count l.at l._j l.invariant.1.0 (length c.args.s.now)
+    (subst (λ (v : ℕ). entry index c.args.place + row_bytes v c.args.count * (l._j + 1) ≤ length c.args.s.now) (sym version.ensures) (c.requires.s_len_bound.1.1.within l._j few))
 
 -- the coefficient's bytes
 word-within : (c : In-loop-j) → c.loop-j.at + 4 * c.args.i + 4 ≤ length c.args.s.now
@@ -69,19 +69,13 @@ returns-then-number-ne0 c =
     let rows = c.number_at-rows.result in
     let n = c.number in
     let zero : eqb n.result 0 ≡ zero_at a.i (row_at a.s.now version a.count l.at) = ap (λ (x : ℕ). eqb x 0) n.ensures ∙ zero-at a.s.now l.at version a.count a.i c.requires.i_lt_count.0 in
-    rows-fail (zero_at a.i) a.s.now version a.count _ l.at rows l.j (eqb n.result 0) c.loop-j-test.true zero (ne_eqb n.result 0 c.if-number-ne0.true) l.invariant.1.1
+    rows-fail (zero_at a.i) a.s.now version a.count _ l.at rows l._j (eqb n.result 0) c.loop-j-test.true zero (ne_eqb n.result 0 c.if-number-ne0.true) l.invariant.1.1
 
 pub row_bytes-at-requires : goal.row_bytes-at-requires
 row_bytes-at-requires c = c.requires.i_lt_count.1
 
 pub overflow_add-at-in-loop-j : goal.overflow_add-at-in-loop-j
 overflow_add-at-in-loop-j c = omega (arith, rows-within (goal.at.overflow_add-at-in-loop-j c).In-loop-j, c.row_bytes-at.ensures)
-
-pub overflow_add-j : goal.overflow_add-j
-overflow_add-j c = omega arith
-
-pub loop-j-smaller : goal.loop-j-smaller
-loop-j-smaller c = omega arith
 
 pub loop-j-preserved : goal.loop-j-preserved
 loop-j-preserved c =
@@ -92,12 +86,12 @@ loop-j-preserved c =
     let n = c.number in
     let size = c.row_bytes-at in
     let zero : eqb n.result 0 ≡ zero_at a.i (row_at a.s.now version a.count l.at) = ap (λ (x : ℕ). eqb x 0) n.ensures ∙ zero-at a.s.now l.at version a.count a.i c.requires.i_lt_count.0 in
-    let next : l.at + size.result ≡ entry a.index.now a.place + row_bytes version a.count * (l.j + 1) = ap (λ (k : ℕ). l.at + k) size.ensures ∙ row_next (entry a.index.now a.place) version a.count l.at l.j l.invariant.1.0 in (
+    let next : l.at + size.result ≡ entry a.index.now a.place + row_bytes version a.count * (l._j + 1) = ap (λ (k : ℕ). l.at + k) size.ensures ∙ row_next (entry a.index.now a.place) version a.count l.at l._j l.invariant.1.0 in (
       omega arith,
       (
         next,
-        ap (λ (k : ℕ). every (zero_at a.i) (rows_from a.s.now version a.count (l.at + k) (rows - (l.j + 1)))) size.ensures
-            ∙ rows_pass (zero_at a.i) a.s.now version a.count _ l.at rows l.j (eqb n.result 0) c.loop-j-test.true zero (eq-eqb n.result 0 c.if-number-ne0.false) l.invariant.1.1,
+        ap (λ (k : ℕ). every (zero_at a.i) (rows_from a.s.now version a.count (l.at + k) (rows - (l._j + 1)))) size.ensures
+            ∙ rows_pass (zero_at a.i) a.s.now version a.count _ l.at rows l._j (eqb n.result 0) c.loop-j-test.true zero (eq-eqb n.result 0 c.if-number-ne0.false) l.invariant.1.1,
       ),
     )
 
@@ -106,4 +100,4 @@ unfolding runs.unmentioned
 returns c =
     let a = c.args in
     let l = c.loop-j in
-    rows_none (zero_at a.i) a.s.now c.version_of-version.result a.count _ l.at c.number_at-rows.result l.j c.loop-j-test.false l.invariant.1.1
+    rows_none (zero_at a.i) a.s.now c.version_of-version.result a.count _ l.at c.number_at-rows.result l._j c.loop-j-test.false l.invariant.1.1

@@ -9,9 +9,6 @@ use Rattle.papers.proofs.blanks.unmentioned.Given as goal
 
 abbrev pub invariant-loop-j : goal.invariant-loop-j
 invariant-loop-j l =
-    (l.j ≤ l.rows)
-    × ((l.at ≡ entry l.index l.place + row_bytes l.version l.count * l.j)
-    × (every (zero_at l.i) (rows_from l.s l.version l.count l.at (l.rows - l.j)) ≡ every (zero_at l.i) (span_rows l.s (entry l.index 11) l.count l.index l.place)))
-
-abbrev pub decreases-loop-j : goal.decreases-loop-j
-decreases-loop-j l = l.rows - l.j
+    (l._j ≤ l.rows)
+    × ((l.at ≡ entry l.index l.place + row_bytes l.version l.count * l._j)
+    × (every (zero_at l.i) (rows_from l.s l.version l.count l.at (l.rows - l._j)) ≡ every (zero_at l.i) (span_rows l.s (entry l.index 11) l.count l.index l.place)))

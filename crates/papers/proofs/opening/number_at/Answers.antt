@@ -4,4 +4,4 @@ use Rattle.papers.proofs.opening.number_at.Goals as goal
 
 pub returns : goal.returns
 unfolding entry
-returns c = c.offset.ensures
+returns c = c.from.ensures

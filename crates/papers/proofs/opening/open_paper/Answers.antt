@@ -1,24 +1,26 @@
 -- The model, then the second sheet. Assumes nothing.
-use mathlib.Core.Path.{◌≡◌, sym, ap, ◌∙◌, subst}
+use Rattle.std.proofs.Common.{rules, ◌≡◌, Err, sym, ap, ◌∙◌}
 use mathlib.Core.List.{List}
 use Prim.Native.Nat.{ℕ}
-use native.Mathlib.Omega.{arith}
+use Rattle.fields.specs.Causes.{number_of}
 use Rattle.formats.specs.Reading.{got, refused}
 use Rattle.formats.specs.Model.{Model}
 use Rattle.models.specs.Index.{model_from}
-use Rattle.rules.specs.declared.Answer.{Answer}
 use Rattle.rules.specs.Opening.{open_second}
 use Rattle.fields.proofs.AnswerLaws.{field-value, field-refused}
-use Rattle.papers.specs.Opening.{ModelOpen, Open}
+use Rattle.papers.specs.Opening.{ModelOpen, model_answer, paper_answer}
 use Rattle.papers.proofs.SecondLaws.{second-number, second-placed}
-use Rattle.papers.proofs.OpenLaws.{refuses, answer-place, opened-model, opened-second, opened_both, is_open}
-use Rattle.papers.proofs.opening.open_paper.Goals.{After-open_second, In-Refused, In-Value}
+use Rattle.papers.proofs.OpenLaws.{has-number, numbered, opened-model, opened-second, opened_both, is_open}
+use Rattle.papers.proofs.opening.open_paper.Goals.{After-open_second, In-Err, In-Ok}
 use Rattle.papers.proofs.opening.open_paper.Goals as goal
 
-pub returns-then-opened-ne0 : goal.returns-then-opened-ne0
-returns-then-opened-ne0 c =
+pub returns-in_err-open_model-clause-value : goal.returns-in_err-open_model-clause-value
+unfolding model_answer paper_answer
+returns-in_err-open_model-clause-value c =
     let a = c.args in
-    let e = c.open_model-opened.ensures.value in record { value = e ∙ opened-model a.limits a.kind a.model.now a.second.now (λ z. c.if-opened-ne0.true (ap (λ (x : Answer). x.number) e ∙ z)); kept = c.open_model-opened.ensures.kept; fact = λ z. absurd (c.if-opened-ne0.true z) }
+    let same : c.from_residual.result ≡ Err c.in_err-open_model.field-0.0 = search rules in
+    let told = c.in_err-open_model.ensures in
+    ap paper_answer same ∙ told.value ∙ opened-model a.limits a.kind a.model.now a.second.now (numbered told.value told.refused)
 
 -- the model is open, and the second sheet is read beside it
 module _ (c : After-open_second) where
@@ -32,48 +34,51 @@ module _ (c : After-open_second) where
   second = c.args.second.now
 
   abbrev index : List ℕ
-  index = c.open_model-opened.new.index
+  index = c.open_model.new.index
 
   abbrev m : Model
   m = model_from model index
 
   opens : ModelOpen c.args.limits model index
-  opens = c.open_model-opened.ensures.model_open c.if-opened-ne0.false
+  opens = c.in_ok-open_model.ensures.model_open
 
 -- it is refused
-module _ (c : In-Refused) where
-  refusal : open_second (kind (goal.at.In-Refused c).After-open_second) (m (goal.at.In-Refused c).After-open_second) (second (goal.at.In-Refused c).After-open_second) 0 ≡ refused c.in-Refused.number c.in-Refused.place
-  refusal = sym (c.open_second.ensures (model (goal.at.In-Refused c).After-open_second)) ∙ field-refused c.in-Refused.is
+module _ (c : In-Err) where
+  abbrev before : After-open_second
+  before = (goal.at.In-Err c).After-open_second
+
+  refusal : open_second (kind before) (m before) (second before) 0 ≡ refused (number_of c.in-Err.refusal.0) c.in-Err.refusal.1
+  refusal = sym (c.open_second.ensures (model before)) ∙ field-refused c.in-Err.is
 
 -- it has a body
-module _ (c : In-Value) where
-  headed : open_second (kind (goal.at.In-Value c).After-open_second) (m (goal.at.In-Value c).After-open_second) (second (goal.at.In-Value c).After-open_second) 0 ≡ got c.in-Value.field-0 c.in-Value.body
-  headed = sym (c.open_second.ensures (model (goal.at.In-Value c).After-open_second)) ∙ field-value c.in-Value.is
+module _ (c : In-Ok) where
+  abbrev open_at : After-open_second
+  open_at = (goal.at.In-Ok c).After-open_second
 
-  bodied : Open c.args.limits (kind (goal.at.In-Value c).After-open_second) (model (goal.at.In-Value c).After-open_second) (index (goal.at.In-Value c).After-open_second) (second (goal.at.In-Value c).After-open_second) c.in-Value.body
-  bodied = is_open _ (kind (goal.at.In-Value c).After-open_second) (model (goal.at.In-Value c).After-open_second) (second (goal.at.In-Value c).After-open_second) (index (goal.at.In-Value c).After-open_second) c.in-Value.field-0 c.in-Value.body (opens (goal.at.In-Value c).After-open_second) headed
+  headed : open_second (kind open_at) (m open_at) (second open_at) 0 ≡ got c.in-Ok.field-0-0 c.in-Ok.body
+  headed = sym (c.open_second.ensures (model open_at)) ∙ field-value c.in-Ok.is
 
-pub on_second-requires : goal.on_second-requires
-on_second-requires c = second-placed _ _ _ _ _ (refusal c)
+pub second_refused-requires : goal.second_refused-requires
+second_refused-requires c = second-placed _ _ _ _ _ (refusal c)
 
-pub on_second-requires-in-Value : goal.on_second-requires-in-Value
-on_second-requires-in-Value c = let w = bodied c in omega (arith, w.bodied, w.brief)
+pub returns-in-Ok-clause-value : goal.returns-in-Ok-clause-value
+unfolding paper_answer
+returns-in-Ok-clause-value c =
+    let b = (goal.at.returns-in-Ok-clause-value c).After-open_second in
+    opened_both _ _ (model b) (second b) (m b) c.in-Ok.field-0-0 c.in-Ok.body (opens b).opened (headed c)
 
-pub returns-in-Refused : goal.returns-in-Refused
-returns-in-Refused c =
-    let number = c.in-Refused.number in
-    let place = c.in-Refused.place in record {
-      value = c.on_second.ensures
-          ∙ opened-second _ _ (model (goal.at.returns-in-Refused c).After-open_second) (second (goal.at.returns-in-Refused c).After-open_second) (m (goal.at.returns-in-Refused c).After-open_second) number place (opens (goal.at.returns-in-Refused c).After-open_second).opened (refusal (goal.at.returns-in-Refused c).In-Refused);
-      kept = c.open_model-opened.ensures.kept;
-      fact = λ z. absurd (refuses number 1 place 0 0 c.on_second.ensures (second-number _ _ _ number place (refusal (goal.at.returns-in-Refused c).In-Refused)) z);
-    }
+pub returns-in-Ok-clause-open : goal.returns-in-Ok-clause-open
+returns-in-Ok-clause-open c =
+    let b = (goal.at.returns-in-Ok-clause-open c).After-open_second in
+    is_open _ (kind b) (model b) (second b) (index b) c.in-Ok.field-0-0 c.in-Ok.body (opens b) (headed c)
 
-pub returns-in-Value : goal.returns-in-Value
-returns-in-Value c =
-    let body = c.in-Value.body in record {
-      value = c.on_second-in-Value.ensures
-          ∙ opened_both _ _ (model (goal.at.returns-in-Value c).After-open_second) (second (goal.at.returns-in-Value c).After-open_second) (m (goal.at.returns-in-Value c).After-open_second) c.in-Value.field-0 body (opens (goal.at.returns-in-Value c).After-open_second).opened (headed (goal.at.returns-in-Value c).In-Value);
-      kept = c.open_model-opened.ensures.kept;
-      fact = λ z. subst (λ (p : ℕ). Open c.args.limits (kind (goal.at.returns-in-Value c).After-open_second) (model (goal.at.returns-in-Value c).After-open_second) (index (goal.at.returns-in-Value c).After-open_second) (second (goal.at.returns-in-Value c).After-open_second) p) (sym (answer-place 0 1 body 0 0 c.on_second-in-Value.ensures)) (bodied (goal.at.returns-in-Value c).In-Value);
-    }
+pub returns-in-Err-clause-value : goal.returns-in-Err-clause-value
+unfolding paper_answer
+returns-in-Err-clause-value c =
+    let b = (goal.at.returns-in-Err-clause-value c).After-open_second in
+    c.second_refused.ensures ∙ opened-second _ _ (model b) (second b) (m b) (number_of c.in-Err.refusal.0) c.in-Err.refusal.1 (opens b).opened (refusal (goal.at.returns-in-Err-clause-value c).In-Err)
+
+pub returns-in-Err-clause-refused : goal.returns-in-Err-clause-refused
+returns-in-Err-clause-refused c =
+    let w = c.in-Err.refusal in
+    has-number (number_of w.0) 1 w.1 0 0 c.second_refused.ensures (second-number _ _ _ (number_of w.0) w.1 (refusal (goal.at.returns-in-Err-clause-refused c).In-Err))

@@ -4,4 +4,4 @@ use Rattle.papers.proofs.opening.version_of.Goals as goal
 
 pub returns : goal.returns
 unfolding entry
-returns c = c.wide.ensures
+returns c = c.from.ensures

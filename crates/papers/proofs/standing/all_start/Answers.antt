@@ -35,13 +35,6 @@ returns-then-not-is_start c =
     let long : entry a.index.now 1 ≤ length a.modes = omega (arith, p.0.few, c.well_formed.1.1.0.1.0.1) in
     start-fails a.model.now a.index.now a.modes long p.1 l.k h c.is_start.ensures (c.if-not-is_start.true) ∙ l.invariant.1
 
-pub overflow_add-k : goal.overflow_add-k
-unfolding entry
-overflow_add-k c = omega (arith, c.loop-k-test.true, c.requires.0.few)
-
-pub loop-k-smaller : goal.loop-k-smaller
-loop-k-smaller c = omega (arith, c.loop-k-test.true)
-
 pub loop-k-preserved : goal.loop-k-preserved
 unfolding entry
 loop-k-preserved c =

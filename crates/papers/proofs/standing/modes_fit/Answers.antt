@@ -46,13 +46,6 @@ returns-then-not-mode_fits c =
     let long : entry a.index.now 1 ≤ length a.modes = omega (arith, p.0.few, c.well_formed.1.1.1.0.1.0.1) in
     fit-fails a.index.now a.modes long (unsafe_place a.u) l.k h c.mode_fits.ensures (c.if-not-mode_fits.true) ∙ l.invariant ∙ fit-starts a.model.now a.index.now a.modes a.u
 
-pub overflow_add-k : goal.overflow_add-k
-unfolding entry
-overflow_add-k c = omega (arith, c.loop-k-test.true, c.requires.0.few)
-
-pub loop-k-smaller : goal.loop-k-smaller
-loop-k-smaller c = omega (arith, c.loop-k-test.true)
-
 pub loop-k-preserved : goal.loop-k-preserved
 unfolding entry unsafe_place
 loop-k-preserved c =

@@ -1,7 +1,7 @@
 -- The five fields as they are. Assumes nothing.
 use mathlib.Core.Path.{refl}
 use Rattle.rules.specs.Marking.{answer}
-use Rattle.papers.proofs.answers.on_second.Goals as goal
+use Rattle.papers.proofs.answers.second_accepted.Goals as goal
 
 pub returns : goal.returns
 unfolding answer
