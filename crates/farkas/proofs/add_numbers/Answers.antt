@@ -19,14 +19,14 @@ use Rattle.farkas.proofs.add_numbers.Goals as goal
 sums-length : (c : At-loop-i) → length c.loop-i.sums ≡ length c.args.sums.now
 sums-length c =
     let a = c.args in
-    ap length c.loop-i.invariant.1 ∙ plus-from-length a.to (to_z w64 (of_z w64 a.m)) a.sums.now (numbers_at a.words.now a.at c.loop-i.i)
+    ap length c.loop-i.invariant ∙ plus-from-length a.to (to_z w64 (of_z w64 a.m)) a.sums.now (numbers_at a.words.now a.at c.loop-i.i)
 
 -- in a turn, what stands there is as it was
 as_it_was : (c : At-loop-i) → get_or c.loop-i.sums (c.args.to + c.loop-i.i) (pos 0) ≡ get_or c.args.sums.now (c.args.to + c.loop-i.i) (pos 0)
 as_it_was c =
     let a = c.args in
     let xs = numbers_at a.words.now a.at c.loop-i.i in
-    ap (λ (ys : List ℤ). get_or ys (a.to + c.loop-i.i) (pos 0)) c.loop-i.invariant.1
+    ap (λ (ys : List ℤ). get_or ys (a.to + c.loop-i.i) (pos 0)) c.loop-i.invariant
     ∙ plus-read a.to (to_z w64 (of_z w64 a.m)) a.sums.now xs (a.to + c.loop-i.i) (ap (λ (n : ℕ). a.to + n) (sym (numbers-length a.words.now a.at c.loop-i.i)))
 
 -- and there is room for what is added
@@ -36,7 +36,7 @@ room-here c = c.requires.count_in_bounds.1.room c.loop-i.i (omega arith)
 
 pub loop-i-init : goal.loop-i-init
 unfolding numbers_at
-loop-i-init c = (omega arith, plus_none c.args.to _ c.args.sums.now)
+loop-i-init c = plus_none c.args.to _ c.args.sums.now
 
 pub overflow_add-to : goal.overflow_add-to
 overflow_add-to c = omega arith
@@ -65,12 +65,6 @@ overflow_add-to-in-loop-i c = omega arith
 pub bounds-sums-to : goal.bounds-sums-to
 bounds-sums-to c = omega (arith, sums-length (goal.at.bounds-sums-to c).At-loop-i)
 
-pub overflow_add-i : goal.overflow_add-i
-overflow_add-i c = omega arith
-
-pub loop-i-smaller : goal.loop-i-smaller
-loop-i-smaller c = omega arith
-
 pub loop-i-preserved : goal.loop-i-preserved
 loop-i-preserved c =
     let a = c.args in
@@ -85,12 +79,10 @@ loop-i-preserved c =
     ∙ c.multiply_add.ensures
     ∙ sum-bits x a.m y c.ranges.m (rw (as_it_was (goal.at.loop-i-preserved c).At-loop-i) (room-here (goal.at.loop-i-preserved c).In-loop-i)) c.signed_word.ensures.result_bound
     ∙ ap₂ (λ (v k : ℤ). v +ℤ k *ℤ y) (as_it_was (goal.at.loop-i-preserved c).At-loop-i) (sym (to_z-of_z c.ranges.m))
-    ∙ ap (λ (z : ℤ). get_or old (a.to + i) (pos 0) +ℤ m *ℤ z) c.signed_word.ensures.value in (
-      omega arith,
-      ap₂ (λ (ys : List ℤ) (v : ℤ). set ys (a.to + i) v) c.loop-i.invariant.1 told
-          ∙ plus-store a.to m old xs (signed_at a.words.now (a.at + 4 * i)) (a.to + i) (ap (λ (n : ℕ). a.to + n) (sym (numbers-length a.words.now a.at i))) (omega arith)
-          ∙ ap (plus_from a.to m old) (numbers_more a.words.now a.at i),
-    )
+    ∙ ap (λ (z : ℤ). get_or old (a.to + i) (pos 0) +ℤ m *ℤ z) c.signed_word.ensures.value in
+    ap₂ (λ (ys : List ℤ) (v : ℤ). set ys (a.to + i) v) c.loop-i.invariant told
+    ∙ plus-store a.to m old xs (signed_at a.words.now (a.at + 4 * i)) (a.to + i) (ap (λ (n : ℕ). a.to + n) (sym (numbers-length a.words.now a.at i))) (omega arith)
+    ∙ ap (plus_from a.to m old) (numbers_more a.words.now a.at i)
 
 pub shape_of-sums : goal.shape_of-sums
 shape_of-sums c = sums-length (goal.at.shape_of-sums c).At-loop-i
@@ -99,4 +91,4 @@ pub returns : goal.returns
 returns c =
     let a = c.args in
     let whole : c.loop-i.i ≡ a.count = omega arith in
-    c.loop-i.invariant.1 ∙ ap₂ (λ (m : ℤ) (n : ℕ). plus_from a.to m a.sums.now (numbers_at a.words.now a.at n)) (to_z-of_z c.ranges.m) whole
+    c.loop-i.invariant ∙ ap₂ (λ (m : ℤ) (n : ℕ). plus_from a.to m a.sums.now (numbers_at a.words.now a.at n)) (to_z-of_z c.ranges.m) whole
