@@ -8,7 +8,7 @@ use native.Mathlib.Omega.{arith}
 use lib.Dec.{T, eqb, lit<}
 use lib.IntN.{ℤ, pos, ◌*ℤ◌, *ℤ-zero}
 use lib.ListN.{length, get_or, set, take, drop, replicate, length-take, length-drop}
-use lib.Seq.{drop-cons, get_or-take, get_or-drop, take-length}
+use lib.Seq.{get_or-take, get_or-drop, take-length}
 use mir.Syntax.{w64}
 use mir.Val.{SFits, of_z}
 use Rattle.std.specs.List.{list_all}

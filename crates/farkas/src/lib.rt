@@ -115,11 +115,11 @@ pub fn strict_after(before: bool, m: u32, strict: bool) -> bool
 fn all_zero(sums: &[i64]) -> bool
     ensures { result ≡ every is_zero sums.now }
 {
-    sums.iter().all(|sum|
-        ensures { result ≡ is_zero sum.now }
-    {
-        *sum == 0
-    })
+    sums.iter().all(
+        |sum|
+            ensures { result ≡ is_zero sum.now }
+        { *sum == 0 },
+    )
 }
 
 // Whether the sums from one on are k times so many numbers; where they are, they are set to 0 again.

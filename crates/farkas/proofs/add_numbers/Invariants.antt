@@ -1,5 +1,4 @@
 use mathlib.Core.Path.{◌≡◌}
-use Prim.Native.Nat.{◌-◌, ◌≤◌}
 use Rattle.farkas.specs.Words.{numbers_at}
 use Rattle.farkas.specs.Sums.{plus_from}
 use Rattle.farkas.proofs.add_numbers.Given as goal

@@ -2,18 +2,14 @@
 use mathlib.Core.Path.{◌≡◌, sym, ap, ◌∙◌}
 use mathlib.Core.Bool.{true, false}
 use mathlib.Core.List.{[]}
-use Prim.Native.Nat.{ℕ}
-use native.Mathlib.Omega.{arith}
 use borrow.Author.Rules.{rules}
 use lib.IntN.{pos}
 use mir.Syntax.{w64}
 use mir.Val.{SFits}
 use mir.Facts.{to_z-of_z}
-use Rattle.farkas.specs.Lists.{every}
 use Rattle.farkas.specs.Rows.{zero_row}
 use Rattle.farkas.specs.Farkas.{coefficients_agree, bound_passes, sums_test, number_of}
-use Rattle.farkas.specs.Sums.{is_zero}
-use Rattle.farkas.proofs.SumTest.{rest-zero, whole_part, zeros-are}
+use Rattle.farkas.proofs.SumTest.{rest-zero, zeros-are}
 use Rattle.farkas.proofs.judge_zero.Goals.{After-all_zero, After-bound_passes}
 use Rattle.farkas.proofs.judge_zero.Goals as goal
 

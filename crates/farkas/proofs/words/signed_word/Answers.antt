@@ -1,7 +1,6 @@
 -- What the four bytes are read as, in 64 bits. Assumes nothing.
 use mathlib.Core.Path.{ap, ◌∙◌}
 use mir.Syntax.{w32, w64}
-use mir.Val.{to_z}
 use mir.Facts.{to_z-of_z}
 use Rattle.farkas.specs.Words.{signed, signed_at}
 use Rattle.farkas.proofs.WordLaws.{signed-read}
