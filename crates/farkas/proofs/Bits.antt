@@ -5,12 +5,11 @@ use mathlib.Core.Bool.{Bool, true, false, cond}
 use Prim.Native.Nat.{ℕ, zero, suc, ◌+◌, ◌*◌, ◌-◌, ◌^◌, ◌≤◌, ◌<◌}
 use native.Mathlib.Nat.{mul-le-mul}
 use native.Mathlib.Omega.{arith}
-use lib.Dec.{ltb, lit<}
+use lib.Dec.{ltb}
 use lib.IntN.{ℤ, pos, negsuc, neg_ℤ, nat_abs, ◌+ℤ◌, ◌*ℤ◌, +ℤ_idl}
 use mir.Syntax.{w32, w64}
 use mir.Val.{Fits, SFits, to_z, of_z}
 use mir.Facts.{to_z-of_z}
-use mir.ValLaws.{to_z_pos}
 
 size-either : (c : Bool) (x y : ℤ) (n : ℕ) → nat_abs x ≤ n → nat_abs y ≤ n → nat_abs (cond c x y) ≤ n
 size-either true x y n h k = h
@@ -50,23 +49,15 @@ read_back z h = to_z-of_z (fits z h)
 pub same_bits : (x y : ℤ) → SFits w64 x → SFits w64 y → of_z w64 x ≡ of_z w64 y → x ≡ y
 same_bits x y f g e = sym (to_z-of_z f) ∙ ap (to_z w64) e ∙ to_z-of_z g
 
--- x + m * y as `multiply_add` computes it, from the bits of x, of a number m of 32 bits and of y
-module _ (x : ℤ) (m : ℕ) (y : ℤ) (fx : SFits w64 x) (fm : Fits w32 m) (fy : SFits w64 y) where
-  pub bits-room : nat_abs x + m * nat_abs y < 2 ^ 63 → nat_abs (to_z w64 (of_z w64 x)) + nat_abs (to_z w64 m) * nat_abs (to_z w64 (of_z w64 y)) < 2 ^ 63
-  bits-room h = rw (to_z-of_z fx, to_z_pos w64 m (omega arith), to_z-of_z fy) h
+-- k times z, as 0 + m * z is computed, where m is the number k of 32 bits: where z has size up to 2 ^ 31 there is room
+module _ (k : ℕ) (m z : ℤ) (e : m ≡ pos k) (fk : Fits w32 k) (fz : SFits w64 z) where
+  often : to_z w64 (of_z w64 m) ≡ pos k
+  often = ap (λ (x : ℤ). to_z w64 (of_z w64 x)) e ∙ read_back (pos k) (omega arith)
 
-  pub bits-sum : to_z w64 (of_z w64 x) +ℤ to_z w64 m *ℤ to_z w64 (of_z w64 y) ≡ x +ℤ pos m *ℤ y
-  bits-sum = rw (to_z-of_z fx, to_z_pos w64 m (omega arith), to_z-of_z fy)
-
--- k times z, as 0 + k * z is computed: where z has size up to 2 ^ 31 there is room
-module _ (k : ℕ) (z : ℤ) (fk : Fits w32 k) (fz : SFits w64 z) where
-  zero-fits : SFits w64 (pos 0)
-  zero-fits = fits (pos 0) (lit< tt)
-
-  pub times-room : nat_abs z ≤ 2 ^ 31 → 0 + nat_abs (to_z w64 k) * nat_abs (to_z w64 (of_z w64 z)) < 2 ^ 63
+  pub times-room : nat_abs z ≤ 2 ^ 31 → 0 + nat_abs (to_z w64 (of_z w64 m)) * nat_abs (to_z w64 (of_z w64 z)) < 2 ^ 63
   times-room h =
       let below : k ≤ 2 ^ 32 - 1 = omega arith in
-      bits-room (pos 0) k z zero-fits fk fz (omega (arith, mul-le-mul below h))
+      rw (often, to_z-of_z fz) (omega (arith, mul-le-mul below h))
 
-  pub times : pos 0 +ℤ to_z w64 k *ℤ to_z w64 (of_z w64 z) ≡ pos k *ℤ z
-  times = bits-sum (pos 0) k z zero-fits fk fz ∙ +ℤ_idl (pos k *ℤ z)
+  pub times : pos 0 +ℤ to_z w64 (of_z w64 m) *ℤ to_z w64 (of_z w64 z) ≡ pos k *ℤ z
+  times = rw (often, to_z-of_z fz) (+ℤ_idl (pos k *ℤ z))

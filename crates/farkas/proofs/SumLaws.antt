@@ -190,6 +190,9 @@ pub opposite-size : (m : ℕ) → nat_abs (neg_ℤ (pos m)) ≡ m
 opposite-size zero = refl
 opposite-size (suc m) = refl
 
+pub opposite-bits : (m : ℕ) → m < 2 ^ 32 → to_z w64 (of_z w64 (pos 0 -ℤ pos m)) ≡ neg_ℤ (pos m)
+opposite-bits m h = ap (λ (z : ℤ). to_z w64 (of_z w64 z)) (opposite-is m) ∙ read_back (neg_ℤ (pos m)) (omega (arith, opposite-size m))
+
 -- "−a on x, a on x', −b on d": what the second and the third call find
 module _ (m n : ℕ) (y z : ℤ) (sums xs : List ℤ) (e : length xs ≡ n) (wide : n + n + 1 ≤ length sums) (room : RoomAt m 0 (n + n + 1) sums) where
   pub rates-first : RoomAt m 0 n sums

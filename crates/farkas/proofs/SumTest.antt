@@ -5,10 +5,15 @@ use mathlib.Core.List.{List, [], ◌∷◌, ◌++◌}
 use Prim.Native.Nat.{ℕ, zero, suc, ◌+◌, ◌*◌, ◌-◌, ◌≤◌, ◌<◌}
 use native.Mathlib.Numerals.{add-one}
 use native.Mathlib.Omega.{arith}
-use lib.Dec.{T}
+use lib.Dec.{T, eqb, lit<}
 use lib.IntN.{ℤ, pos, ◌*ℤ◌, *ℤ-zero}
 use lib.ListN.{length, get_or, set, take, drop, replicate, length-take, length-drop}
-use lib.Seq.{drop-cons, get_or-take, get_or-drop, take-length}
+use lib.Seq.{get_or-take, get_or-drop, take-length}
+use mir.Syntax.{w64}
+use mir.Val.{SFits, of_z}
+use Rattle.std.specs.List.{list_all}
+use Rattle.std.proofs.lemmas.Bool.{eqb-true, eqb-false}
+use Rattle.farkas.proofs.Bits.{fits, same_bits}
 use Rattle.farkas.specs.Lists.{every}
 use Rattle.farkas.specs.Rows.{item}
 use Rattle.farkas.specs.Farkas.{same_z, coefficients_agree}
@@ -18,22 +23,11 @@ use Rattle.farkas.specs.Words.{signed_at, numbers_at}
 use Rattle.farkas.specs.Sums.{is_zero, agrees_at, cleared}
 use Rattle.farkas.proofs.SumLaws.{numbers-length}
 
--- all of a part are 0: a turn, and the end
-pub zero_turn : (xs : List ℤ) (i to : ℕ) → i < to → i < length xs → every is_zero (take (to - i) (drop i xs)) ≡ (is_zero (get_or xs i (pos 0)) && every is_zero (take (to - (i + 1)) (drop (i + 1) xs)))
+-- a chain's test of each element
+pub all-every : {A : Type 0} (f : A → Bool) (xs : List A) → list_all f xs ≡ every f xs
 unfolding every
-zero_turn xs i to h l =
-    ap₂ (λ (n : ℕ) (ys : List ℤ). every is_zero (take n ys)) (less i to h) (drop-cons xs i (pos 0) l)
-    ∙ ap (λ (k : ℕ). is_zero (get_or xs i (pos 0)) && every is_zero (take (to - (i + 1)) (drop k xs))) (sym (add-one i))
-  where
-    less : (i to : ℕ) → i < to → to - i ≡ suc (to - (i + 1))
-    less i to h = omega arith
-
-pub zero-end : (xs : List ℤ) (i to : ℕ) → to ≤ i → true ≡ every is_zero (take (to - i) (drop i xs))
-unfolding every
-zero-end xs i to h = ap (λ (n : ℕ). every is_zero (take n (drop i xs))) (none i to h)
-  where
-    none : (i to : ℕ) → to ≤ i → 0 ≡ to - i
-    none i to h = omega arith
+all-every f [] = refl
+all-every f (x ∷ xs) = ap (λ (b : Bool). f x && b) (all-every f xs)
 
 -- sums that are set to 0 one after the other
 pub cleared-none : (from : ℕ) (sums : List ℤ) → sums ≡ cleared from 0 sums
@@ -150,6 +144,14 @@ zero-no x f = go (same_z x (pos 0)) refl
     go : (b : Bool) → same_z x (pos 0) ≡ b → same_z x (pos 0) ≡ false
     go true e = absurd (f ((same-means x (pos 0)).0 (subst T (sym e) tt)))
     go false e = e
+
+-- a sum that fits is 0 where its bits are
+pub zero-bits : (x : ℤ) → SFits w64 x → eqb (of_z w64 x) 0 ≡ is_zero x
+zero-bits x f = go (eqb (of_z w64 x) 0) refl
+  where
+    go : (b : Bool) → eqb (of_z w64 x) 0 ≡ b → b ≡ is_zero x
+    go true e = sym (zero-yes x (same_bits x (pos 0) f (fits (pos 0) (lit< tt)) (eqb-true (of_z w64 x) 0 e)))
+    go false e = sym (zero-no x (λ z. eqb-false (of_z w64 x) 0 e (ap (of_z w64) z)))
 
 -- sums of which all are 0
 zero_is : (x : ℤ) → is_zero x ≡ true → x ≡ pos 0

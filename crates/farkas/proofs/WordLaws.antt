@@ -1,18 +1,21 @@
 -- Numbers of four bytes: their value byte by byte, their size, and what they are with the highest bit flipped. Assumes nothing.
-use mathlib.Core.Path.{◌≡◌, sym, ap, ap₂, ◌∙◌}
+use mathlib.Core.Path.{◌≡◌, refl, ap, ◌∙◌}
 use mathlib.Core.Bool.{cond}
-use mathlib.Core.List.{List, ◌∷◌}
-use Prim.Native.Nat.{ℕ, suc, ◌+◌, ◌*◌, ◌-◌, ◌/◌, ◌%◌, ◌^◌, ◌≤◌, ◌<◌}
+use mathlib.Core.List.{List, [], ◌∷◌}
+use Prim.Native.Nat.{ℕ, zero, suc, ◌+◌, ◌*◌, ◌-◌, ◌^◌, ◌≤◌, ◌<◌}
 use native.Mathlib.Decide.{dec_le}
 use native.Mathlib.Numerals.{add-one}
 use native.Mathlib.Omega.{arith}
-use lib.Bits.{bit_xor, xor_block, xor_zero_r, xor_lt}
 use lib.Dec.{ltb, lit<}
-use lib.IntN.{pos, negsuc, nat_abs, ◌+ℤ◌}
+use lib.IntN.{pos, negsuc, nat_abs}
 use lib.ListN.{length, get_or, take, drop}
 use lib.Seq.{drop-cons}
 use borrow.Author.Tests.{lt-ltb, le-ltb}
-use Rattle.farkas.specs.Words.{big_endian, signed, turned}
+use mir.Syntax.{w32}
+use mir.Val.{to_z}
+use Rattle.std.specs.Int.{from_le_bytes, from_be_bytes, swap_bytes}
+use Rattle.std.proofs.lemmas.Nat.{le_bytes_4}
+use Rattle.farkas.specs.Words.{big_endian, signed}
 
 -- the first byte of what is left
 pub first_byte : (s : List ℕ) (p : ℕ) → p < length s → drop p s ≡ get_or s p 0 ∷ drop (p + 1) s
@@ -30,25 +33,18 @@ four-at s p h =
     go : (a b c d : ℕ) → a * 256 ^ 3 + (b * 256 ^ 2 + (c * 256 ^ 1 + (d * 256 ^ 0 + 0))) ≡ ((a * 256 + b) * 256 + c) * 256 + d
     go a b c d = omega arith
 
--- four bytes, the first lowest, in the opposite order
-pub turned-four : (a b c d : ℕ) → a < 256 → b < 256 → c < 256 → d < 256 → turned (a + 256 * b + 65536 * c + 16777216 * d) ≡ ((a * 256 + b) * 256 + c) * 256 + d
-unfolding turned
-turned-four a b c d ha hb hc hd =
-    rw (first a b c d ha, second a b c d ha hb, third a b c d ha hb hc, fourth a b c d ha hb hc) (sums a b c d)
+-- four bytes, the first lowest, turned
+pub swapped-four : (a b c d : ℕ) → a < 256 → b < 256 → c < 256 → d < 256 → swap_bytes w32 (from_le_bytes w32 (a ∷ b ∷ c ∷ d ∷ [])) ≡ ((a * 256 + b) * 256 + c) * 256 + d
+swapped-four a b c d ha hb hc hd = ap (from_be_bytes w32) (le_bytes_4 (a ∷ b ∷ c ∷ d ∷ []) _ refl each refl) ∙ sums a b c d
   where
-    first : (a b c d : ℕ) → a < 256 → (a + 256 * b + 65536 * c + 16777216 * d) % 256 ≡ a
-    first a b c d ha = omega arith
+    each : (i : ℕ) → get_or (a ∷ b ∷ c ∷ d ∷ []) i 0 < 256
+    each zero = ha
+    each (suc zero) = hb
+    each (suc (suc zero)) = hc
+    each (suc (suc (suc zero))) = hd
+    each (suc (suc (suc (suc i)))) = lit< tt
 
-    second : (a b c d : ℕ) → a < 256 → b < 256 → (a + 256 * b + 65536 * c + 16777216 * d) / 256 % 256 ≡ b
-    second a b c d ha hb = omega arith
-
-    third : (a b c d : ℕ) → a < 256 → b < 256 → c < 256 → (a + 256 * b + 65536 * c + 16777216 * d) / 65536 % 256 ≡ c
-    third a b c d ha hb hc = omega arith
-
-    fourth : (a b c d : ℕ) → a < 256 → b < 256 → c < 256 → (a + 256 * b + 65536 * c + 16777216 * d) / 16777216 ≡ d
-    fourth a b c d ha hb hc = omega arith
-
-    sums : (a b c d : ℕ) → a * 16777216 + b * 65536 + c * 256 + d ≡ ((a * 256 + b) * 256 + c) * 256 + d
+    sums : (a b c d : ℕ) → a * 256 ^ 3 + b * 256 ^ 2 + c * 256 ^ 1 + d ≡ ((a * 256 + b) * 256 + c) * 256 + d
     sums a b c d = omega arith
 
 -- the size of a signed number
@@ -60,57 +56,7 @@ signed-small n h = go (dec_le 2147483648 n)
     go (yes k) = rw (le-ltb n 2147483648 k) (omega arith)
     go (no f) = let k : n < 2147483648 = omega arith in rw (lt-ltb n 2147483648 k) (omega arith)
 
--- A number of 32 bits with its highest bit flipped: the signed number, raised by 2 ^ 31
-flip_low : (k n : ℕ) → n < 2 ^ k → bit_xor n (2 ^ k) ≡ n + 2 ^ k
-flip_low k n h =
-    ap₂ bit_xor (none n (2 ^ k)) (once (2 ^ k))
-    ∙ xor_block k 0 1 n 0 h (omega arith)
-    ∙ ap (λ (m : ℕ). 1 * 2 ^ k + m) (xor_zero_r n)
-    ∙ both n (2 ^ k)
-  where
-    none : (n m : ℕ) → n ≡ 0 * m + n
-    none n m = omega arith
-
-    once : (m : ℕ) → m ≡ 1 * m + 0
-    once m = omega arith
-
-    both : (n m : ℕ) → 1 * m + n ≡ n + m
-    both n m = omega arith
-
-flip_high : (k n : ℕ) → 2 ^ k ≤ n → n < 2 * 2 ^ k → bit_xor n (2 ^ k) ≡ n - 2 ^ k
-flip_high k n h l =
-    ap₂ bit_xor (rest n (2 ^ k) h) (once (2 ^ k))
-    ∙ xor_block k 1 1 (n - 2 ^ k) 0 (omega arith) (omega arith)
-    ∙ ap (λ (m : ℕ). 0 * 2 ^ k + m) (xor_zero_r (n - 2 ^ k))
-    ∙ nothing (n - 2 ^ k) (2 ^ k)
-  where
-    rest : (n m : ℕ) → m ≤ n → n ≡ 1 * m + (n - m)
-    rest n m h = omega arith
-
-    once : (m : ℕ) → m ≡ 1 * m + 0
-    once m = omega arith
-
-    nothing : (n m : ℕ) → 0 * m + n ≡ n
-    nothing n m = omega arith
-
-above : (n : ℕ) → 2147483648 ≤ n → n < 4294967296 → pos (n - 2147483648) ≡ negsuc (4294967296 - suc n) +ℤ pos 2147483648
-above n h l =
-    sym
-    (ap (λ b. cond b (negsuc (suc (4294967296 - suc n) - suc 2147483648)) (pos (2147483648 - suc (4294967296 - suc n)))) (le-ltb 2147483648 (suc (4294967296 - suc n)) (omega arith))
-    ∙ ap pos (same n h l))
-  where
-    same : (n : ℕ) → 2147483648 ≤ n → n < 4294967296 → 2147483648 - suc (4294967296 - suc n) ≡ n - 2147483648
-    same n h l = omega arith
-
-pub raised-told : (n : ℕ) → n < 2 ^ 32 → pos (bit_xor n (2 ^ 31)) ≡ signed n +ℤ pos (2 ^ 31)
+-- a signed number is what the bits are read as
+pub signed-read : (n : ℕ) → to_z w32 n ≡ signed n
 unfolding signed
-raised-told n h = go (dec_le 2147483648 n)
-  where
-    go : Dec (2147483648 ≤ n) → pos (bit_xor n (2 ^ 31)) ≡ cond (ltb n (2 ^ 31)) (pos n) (negsuc (2 ^ 32 - suc n)) +ℤ pos (2 ^ 31)
-    go (yes k) = ap pos (flip_high 31 n k (omega arith)) ∙ above n k h ∙ ap (λ b. cond b (pos n) (negsuc (2 ^ 32 - suc n)) +ℤ pos (2 ^ 31)) (sym (le-ltb n 2147483648 k))
-    go (no f) =
-        let k : n < 2147483648 = omega arith in
-        ap pos (flip_low 31 n k) ∙ ap (λ b. cond b (pos n) (negsuc (2 ^ 32 - suc n)) +ℤ pos (2 ^ 31)) (sym (lt-ltb n 2147483648 k))
-
-pub raised-small : (n : ℕ) → n < 2 ^ 32 → bit_xor n (2 ^ 31) < 2 ^ 32
-raised-small n h = xor_lt 32 n (2 ^ 31) h (lit< tt)
+signed-read n = refl

@@ -1,9 +1,9 @@
 -- Proofs by Farkas' lemma (01, Certificate): what a proof is, what it sums to, when it is good, and the test for that.
 -- Assumes nothing.
-use Rattle.std.specs.Prelude.{◌≡◌, Bool, false, not, cond, ◌&&◌, ◌||◌, List, [], ◌∷◌, ℕ, zero, suc, ◌≤◌, ℤ, pos, ◌+ℤ◌, ◌*ℤ◌, get_or, ◌≤ℤ◌, ◌<ℤ◌}
+use Rattle.std.specs.Prelude.{◌≡◌, Bool, false, not, cond, ◌&&◌, ◌||◌, List, [], ◌∷◌, Result, Ok, Err, ℕ, zero, suc, ◌≤◌, ℤ, pos, ◌+ℤ◌, ◌*ℤ◌, get_or, ◌≤ℤ◌, ◌<ℤ◌}
 use Rattle.std.specs.Int.Signed.{le_z}
-use Rattle.farkas.specs.declared.Verdict.{Verdict}
-use Rattle.farkas.specs.declared.Verdict.TheVariants.{Holds, CoefficientsDiffer, BoundFails}
+use Rattle.farkas.specs.declared.Mismatch.{Mismatch}
+use Rattle.farkas.specs.declared.Mismatch.TheVariants.{CoefficientsDiffer, BoundFails}
 use Rattle.farkas.specs.Lists.{every, some}
 use Rattle.farkas.specs.Rows.{Row, Compared, item, compared, zero_row}
 
@@ -134,8 +134,8 @@ sums_test k sums goal =
 unfoldable pub farkas_test : List Row → Row → Proof → ℕ
 farkas_test hypotheses goal p = sums_test p.k (summed hypotheses p.entries) goal
 
--- the number of each verdict
-unfoldable pub number_of : Verdict → ℕ
-number_of Holds = 0
-number_of CoefficientsDiffer = 10
-number_of BoundFails = 11
+-- the number of what the test finds
+unfoldable pub number_of : Result (Unit {0}) Mismatch → ℕ
+number_of (Ok passed) = 0
+number_of (Err CoefficientsDiffer) = 10
+number_of (Err BoundFails) = 11

@@ -1,15 +1,11 @@
 -- Numbers as rows have them in bytes (01, Sheet): four bytes to a number. Assumes nothing.
-use Rattle.std.specs.Prelude.{false, cond, List, [], ◌∷◌, ℕ, zero, suc, ◌+◌, ◌*◌, ◌-◌, ◌/◌, ◌%◌, ◌^◌, ◌≤◌, ◌<◌, ltb, ℤ, pos, negsuc, length, take, drop}
+use Rattle.std.specs.Prelude.{false, cond, List, [], ◌∷◌, ℕ, zero, suc, ◌+◌, ◌*◌, ◌-◌, ◌^◌, ◌≤◌, ◌<◌, ltb, ℤ, pos, negsuc, length, take, drop}
 use Rattle.farkas.specs.Rows.{Row}
 
 -- "all big-endian"
 unfoldable pub big_endian : List ℕ → ℕ
 big_endian [] = 0
 big_endian (b ∷ bytes) = b * 256 ^ length bytes + big_endian bytes
-
--- the four bytes of a number in the opposite order
-unfoldable pub turned : ℕ → ℕ
-turned v = v % 256 * 16777216 + v / 256 % 256 * 65536 + v / 65536 % 256 * 256 + v / 16777216
 
 -- "s32 is two's complement"
 unfoldable pub signed : ℕ → ℤ

@@ -9,7 +9,7 @@
 
 pub mod words;
 
-ghost use Rattle.std.specs.Prelude.{◌≡◌, true, not, ◌&&◌, [], ◌∷◌, ◌++◌, ◌+◌, ◌*◌, ◌-◌, ◌^◌, ◌≤◌, ◌<◌, pos, neg_ℤ, nat_abs, ◌+ℤ◌, ◌*ℤ◌, length, take, drop, replicate};
+ghost use Rattle.std.specs.Prelude.{◌≡◌, true, Ok, [], ◌∷◌, ◌++◌, ◌+◌, ◌*◌, ◌^◌, ◌≤◌, ◌<◌, pos, neg_ℤ, nat_abs, ◌+ℤ◌, ◌*ℤ◌, length, replicate};
 ghost use Rattle.farkas.specs.Lists.{every};
 ghost use Rattle.farkas.specs.Rows.{row_of, strictly, compared, zero_row, onward, on_change};
 ghost use Rattle.farkas.specs.Words.{NumbersIn, numbers_at, row_in};
@@ -18,10 +18,9 @@ ghost use Rattle.farkas.specs.Sums.{plus_from, RoomAt, Spare, is_zero, agrees_at
 
 use crate::words::signed_word;
 
-// What the test of a proof finds.
-#[derive(Clone, Copy)]
-pub enum Verdict {
-    Holds,
+// What the test of a proof finds where it doesn't pass.
+#[derive(Clone, Copy, Debug, PartialEq, Eq)]
+pub enum Mismatch {
     CoefficientsDiffer,
     BoundFails,
 }
@@ -47,10 +46,8 @@ fn add_numbers(sums: &mut [i64], to: usize, words: &[u8], at: usize, count: usiz
     requires numbers_in { NumbersIn words.now at count }
     ensures { sums.new ≡ plus_from to m sums.old (numbers_at words.now at count) }
 {
-    let mut i: usize = 0;
-    while i < count {
+    for i in 0..count {
         sums[to + i] = multiply_add(sums[to + i], m, signed_word(words, at + 4 * i));
-        i += 1;
     }
 }
 
@@ -58,13 +55,13 @@ fn add_numbers(sums: &mut [i64], to: usize, words: &[u8], at: usize, count: usiz
 pub fn times(m: u32) -> i64
     ensures { (result ≡ pos m) × (nat_abs result ≡ m) }
 {
-    m as i64
+    i64::from(m)
 }
 
 pub fn opposite(m: u32) -> i64
     ensures { (result ≡ neg_ℤ (pos m)) × (nat_abs result ≡ m) }
 {
-    0 - m as i64
+    -i64::from(m)
 }
 
 // The sums with a row added m times, its coefficients on the unknowns from `shift` on; the bound is told.
@@ -81,7 +78,7 @@ pub fn add_row(
     requires numbers_in { NumbersIn words.now at (count + 1) }
     ensures { row_of sums.new result ≡ add_row (row_of sums.old bound) m (onward shift (row_in words.now at count)) }
 {
-    let by = times(m);
+    let by = i64::from(m);
     add_numbers(sums, shift, words, at, count, by);
     multiply_add(bound, by, signed_word(words, at + 4 * count))
 }
@@ -92,10 +89,10 @@ pub fn add_rates(sums: &mut [i64], m: u32, words: &[u8], at: usize, count: usize
     requires numbers_in { NumbersIn words.now at (count + 1) }
     ensures { row_of sums.new (pos 0) ≡ add_row (row_of sums.old (pos 0)) m (on_change (row_in words.now at count)) }
 {
-    let less = opposite(m);
-    add_numbers(sums, 0, words, at, count, less);
-    add_numbers(sums, count, words, at, count, times(m));
-    add_numbers(sums, count + count, words, at + 4 * count, 1, less);
+    let more = i64::from(m);
+    add_numbers(sums, 0, words, at, count, -more);
+    add_numbers(sums, count, words, at, count, more);
+    add_numbers(sums, count + count, words, at + 4 * count, 1, -more);
 }
 
 // The sums with m added at one unknown.
@@ -107,31 +104,22 @@ pub fn add_one(sums: &mut [i64], unknown: usize, m: i64)
 }
 
 // Whether a strict row is among the summed once a row was added m times: a multiplier of 0 does not count.
+#[tactic(auto, unfolding(crate::specs::Farkas::strict_after, crate::specs::Farkas::counts))]
 pub fn strict_after(before: bool, m: u32, strict: bool) -> bool
     ensures { result ≡ strict_after before m strict }
 {
-    if before {
-        return true;
-    }
-    if m == 0 {
-        return false;
-    }
-    strict
+    before || (m != 0 && strict)
 }
 
-// Whether the sums from one up to another are 0.
-fn all_zero(sums: &[i64], from: usize, to: usize) -> bool
-    requires { (from ≤ to) × (to ≤ length sums.now) }
-    ensures { result ≡ every is_zero (take (to - from) (drop from sums.now)) }
+// Whether all these sums are 0.
+fn all_zero(sums: &[i64]) -> bool
+    ensures { result ≡ every is_zero sums.now }
 {
-    let mut i = from;
-    while i < to {
-        if sums[i] != 0 {
-            return false;
-        }
-        i += 1;
-    }
-    true
+    sums.iter().all(
+        |sum|
+            ensures { result ≡ is_zero sum.now }
+        { *sum == 0 },
+    )
 }
 
 // Whether the sums from one on are k times so many numbers; where they are, they are set to 0 again.
@@ -141,14 +129,12 @@ fn take_goal(sums: &mut [i64], from: usize, words: &[u8], at: usize, count: usiz
     ensures value { result ≡ agrees_at k from sums.old (numbers_at words.now at count) }
     ensures sums_after { result ≡ true → sums.new ≡ cleared from count sums.old }
 {
-    let by = k as i64;
-    let mut i: usize = 0;
-    while i < count {
+    let by = i64::from(k);
+    for i in 0..count {
         if sums[from + i] != multiply_add(0, by, signed_word(words, at + 4 * i)) {
             return false;
         }
         sums[from + i] = 0;
-        i += 1;
     }
     true
 }
@@ -160,45 +146,30 @@ fn agree(sums: &mut [i64], k: u32, shift: usize, words: &[u8], at: usize, count:
     ensures value { result ≡ coefficients_agree k sums.old (replicate shift (pos 0) ++ numbers_at words.now at count) }
     ensures sums_after { result ≡ true → sums.new ≡ replicate (length sums.old) (pos 0) }
 {
-    if !all_zero(sums, 0, shift) {
-        return false;
-    }
-    if !take_goal(sums, shift, words, at, count, k) {
-        return false;
-    }
-    all_zero(sums, shift + count, sums.len())
+    all_zero(&sums[..shift])
+        && take_goal(sums, shift, words, at, count, k)
+        && all_zero(&sums[shift + count..])
 }
 
 // Whether a number is at most another, or below it where it must be.
+#[tactic(auto, unfolding(crate::specs::Rows::compared))]
 pub fn compare(strict: bool, a: i64, b: i64) -> bool
     ensures { result ≡ compared strict a b }
 {
-    if strict {
-        return a < b;
-    }
-    a <= b
+    if strict { a < b } else { a <= b }
 }
 
-// Whether a summed bound must be below: where a goal must be met strictly and no strict row is among the summed.
-fn must_be_below(must: bool, strict: bool) -> bool
-    ensures { result ≡ (must && not strict) }
-{
-    if strict {
-        return false;
-    }
-    must
-}
-
-// Whether the summed bound passes, against k times the goal's or, at k = 0, against 0.
+// Whether the summed bound passes, against k times the goal's or, at k = 0, against 0. It must be below where a goal must be met strictly and
+// no strict row is among the summed.
 fn bound_passes(k: u32, sum: i64, strict: bool, goal: i64, must: bool) -> bool
     requires { nat_abs goal ≤ 2 ^ 31 }
     ensures { result ≡ bound_passes k sum strict goal must }
 {
     if k == 0 {
-        return compare(must_be_below(true, strict), sum, 0);
+        return compare(!strict, sum, 0);
     }
-    let bound = multiply_add(0, k as i64, goal);
-    compare(must_be_below(must, strict), sum, bound)
+    let bound = multiply_add(0, i64::from(k), goal);
+    compare(must && !strict, sum, bound)
 }
 
 // Farkas' test of the sums of a proof with this k, whose goal is a row on the unknowns from `shift` on, strict where it must be: numbers 0,
@@ -212,34 +183,32 @@ pub fn judge(
     at: usize,
     count: usize,
     must: bool,
-) -> Verdict
+) -> Result<(), Mismatch>
     requires count_in_bounds { shift + count ≤ length sums.old }
     requires numbers_in { NumbersIn words.now at (count + 1) }
     ensures result_value { number_of result ≡ sums_test k (strictly bound.strict (row_of sums.old bound.value)) (onward shift (strictly must (row_in words.now at count))) }
-    ensures sums_after { result ≡ Verdict.Holds → sums.new ≡ replicate (length sums.old) (pos 0) }
+    ensures sums_after { result ≡ Ok tt → sums.new ≡ replicate (length sums.old) (pos 0) }
 {
     if !agree(sums, k, shift, words, at, count) {
-        return Verdict::CoefficientsDiffer;
+        return Err(Mismatch::CoefficientsDiffer);
     }
     let goal = signed_word(words, at + 4 * count);
-    if bound_passes(k, bound.value, bound.strict, goal, must) {
-        Verdict::Holds
-    } else {
-        Verdict::BoundFails
+    if !bound_passes(k, bound.value, bound.strict, goal, must) {
+        return Err(Mismatch::BoundFails);
     }
+    Ok(())
 }
 
 // The same where the goal is 0 ≤ 0 and k is 0: all sums must be 0 and the bound below 0, or 0 with a strict row among the summed.
-pub fn judge_zero(sums: &[i64], bound: Bound) -> Verdict
+pub fn judge_zero(sums: &[i64], bound: Bound) -> Result<(), Mismatch>
     ensures result_value { number_of result ≡ sums_test 0 (strictly bound.strict (row_of sums.now bound.value)) zero_row }
-    ensures sums_value { result ≡ Verdict.Holds → sums.now ≡ replicate (length sums.now) (pos 0) }
+    ensures sums_value { result ≡ Ok tt → sums.now ≡ replicate (length sums.now) (pos 0) }
 {
-    if !all_zero(sums, 0, sums.len()) {
-        return Verdict::CoefficientsDiffer;
+    if !all_zero(sums) {
+        return Err(Mismatch::CoefficientsDiffer);
     }
-    if bound_passes(0, bound.value, bound.strict, 0, false) {
-        Verdict::Holds
-    } else {
-        Verdict::BoundFails
+    if !bound_passes(0, bound.value, bound.strict, 0, false) {
+        return Err(Mismatch::BoundFails);
     }
+    Ok(())
 }

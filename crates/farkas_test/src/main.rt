@@ -15,7 +15,7 @@ ghost use Rattle.farkas.specs.Farkas.{number_of};
 ghost use Rattle.farkas.specs.Sizes.{Within};
 
 use farkas::words::signed_word;
-use farkas::{Bound, Verdict};
+use farkas::{Bound, Mismatch};
 use std::io;
 
 // Rows of one coefficient: the region x ≤ 10, which is the invariant too; the unsafe row −x ≤ −11; 0 ≤ 0; and the row with the lowest
@@ -147,21 +147,22 @@ fn print_goal(rt: &impl Print, width: usize, shift: usize, words: &[u8], n: usiz
     print_number(rt, signed_word(words, 4 * n))
 }
 
-// The number of a verdict.
-fn number(v: Verdict) -> u64
-    ensures { result ≡ number_of v }
+// The number of what the test finds.
+#[tactic(auto, unfolding(farkas::specs::Farkas::number_of))]
+fn number(found: Result<(), Mismatch>) -> u64
+    ensures { result ≡ number_of found }
 {
-    match v {
-        Verdict::Holds => 0,
-        Verdict::CoefficientsDiffer => 10,
-        Verdict::BoundFails => 11,
+    match found {
+        Ok(()) => 0,
+        Err(Mismatch::CoefficientsDiffer) => 10,
+        Err(Mismatch::BoundFails) => 11,
     }
 }
 
-// Writes the number of a verdict, and ends the line.
-fn print_verdict(rt: &impl Print, v: Verdict) -> io::Result<()> {
+// Writes the number of what the test finds, and ends the line.
+fn print_number_of(rt: &impl Print, found: Result<(), Mismatch>) -> io::Result<()> {
     print(rt, b": ")?;
-    rt.println(number(v))
+    rt.println(number(found))
 }
 
 // A summed bound without a strict row among the summed.
@@ -201,7 +202,7 @@ fn try_marked(
     print_mark(rt, must)?;
     print(rt, b", k ")?;
     rt.print(k)?;
-    print_verdict(rt, farkas::judge(sums, bound, k, shift, words, 0, n, must))
+    print_number_of(rt, farkas::judge(sums, bound, k, shift, words, 0, n, must))
 }
 
 // The same where nothing is strict.
@@ -226,7 +227,7 @@ fn try_zero_marked(rt: &impl Print, name: &[u8], sums: &[i64], bound: Bound) -> 
     print_sums(rt, sums, bound.value)?;
     print_mark(rt, bound.strict)?;
     print(rt, b", goal 0 bound 0, k 0")?;
-    print_verdict(rt, farkas::judge_zero(sums, bound))
+    print_number_of(rt, farkas::judge_zero(sums, bound))
 }
 
 fn try_zero(rt: &impl Print, name: &[u8], sums: &[i64], bound: i64) -> io::Result<()> {

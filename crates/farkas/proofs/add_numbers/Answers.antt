@@ -4,29 +4,23 @@ use mathlib.Core.List.{List}
 use Prim.Native.Nat.{ℕ, ◌+◌, ◌*◌, ◌^◌, ◌<◌}
 use native.Mathlib.Omega.{arith}
 use lib.IntN.{ℤ, pos, nat_abs, ◌+ℤ◌, ◌*ℤ◌}
-use lib.ListN.{length, get_or, set}
+use lib.ListN.{get_or, set}
 use mir.Syntax.{w64}
 use mir.Val.{to_z, of_z}
 use mir.Facts.{to_z-of_z}
 use Rattle.farkas.specs.Rows.{item}
 use Rattle.farkas.specs.Words.{signed_at, numbers_at}
 use Rattle.farkas.specs.Sums.{plus_from}
-use Rattle.farkas.proofs.SumLaws.{room-bits, sum-bits, plus_none, plus-from-length, plus-read, plus-store, numbers-length, numbers_more}
+use Rattle.farkas.proofs.SumLaws.{room-bits, sum-bits, plus_none, plus-read, plus-store, numbers-length, numbers_more}
 use Rattle.farkas.proofs.add_numbers.Goals.{At-loop-i, In-loop-i}
 use Rattle.farkas.proofs.add_numbers.Goals as goal
-
--- the sums keep their length
-sums-length : (c : At-loop-i) → length c.loop-i.sums ≡ length c.args.sums.now
-sums-length c =
-    let a = c.args in
-    ap length c.loop-i.invariant.1 ∙ plus-from-length a.to (to_z w64 (of_z w64 a.m)) a.sums.now (numbers_at a.words.now a.at c.loop-i.i)
 
 -- in a turn, what stands there is as it was
 as_it_was : (c : At-loop-i) → get_or c.loop-i.sums (c.args.to + c.loop-i.i) (pos 0) ≡ get_or c.args.sums.now (c.args.to + c.loop-i.i) (pos 0)
 as_it_was c =
     let a = c.args in
     let xs = numbers_at a.words.now a.at c.loop-i.i in
-    ap (λ (ys : List ℤ). get_or ys (a.to + c.loop-i.i) (pos 0)) c.loop-i.invariant.1
+    ap (λ (ys : List ℤ). get_or ys (a.to + c.loop-i.i) (pos 0)) c.loop-i.invariant
     ∙ plus-read a.to (to_z w64 (of_z w64 a.m)) a.sums.now xs (a.to + c.loop-i.i) (ap (λ (n : ℕ). a.to + n) (sym (numbers-length a.words.now a.at c.loop-i.i)))
 
 -- and there is room for what is added
@@ -36,40 +30,13 @@ room-here c = c.requires.count_in_bounds.1.room c.loop-i.i (omega arith)
 
 pub loop-i-init : goal.loop-i-init
 unfolding numbers_at
-loop-i-init c = (omega arith, plus_none c.args.to _ c.args.sums.now)
-
-pub overflow_add-to : goal.overflow_add-to
-overflow_add-to c = omega arith
-
-pub slice_copy_out-multiply_add : goal.slice_copy_out-multiply_add
-slice_copy_out-multiply_add c = omega (arith, sums-length (goal.at.slice_copy_out-multiply_add c).At-loop-i)
-
-pub overflow_mul-i : goal.overflow_mul-i
-overflow_mul-i c = omega arith
-
-pub overflow_add-at : goal.overflow_add-at
-overflow_add-at c = omega arith
-
-pub signed_word-requires : goal.signed_word-requires
-signed_word-requires c = omega arith
+loop-i-init c = plus_none c.args.to _ c.args.sums.now
 
 pub multiply_add-requires : goal.multiply_add-requires
 multiply_add-requires c =
     let i = c.args.to + c.loop-i.i in
     room-bits (get_or c.loop-i.sums i (pos 0)) c.args.m c.signed_word.result c.ranges.m
     (rw (as_it_was (goal.at.multiply_add-requires c).At-loop-i) (room-here (goal.at.multiply_add-requires c).In-loop-i)) c.signed_word.ensures.result_bound
-
-pub overflow_add-to-in-loop-i : goal.overflow_add-to-in-loop-i
-overflow_add-to-in-loop-i c = omega arith
-
-pub bounds-sums-to : goal.bounds-sums-to
-bounds-sums-to c = omega (arith, sums-length (goal.at.bounds-sums-to c).At-loop-i)
-
-pub overflow_add-i : goal.overflow_add-i
-overflow_add-i c = omega arith
-
-pub loop-i-smaller : goal.loop-i-smaller
-loop-i-smaller c = omega arith
 
 pub loop-i-preserved : goal.loop-i-preserved
 loop-i-preserved c =
@@ -85,18 +52,13 @@ loop-i-preserved c =
     ∙ c.multiply_add.ensures
     ∙ sum-bits x a.m y c.ranges.m (rw (as_it_was (goal.at.loop-i-preserved c).At-loop-i) (room-here (goal.at.loop-i-preserved c).In-loop-i)) c.signed_word.ensures.result_bound
     ∙ ap₂ (λ (v k : ℤ). v +ℤ k *ℤ y) (as_it_was (goal.at.loop-i-preserved c).At-loop-i) (sym (to_z-of_z c.ranges.m))
-    ∙ ap (λ (z : ℤ). get_or old (a.to + i) (pos 0) +ℤ m *ℤ z) c.signed_word.ensures.value in (
-      omega arith,
-      ap₂ (λ (ys : List ℤ) (v : ℤ). set ys (a.to + i) v) c.loop-i.invariant.1 told
-          ∙ plus-store a.to m old xs (signed_at a.words.now (a.at + 4 * i)) (a.to + i) (ap (λ (n : ℕ). a.to + n) (sym (numbers-length a.words.now a.at i))) (omega arith)
-          ∙ ap (plus_from a.to m old) (numbers_more a.words.now a.at i),
-    )
-
-pub shape_of-sums : goal.shape_of-sums
-shape_of-sums c = sums-length (goal.at.shape_of-sums c).At-loop-i
+    ∙ ap (λ (z : ℤ). get_or old (a.to + i) (pos 0) +ℤ m *ℤ z) c.signed_word.ensures.value in
+    ap₂ (λ (ys : List ℤ) (v : ℤ). set ys (a.to + i) v) c.loop-i.invariant told
+    ∙ plus-store a.to m old xs (signed_at a.words.now (a.at + 4 * i)) (a.to + i) (ap (λ (n : ℕ). a.to + n) (sym (numbers-length a.words.now a.at i))) (omega arith)
+    ∙ ap (plus_from a.to m old) (numbers_more a.words.now a.at i)
 
 pub returns : goal.returns
 returns c =
     let a = c.args in
     let whole : c.loop-i.i ≡ a.count = omega arith in
-    c.loop-i.invariant.1 ∙ ap₂ (λ (m : ℤ) (n : ℕ). plus_from a.to m a.sums.now (numbers_at a.words.now a.at n)) (to_z-of_z c.ranges.m) whole
+    c.loop-i.invariant ∙ ap₂ (λ (m : ℤ) (n : ℕ). plus_from a.to m a.sums.now (numbers_at a.words.now a.at n)) (to_z-of_z c.ranges.m) whole

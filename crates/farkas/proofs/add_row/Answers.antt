@@ -12,23 +12,23 @@ use Rattle.farkas.specs.Rows.{row_of, onward}
 use Rattle.farkas.specs.Words.{numbers_at, row_in}
 use Rattle.farkas.specs.Sums.{plus_from}
 use Rattle.farkas.proofs.SumLaws.{plus-onward, numbers-length, room-all, add-plain}
-use Rattle.farkas.proofs.add_row.Goals.{After-times-by}
+use Rattle.farkas.proofs.add_row.Goals.{After-from-by}
 use Rattle.farkas.proofs.add_row.Goals as goal
 
 -- how often the row is added, and its size
-often : (c : After-times-by) → to_z w64 (of_z w64 c.times-by.result) ≡ pos c.args.m
-often c = to_z-of_z {w = w64} {z = c.times-by.result} (record { sfits = c.times-by.type_inv }) ∙ c.times-by.ensures.0
+often : (c : After-from-by) → to_z w64 (of_z w64 c.from-by.result) ≡ pos c.args.m
+often c = to_z-of_z {w = w64} {z = c.from-by.result} (record { sfits = c.from-by.type_inv }) ∙ c.from-by.ensures
 
-size : (c : After-times-by) → nat_abs (to_z w64 (of_z w64 c.times-by.result)) ≡ c.args.m
-size c = ap nat_abs (to_z-of_z {w = w64} {z = c.times-by.result} (record { sfits = c.times-by.type_inv })) ∙ c.times-by.ensures.1
+size : (c : After-from-by) → nat_abs (to_z w64 (of_z w64 c.from-by.result)) ≡ c.args.m
+size c = ap nat_abs (often c)
 
 pub add_numbers-requires : goal.add_numbers-requires
-add_numbers-requires c = record { count_in_bounds = (c.requires.count_in_bounds.0, rw (size (goal.at.add_numbers-requires c).After-times-by) (room-all c.args.shift c.args.count c.requires.count_in_bounds.1)); numbers_in = (omega arith, c.requires.numbers_in.1) }
+add_numbers-requires c = record { count_in_bounds = (c.requires.count_in_bounds.0, rw (size (goal.at.add_numbers-requires c).After-from-by) (room-all c.args.shift c.args.count c.requires.count_in_bounds.1)); numbers_in = (omega arith, c.requires.numbers_in.1) }
 
 pub multiply_add-requires : goal.multiply_add-requires
 multiply_add-requires c =
     let small : nat_abs (to_z w64 (of_z w64 c.signed_word.result)) ≤ 2 ^ 31 = rw (to_z-of_z {z = c.signed_word.result} (record { sfits = c.signed_word.type_inv })) c.signed_word.ensures.result_bound in
-    rw (to_z-of_z c.ranges.bound, size (goal.at.multiply_add-requires c).After-times-by) (omega (arith, c.requires.count_in_bounds.1.bound, mul-le-mul_left c.args.m small))
+    rw (to_z-of_z c.ranges.bound, size (goal.at.multiply_add-requires c).After-from-by) (omega (arith, c.requires.count_in_bounds.1.bound, mul-le-mul_left c.args.m small))
 
 pub returns : goal.returns
 unfolding onward row_in
@@ -40,10 +40,10 @@ returns c =
     let wide : a.shift + length row ≤ length a.sums.now = omega (arith, c.requires.count_in_bounds.0, numbers-length a.words.now a.at a.count) in
     ap₂ row_of
     (c.add_numbers.ensures
-    ∙ ap (λ (m : ℤ). plus_from a.shift m a.sums.now row) (often (goal.at.returns c).After-times-by)
+    ∙ ap (λ (m : ℤ). plus_from a.shift m a.sums.now row) (often (goal.at.returns c).After-from-by)
     ∙ sym (plus-onward a.shift a.m a.sums.now row wide))
     (told
     ∙ c.multiply_add.ensures
-    ∙ ap₂ (λ (b m : ℤ). b +ℤ m *ℤ to_z w64 (of_z w64 c.signed_word.result)) (to_z-of_z c.ranges.bound) (often (goal.at.returns c).After-times-by)
+    ∙ ap₂ (λ (b m : ℤ). b +ℤ m *ℤ to_z w64 (of_z w64 c.signed_word.result)) (to_z-of_z c.ranges.bound) (often (goal.at.returns c).After-from-by)
     ∙ ap (λ (y : ℤ). a.bound +ℤ pos a.m *ℤ y) (word ∙ c.signed_word.ensures.value))
     ∙ add-plain a.sums.now a.bound a.m (onward a.shift (row_in a.words.now a.at a.count)) refl

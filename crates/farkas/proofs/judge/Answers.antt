@@ -2,8 +2,7 @@
 use mathlib.Core.Path.{◌≡◌, sym, ap₂, ◌∙◌}
 use mathlib.Core.Bool.{true}
 use mathlib.Core.List.{◌++◌}
-use Prim.Native.Nat.{ℕ, ◌+◌, ◌*◌}
-use native.Mathlib.Omega.{arith}
+use Prim.Native.Nat.{◌+◌, ◌*◌}
 use borrow.Author.Rules.{rules}
 use lib.IntN.{pos}
 use lib.ListN.{replicate}
@@ -16,9 +15,9 @@ use Rattle.farkas.specs.Farkas.{coefficients_agree, bound_passes, sums_test, num
 use Rattle.farkas.proofs.judge.Goals.{After-bound_passes}
 use Rattle.farkas.proofs.judge.Goals as goal
 
-pub returns-then-not-agree : goal.returns-then-not-agree
+pub returns-then-not-agree-clause-result_value : goal.returns-then-not-agree-clause-result_value
 unfolding sums_test number_of onward row_in
-returns-then-not-agree c = record { result_value = rw (sym c.agree.ensures.value ∙ c.if-not-agree.true); sums_after = λ e. absurd (let z : ◌≡◌ {A = ℕ} 0 1 = cc in omega arith) }
+returns-then-not-agree-clause-result_value c = rw (sym c.agree.ensures.value ∙ c.if-not-agree.true)
 
 pub bound_passes-requires : goal.bound_passes-requires
 bound_passes-requires c = rw (to_z-of_z {z = c.signed_word-goal.result} (record { sfits = c.signed_word-goal.type_inv })) c.signed_word-goal.ensures.result_bound
@@ -36,10 +35,14 @@ tested c =
     c.bound_passes.ensures
     ∙ ap₂ (λ sum goal. bound_passes a.k sum a.bound.strict goal a.must) (to_z-of_z (value-fits c)) (to_z-of_z {w = w64} {z = k.result} (record { sfits = k.type_inv }) ∙ k.ensures.value)
 
-pub returns-then-bound_passes : goal.returns-then-bound_passes
+pub returns-then-not-bound_passes-clause-result_value : goal.returns-then-not-bound_passes-clause-result_value
 unfolding sums_test number_of onward row_in
-returns-then-bound_passes c = record { result_value = rw (agreed (goal.at.returns-then-bound_passes c).After-bound_passes, sym (tested (goal.at.returns-then-bound_passes c).After-bound_passes) ∙ c.if-bound_passes.true); sums_after = λ e. c.agree.ensures.sums_after (c.if-not-agree.false) }
+returns-then-not-bound_passes-clause-result_value c =
+    let after = (goal.at.returns-then-not-bound_passes-clause-result_value c).After-bound_passes in
+    rw (agreed after, sym (tested after) ∙ c.if-not-bound_passes.true)
 
-pub returns-else-bound_passes : goal.returns-else-bound_passes
+pub returns-clause-result_value : goal.returns-clause-result_value
 unfolding sums_test number_of onward row_in
-returns-else-bound_passes c = record { result_value = rw (agreed (goal.at.returns-else-bound_passes c).After-bound_passes, sym (tested (goal.at.returns-else-bound_passes c).After-bound_passes) ∙ c.if-bound_passes.false); sums_after = λ e. absurd (let z : ◌≡◌ {A = ℕ} 0 1 = cc in omega arith) }
+returns-clause-result_value c =
+    let after = (goal.at.returns-clause-result_value c).After-bound_passes in
+    rw (agreed after, sym (tested after) ∙ c.if-not-bound_passes.false)

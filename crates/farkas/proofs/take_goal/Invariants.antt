@@ -1,5 +1,5 @@
 use mathlib.Core.Path.{◌≡◌}
-use Prim.Native.Nat.{ℕ, ◌+◌, ◌*◌, ◌-◌, ◌≤◌, ◌<◌}
+use Prim.Native.Nat.{ℕ, ◌+◌, ◌*◌, ◌<◌}
 use lib.IntN.{pos, ◌*ℤ◌}
 use lib.ListN.{get_or}
 use Rattle.farkas.specs.Words.{signed_at}
@@ -8,7 +8,4 @@ use Rattle.farkas.proofs.take_goal.Given as goal
 
 abbrev pub invariant-loop-i : goal.invariant-loop-i
 invariant-loop-i l =
-    (l.i ≤ l.count) × (l.sums ≡ cleared l.from l.i l.initial.sums) × ((j : ℕ) → j < l.i → get_or l.initial.sums (l.from + j) (pos 0) ≡ pos l.k *ℤ signed_at l.words (l.at + 4 * j))
-
-abbrev pub decreases-loop-i : goal.decreases-loop-i
-decreases-loop-i l = l.count - l.i
+    (l.sums ≡ cleared l.from l.i l.initial.sums) × ((j : ℕ) → j < l.i → get_or l.initial.sums (l.from + j) (pos 0) ≡ pos l.k *ℤ signed_at l.words (l.at + 4 * j))
