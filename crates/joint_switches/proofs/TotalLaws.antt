@@ -2,7 +2,7 @@
 -- Assumes nothing.
 use mathlib.Core.Path.{◌≡◌, refl, sym, ap, ◌∙◌}
 use mathlib.Core.Bool.{Bool, true, false, cond}
-use mathlib.Core.List.{List, map}
+use mathlib.Core.List.{List, [], ◌∷◌, map}
 use Prim.Native.Nat.{ℕ, zero, suc, ◌+◌, ◌*◌, ◌-◌, ◌^◌, ◌≤◌, ◌<◌}
 use native.Mathlib.Decide.{ℕ_discrete}
 use native.Mathlib.Nat.{le_trans, mul-le-mul, pow-succ', pow-le-pow_right}
@@ -12,6 +12,8 @@ use lib.Count.{ones}
 use lib.Dec.{eqb}
 use lib.ListN.{length, get_or, set}
 use lib.Seq.{get_or-set_same, get_or-set_other}
+use Rattle.std.specs.List.{sum}
+use Rattle.std.proofs.lemmas.List.Sums.{sum_by-cons}
 use Rattle.farkas.specs.Lists.{All, none, more}
 use Rattle.formats.specs.Model.{Component, has_event}
 use Rattle.formats.specs.Locations.{location_count}
@@ -21,8 +23,9 @@ use Rattle.models.specs.Index.{entry, GoodIndex, components_from}
 use Rattle.models.specs.Counts.{component_at}
 use Rattle.formats.proofs.WellFormed.{GoodComponent}
 use Rattle.formats.proofs.JointCounts.{count_most}
+use Rattle.formats.proofs.SumLaws.{sum-most}
 use Rattle.formats.proofs.JointProduct.{countable, joints-total}
-use Rattle.models.proofs.GoodIndexLaws.{counted-at, components-back, components-end, good-components, few-components}
+use Rattle.models.proofs.GoodIndexLaws.{components-back, components-end, good-components, few-components}
 use Rattle.joint_switches.proofs.JointLoops.{all_drop, components_on}
 use Rattle.joint_switches.proofs.TableLaws.{by-numbers}
 use Rattle.joint_switches.proofs.NumberedLaws.{labelled-few}
@@ -150,11 +153,19 @@ filled-whole f n xs long w =
     start : (p : ℕ) → p ≡ 0 + p
     start p = omega arith
 
--- all events, one after the other: what an array of their totals has at a number, and the law that their sum is how many there are
-pub total-at : (f : ℕ → ℕ) (totals : List ℕ) (e : ℕ) → totals ≡ map f (count_up 0 16) → e < 16 → get_or totals e 0 ≡ f e
-total-at f totals e p h = ap (λ (xs : List ℕ). get_or xs e 0) p ∙ counted-at f 16 e 0 h
+-- all events: the sum of an array of their totals, which is how many joint switches there are, and how large it gets
+sum-mapped : (f : ℕ → ℕ) (xs : List ℕ) → sum (map f xs) ≡ sum_over f xs
+unfolding sum_over
+sum-mapped f [] = refl
+sum-mapped f (x ∷ xs) = sum_by-cons (λ n. n) (f x) (map f xs) ∙ ap (λ (n : ℕ). f x + n) (sum-mapped f xs)
 
-pub totals-summed : {s index : List ℕ} → GoodIndex s index → (e count : ℕ) → e ≡ 16 → count ≡ sum_over (event_total (components_from s index)) (count_up 0 e) → count ≡ length (joints (components_from s index))
-unfolding joint_total
-totals-summed {s} {index} g e count whole h =
-    h ∙ ap (λ (n : ℕ). sum_over (event_total (components_from s index)) (count_up 0 n)) whole ∙ sym (joints-total (countable (good-components g)))
+module _ {s index totals : List ℕ} (g : GoodIndex s index) (told : totals ≡ map (event_total (components_from s index)) (count_up 0 16)) where
+  in_all : sum totals ≡ sum_over (event_total (components_from s index)) (count_up 0 16)
+  in_all = ap sum told ∙ sum-mapped (event_total (components_from s index)) (count_up 0 16)
+
+  pub totals-few : sum totals < 2 ^ 32
+  totals-few = omega (arith, in_all, sum-most (event_total (components_from s index)) 1048576 (event-few g) 16)
+
+  pub totals-summed : sum totals ≡ length (joints (components_from s index))
+  unfolding joint_total
+  totals-summed = in_all ∙ sym (joints-total (countable (good-components g)))

@@ -22,7 +22,7 @@ fn labels_of(s: &[u8], index: &Index, table: &LabelTable, k: usize, e: u32) -> u
     requires k_bound { (k < components_in index.now) × (e ≤ 15) }
     ensures { result ≡ labelled (component_at s.now index.now k) e }
 {
-    table[16 * k + e as usize] as u32
+    u32::from(table[16 * k + e as usize])
 }
 
 // A component's factor for an event: its switches with that label if it is in the scope, else its modes.
@@ -45,9 +45,7 @@ fn together_total(s: &[u8], index: &Index, table: &LabelTable, e: u32) -> u32
     ensures { result ≡ together_total (components_from s.now index.now) e }
 {
     let mut count: u32 = 1;
-    let mut k = component_count(s, index);
-    while 0 < k {
-        k -= 1;
+    for k in (0..component_count(s, index)).rev() {
         count = choices_of(s, index, table, k, e) * count;
     }
     count
@@ -73,9 +71,7 @@ fn silent_total(s: &[u8], index: &Index, table: &LabelTable) -> u32
 {
     let mut count: u32 = 0;
     let mut unit: u32 = 1;
-    let mut k = component_count(s, index);
-    while 0 < k {
-        k -= 1;
+    for k in (0..component_count(s, index)).rev() {
         let modes = mode_count(s, index, k);
         count = labels_of(s, index, table, k, 0) * unit + modes * count;
         unit = modes * unit;
@@ -90,10 +86,8 @@ fn totals_by(s: &[u8], index: &Index, table: &LabelTable) -> [u32; 16]
 {
     let mut totals = [0u32; 16];
     totals[0] = silent_total(s, index, table);
-    let mut e: u32 = 1;
-    while e < 16 {
+    for e in 1..16 {
         totals[e as usize] = event_total(s, index, table, e);
-        e += 1;
     }
     totals
 }
@@ -114,11 +108,5 @@ pub fn joint_total(s: &[u8], index: &Index, totals: [u32; 16]) -> u32
     requires totals_value { totals ≡ map (event_total (components_from s.now index.now)) (count_up 0 16) }
     ensures { result ≡ length (joints (components_from s.now index.now)) }
 {
-    let mut count: u32 = 0;
-    let mut e: usize = 0;
-    while e < 16 {
-        count += totals[e];
-        e += 1;
-    }
-    count
+    totals.iter().sum()
 }

@@ -1,5 +1,4 @@
 use mathlib.Core.Path.{◌≡◌}
-use Prim.Native.Nat.{◌-◌, ◌≤◌}
 use lib.ListN.{length}
 use Rattle.formats.specs.JointTotals.{event_total}
 use Rattle.models.specs.Index.{components_from}
@@ -7,7 +6,4 @@ use Rattle.joint_switches.proofs.TotalLaws.{FilledTo}
 use Rattle.joint_switches.proofs.totals.totals_by.Given as goal
 
 abbrev pub invariant-loop-e : goal.invariant-loop-e
-invariant-loop-e l = (1 ≤ l.e) × (l.e ≤ 16) × (length l.totals ≡ 16) × FilledTo (event_total (components_from l.s l.index)) l.e l.totals
-
-abbrev pub decreases-loop-e : goal.decreases-loop-e
-decreases-loop-e l = 16 - l.e
+invariant-loop-e l = (length l.totals ≡ 16) × FilledTo (event_total (components_from l.s l.index)) l.e l.totals
