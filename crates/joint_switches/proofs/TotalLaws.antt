@@ -35,11 +35,11 @@ few-modes none = none
 few-modes (more g rest) = more g.most (few-modes rest)
 
 -- a component's factor is at most 32
-either-few : (b : Bool) (x y : ℕ) → x ≤ 32 → y ≤ 8 → cond b x y ≤ 32
+pub either-few : (b : Bool) (x y : ℕ) → x ≤ 32 → y ≤ 8 → cond b x y ≤ 32
 either-few true x y h k = h
 either-few false x y h k = omega arith
 
-choices-few : {n : ℕ} (c : Component) (e : ℕ) → GoodComponent n c → choices c e ≤ 32
+pub choices-few : {n : ℕ} (c : Component) (e : ℕ) → GoodComponent n c → choices c e ≤ 32
 unfolding choices
 choices-few c e g = either-few (has_event c.alphabet e) (labelled c e) (length c.modes) (omega (arith, labelled-few c e, g.few)) g.most
 

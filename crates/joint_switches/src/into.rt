@@ -8,7 +8,7 @@ ghost use Rattle.joint_switches.specs.Tables.{Blank, SmallModes};
 ghost use Rattle.joint_switches.specs.Numbered.{numbered, ByMode};
 ghost use Rattle.joint_switches.specs.Counted.{Counted};
 
-use crate::joints::{component_count, in_scope};
+use crate::joints::{component_count, in_scope, product_over};
 use crate::numbered::count_switches;
 use models::layout::{FIRST_TOTAL, Index};
 
@@ -68,11 +68,7 @@ fn together_into(s: &[u8], index: &Index, table: &EnteringTable, modes: [u8; 4],
     requires small_modes { SmallModes index.now modes × (e ≤ 15) }
     ensures { result ≡ together_into (components_from s.now index.now) (per_component index.now modes) e }
 {
-    let mut count: u32 = 1;
-    for k in (0..component_count(s, index)).rev() {
-        count = arrivals_of(s, index, table, k, modes[k], e) * count;
-    }
-    count
+    product_over(s, index, |k| arrivals_of(s, index, table, k, modes[k], e))
 }
 
 // An event from 1: none where the event has no joint switch at all, as the index says.

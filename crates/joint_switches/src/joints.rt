@@ -1,6 +1,6 @@
 // Locations and joint switches of a model, by its index. Joint switches are counted, and one is found by its number among those of its
 // location and event; they are never listed. The sheet is handed over for the contracts, which speak of the model: no byte of it is read.
-ghost use Rattle.std.specs.Prelude.{◌≡◌, cond, false, ◌++◌, ◌+◌, ◌-◌, ◌<◌, ◌≤◌, eqb, length, replicate};
+ghost use Rattle.std.specs.Prelude.{◌≡◌, ℕ, cond, false, ◌++◌, ◌+◌, ◌-◌, ◌*◌, ◌<◌, ◌≤◌, eqb, length, replicate};
 ghost use Rattle.formats.specs.Model.{has_event};
 ghost use Rattle.formats.specs.Locations.{location_count, modes_at};
 ghost use Rattle.formats.specs.Joint.{stays, switch_of, leaves, bit, scope_mask};
@@ -39,16 +39,26 @@ pub fn switch_count(s: &[u8], index: &Index, k: usize) -> usize
     usize::from(index[FIRST_BLOCK + BLOCK_LENGTH * k + SWITCH_COUNT_AT])
 }
 
+// A product over the components, from the last to the first, of what is told of each by its number.
+pub(crate) fn product_over<F: Fn(usize) -> u32>(s: &[u8], index: &Index, factor: F) -> u32
+    requires good_index { GoodIndex s.now index.now }
+    requires callable { (k : ℕ) → k < components_in index.now → F.pre factor k }
+    requires small { (k n : ℕ) → k < components_in index.now → F.post factor k n → n ≤ 32 }
+    ensures { (product : ℕ → ℕ) → product (components_in index.now) ≡ 1 → ((k n : ℕ) → 0 < k → k ≤ components_in index.now → F.post factor (k - 1) n → n * product k ≡ product (k - 1)) → result ≡ product 0 }
+{
+    let mut product: u32 = 1;
+    for k in (0..component_count(s, index)).rev() {
+        product = factor(k) * product;
+    }
+    product
+}
+
 // How many locations there are: the product of the mode counts.
 pub fn location_count(s: &[u8], index: &Index) -> u32
     requires { GoodIndex s.now index.now }
     ensures { result ≡ location_count (components_from s.now index.now) }
 {
-    let mut count: u32 = 1;
-    for k in (0..component_count(s, index)).rev() {
-        count = mode_count(s, index, k) * count;
-    }
-    count
+    product_over(s, index, |k| mode_count(s, index, k))
 }
 
 // The modes of a location, one per component, and 0 for an absent one. They are the digits of its number, the last component's last.

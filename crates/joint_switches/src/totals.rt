@@ -7,7 +7,7 @@ ghost use Rattle.models.specs.Index.{GoodIndex, components_from, components_in};
 ghost use Rattle.models.specs.Counts.{component_at};
 ghost use Rattle.joint_switches.specs.Numbered.{ByLabel};
 
-use crate::joints::{component_count, in_scope, mode_count, scope_mask};
+use crate::joints::{component_count, in_scope, mode_count, product_over, scope_mask};
 use crate::numbered::count_switches;
 use models::layout::Index;
 
@@ -44,11 +44,7 @@ fn together_total(s: &[u8], index: &Index, table: &LabelTable, e: u32) -> u32
     requires e_bound { e ≤ 15 }
     ensures { result ≡ together_total (components_from s.now index.now) e }
 {
-    let mut count: u32 = 1;
-    for k in (0..component_count(s, index)).rev() {
-        count = choices_of(s, index, table, k, e) * count;
-    }
-    count
+    product_over(s, index, |k| choices_of(s, index, table, k, e))
 }
 
 // How many joint switches an event from 1 has, over all locations: none where the scope mask has no ones.
@@ -58,7 +54,7 @@ fn event_total(s: &[u8], index: &Index, table: &LabelTable, e: u32) -> u32
     ensures { result ≡ event_total (components_from s.now index.now) e }
 {
     let mask = scope_mask(s, index, e);
-    if u32::count_ones(mask) == 0 {
+    if mask.count_ones() == 0 {
         return 0;
     }
     together_total(s, index, table, e)

@@ -1,30 +1,31 @@
--- What has been counted are those of the components from here on. Assumes nothing.
-use Prim.Native.Nat.{◌-◌, ◌≤◌}
+-- Each factor is in how many ways a component arrives. Assumes nothing.
+use mathlib.Core.Path.{◌≡◌, refl, sym}
+use Prim.Native.Nat.{ℕ, ◌-◌, ◌≤◌}
 use native.Mathlib.Omega.{arith}
-use lib.ListN.{length}
+use borrow.Author.Rules.{rules}
+use lib.ListN.{length, get_or}
+use Rattle.formats.specs.JointTotals.{arrivals, together_into}
 use Rattle.models.specs.Index.{entry}
-use Rattle.joint_switches.proofs.IntoLaws.{together-starts, together-goes-on, together-few}
+use Rattle.models.specs.Counts.{component_at}
+use Rattle.models.proofs.GoodIndexLaws.{good-component}
+use Rattle.joint_switches.proofs.JointLoops.{components_on, numbers_on}
+use Rattle.joint_switches.proofs.IntoLaws.{arrivals-few, together-starts, together-goes-on}
 use Rattle.joint_switches.proofs.into.together_into.Goals as goal
 
-pub loop-k-init : goal.loop-k-init
-loop-k-init c =
+pub product_over-requires-clause-small : goal.product_over-requires-clause-small
+product_over-requires-clause-small c = λ k n h told.
     let a = c.args in
-    let g = c.requires.good_index.0 in
-    let long : entry a.index.now 1 ≤ length a.modes = omega (arith, g.few, c.well_formed.1.1.1.0.1.0.1) in
-    rw c.component_count-k.ensures (together-starts g a.modes long a.e)
+    let component = component_at a.s.now a.index.now k in
+    let is : n ≡ arrivals component (get_or a.modes k 0) a.e = search rules in
+    omega (arith, is, arrivals-few component (get_or a.modes k 0) a.e (good-component c.requires.good_index.0 k h))
 
-pub overflow_mul-count : goal.overflow_mul-count
-overflow_mul-count c =
+pub returns : goal.returns
+returns c =
     let a = c.args in
     let g = c.requires.good_index.0 in
     let long : entry a.index.now 1 ≤ length a.modes = omega (arith, g.few, c.well_formed.1.1.1.0.1.0.1) in
-    let l = c.loop-k in
-    omega (arith, together-goes-on g a.modes long a.e l.k c.arrivals_of-count.result l.count c.loop-k-test.true (omega arith) c.arrivals_of-count.ensures l.invariant, together-few g a.modes long a.e (l.k - 1))
-
-pub loop-k-preserved : goal.loop-k-preserved
-loop-k-preserved c =
-    let a = c.args in
-    let g = c.requires.good_index.0 in
-    let long : entry a.index.now 1 ≤ length a.modes = omega (arith, g.few, c.well_formed.1.1.1.0.1.0.1) in
-    let l = c.loop-k in
-    together-goes-on g a.modes long a.e l.k c.arrivals_of-count.result l.count c.loop-k-test.true (omega arith) c.arrivals_of-count.ensures l.invariant
+    let ways = λ (k : ℕ). together_into (components_on a.s.now a.index.now k) (numbers_on a.index.now a.modes k) a.e in
+    c.product_over.ensures ways (sym (together-starts g a.modes long a.e))
+    (λ k n h l told.
+        let is : n ≡ arrivals (component_at a.s.now a.index.now (k - 1)) (get_or a.modes (k - 1) 0) a.e = search rules in
+        together-goes-on g a.modes long a.e k n (ways k) h l is refl)

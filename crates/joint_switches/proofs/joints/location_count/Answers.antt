@@ -1,18 +1,25 @@
--- What has been counted is the number of locations of the components from here on. Assumes nothing.
-use Prim.Native.Nat.{◌-◌}
+-- Each factor is the number of a component's modes. Assumes nothing.
+use mathlib.Core.Path.{◌≡◌, sym, refl}
+use Prim.Native.Nat.{ℕ, ◌-◌}
 use native.Mathlib.Omega.{arith}
-use Rattle.joint_switches.proofs.JointLoops.{count-starts, count-goes-on, count-few}
+use borrow.Author.Rules.{rules}
+use lib.ListN.{length}
+use Rattle.formats.specs.Locations.{location_count}
+use Rattle.models.specs.Counts.{component_at}
+use Rattle.models.proofs.GoodIndexLaws.{good-component}
+use Rattle.joint_switches.proofs.JointLoops.{components_on, count-starts, count-goes-on}
 use Rattle.joint_switches.proofs.joints.location_count.Goals as goal
 
-pub loop-k-init : goal.loop-k-init
-loop-k-init c = rw c.component_count-k.ensures (count-starts c.requires)
+pub product_over-requires-clause-small : goal.product_over-requires-clause-small
+product_over-requires-clause-small c = λ k n h told.
+    let is : n ≡ length (component_at c.args.s.now c.args.index.now k).modes = search rules in
+    omega (arith, is, (good-component c.requires k h).most)
 
-pub overflow_mul-count : goal.overflow_mul-count
-overflow_mul-count c =
-    let l = c.loop-k in
-    omega (arith, count-goes-on c.requires l.k c.mode_count-count.result l.count c.loop-k-test.true (omega arith) c.mode_count-count.ensures l.invariant, count-few c.requires (l.k - 1))
-
-pub loop-k-preserved : goal.loop-k-preserved
-loop-k-preserved c =
-    let l = c.loop-k in
-    count-goes-on c.requires l.k c.mode_count-count.result l.count c.loop-k-test.true (omega arith) c.mode_count-count.ensures l.invariant
+pub returns : goal.returns
+returns c =
+    let s = c.args.s.now in
+    let index = c.args.index.now in
+    c.product_over.ensures (λ (k : ℕ). location_count (components_on s index k)) (sym (count-starts c.requires))
+    (λ k n h l told.
+        let is : n ≡ length (component_at s index (k - 1)).modes = search rules in
+        count-goes-on c.requires k n (location_count (components_on s index k)) h l is refl)

@@ -11,7 +11,7 @@ use Rattle.joint_switches.specs.Slots.{together_in}
 use Rattle.formats.proofs.JointCounts.{none-later}
 use Rattle.joint_switches.proofs.JointLoops.{components_on, numbers_on, together_on, count-starts, count-goes-on, count-few, together-starts, together-goes-on, together-few}
 use Rattle.joint_switches.proofs.SlotLaws.{part-is, known-below, part-fits, parts-go-on, listed-none, listed-together}
-use Rattle.joint_switches.proofs.slots.list_together.Goals.{After-mode_count-unit, After-slice_known-in-loop-k-1, In-loop-k}
+use Rattle.joint_switches.proofs.slots.list_together.Goals.{After-mode_count-unit, After-list_part-n, In-loop-k}
 use Rattle.joint_switches.proofs.slots.list_together.Goals as goal
 
 pub loop-k-init : goal.loop-k-init
@@ -51,7 +51,7 @@ list_part-n-requires-clause-mode_in_bounds c =
     (known-below p.good_index.0 p.good_index.1 (c.loop-k.k - 1) (omega arith), p.index_bound.1.1)
 
 -- a turn: how many there are from here on
-module _ (c : After-slice_known-in-loop-k-1) where
+module _ (c : After-list_part-n) where
   next : c.list_part-n.result * c.loop-k.count ≡ length (together_on c.args.s.now c.args.index.now c.args.modes c.args.e (c.loop-k.k - 1))
   next =
       let l = c.loop-k in
@@ -63,7 +63,7 @@ module _ (c : After-slice_known-in-loop-k-1) where
 pub overflow_mul-count : goal.overflow_mul-count
 overflow_mul-count c =
     let l = c.loop-k in
-    omega (arith, next c, together-few c.requires.good_index.0 (l.k - 1) (numbers_on c.args.index.now c.args.modes (l.k - 1)) c.args.e)
+    omega (arith, next (goal.at.overflow_mul-count c).After-list_part-n, together-few c.requires.good_index.0 (l.k - 1) (numbers_on c.args.index.now c.args.modes (l.k - 1)) c.args.e)
 
 pub returns-then-count-eq0 : goal.returns-then-count-eq0
 returns-then-count-eq0 c =
@@ -71,7 +71,7 @@ returns-then-count-eq0 c =
     let a = c.args in
     let p = c.requires in
     let components = components_from a.s.now a.index.now in
-    let none = none-later components (per_component a.index.now a.modes) a.e (l.k - 1) (sym c.if-count-eq0.true ∙ next (goal.at.returns-then-count-eq0 c).After-slice_known-in-loop-k-1) in
+    let none = none-later components (per_component a.index.now a.modes) a.e (l.k - 1) (sym c.if-count-eq0.true ∙ next (goal.at.returns-then-count-eq0 c).After-list_part-n) in
     listed-none p.good_index.0 (together_in a.s.now a.index.now a.modes a.e) a.modes a.e (set l.counts (l.k - 1) c.list_part-n.result) c.list_part-n.new.ways (omega arith) none
 
 -- and how many locations
@@ -97,7 +97,7 @@ loop-k-preserved c =
       simp length-set l.invariant.0,
       units c,
       omega (arith, c.if-count-eq0.false),
-      next (goal.at.loop-k-preserved c).After-slice_known-in-loop-k-1,
+      next (goal.at.loop-k-preserved c).After-list_part-n,
       parts-go-on g a.modes a.e l.k h (omega arith) (part (goal.at.loop-k-preserved c).In-loop-k) is told.result l.counts l.ways told.new.ways (omega (arith, l.invariant.0, g.few)) told.ensures.value told.ensures.ways_at told.ensures.other_lines l.invariant.4,
     )
 

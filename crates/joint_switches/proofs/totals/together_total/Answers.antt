@@ -1,20 +1,27 @@
--- What has been counted are those of the components from here on. Assumes nothing.
-use Prim.Native.Nat.{◌-◌}
+-- Each factor is a component's choices. Assumes nothing.
+use mathlib.Core.Path.{◌≡◌, refl, sym}
+use Prim.Native.Nat.{ℕ, ◌-◌}
 use native.Mathlib.Omega.{arith}
-use Rattle.joint_switches.proofs.TotalLaws.{together-starts, together-goes-on, together-few}
+use borrow.Author.Rules.{rules}
+use Rattle.formats.specs.JointTotals.{choices, together_total}
+use Rattle.models.specs.Counts.{component_at}
+use Rattle.models.proofs.GoodIndexLaws.{good-component}
+use Rattle.joint_switches.proofs.JointLoops.{components_on}
+use Rattle.joint_switches.proofs.TotalLaws.{choices-few, together-starts, together-goes-on}
 use Rattle.joint_switches.proofs.totals.together_total.Goals as goal
 
-pub loop-k-init : goal.loop-k-init
-loop-k-init c = rw c.component_count-k.ensures (together-starts c.requires.good_index.0 c.args.e)
+pub product_over-requires-clause-small : goal.product_over-requires-clause-small
+product_over-requires-clause-small c = λ k n h told.
+    let component = component_at c.args.s.now c.args.index.now k in
+    let is : n ≡ choices component c.args.e = search rules in
+    omega (arith, is, choices-few component c.args.e (good-component c.requires.good_index.0 k h))
 
-pub overflow_mul-count : goal.overflow_mul-count
-overflow_mul-count c =
+pub returns : goal.returns
+returns c =
+    let a = c.args in
     let g = c.requires.good_index.0 in
-    let e = c.args.e in
-    let l = c.loop-k in
-    omega (arith, together-goes-on g e l.k c.choices_of-count.result l.count c.loop-k-test.true (omega arith) c.choices_of-count.ensures l.invariant, together-few g e (l.k - 1))
-
-pub loop-k-preserved : goal.loop-k-preserved
-loop-k-preserved c =
-    let l = c.loop-k in
-    together-goes-on c.requires.good_index.0 c.args.e l.k c.choices_of-count.result l.count c.loop-k-test.true (omega arith) c.choices_of-count.ensures l.invariant
+    let total = λ (k : ℕ). together_total (components_on a.s.now a.index.now k) a.e in
+    c.product_over.ensures total (sym (together-starts g a.e))
+    (λ k n h l told.
+        let is : n ≡ choices (component_at a.s.now a.index.now (k - 1)) a.e = search rules in
+        together-goes-on g a.e k n (total k) h l is refl)
