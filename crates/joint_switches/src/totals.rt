@@ -10,6 +10,7 @@ ghost use Rattle.joint_switches.specs.Numbered.{ByLabel};
 use crate::joints::{component_count, in_scope, mode_count, product_over, scope_mask};
 use crate::numbered::count_switches;
 use models::layout::Index;
+use std::array;
 
 // How many switches a component has with each of sixteen labels, for four components.
 const LABELS_LENGTH: usize = 64;
@@ -47,19 +48,6 @@ fn together_total(s: &[u8], index: &Index, table: &LabelTable, e: u32) -> u32
     product_over(s, index, |k| choices_of(s, index, table, k, e))
 }
 
-// How many joint switches an event from 1 has, over all locations: none where the scope mask has no ones.
-fn event_total(s: &[u8], index: &Index, table: &LabelTable, e: u32) -> u32
-    requires good_index { GoodIndex s.now index.now × ByLabel s.now index.now table.now }
-    requires le_e { (1 ≤ e) × (e ≤ 15) }
-    ensures { result ≡ event_total (components_from s.now index.now) e }
-{
-    let mask = scope_mask(s, index, e);
-    if mask.count_ones() == 0 {
-        return 0;
-    }
-    together_total(s, index, table, e)
-}
-
 // How many joint switches event 0 has, over all locations: one component moves, the others are in any of their modes.
 fn silent_total(s: &[u8], index: &Index, table: &LabelTable) -> u32
     requires { GoodIndex s.now index.now × ByLabel s.now index.now table.now }
@@ -75,17 +63,28 @@ fn silent_total(s: &[u8], index: &Index, table: &LabelTable) -> u32
     count
 }
 
+// How many joint switches an event has, over all locations: none where an event from 1 has a scope mask with no ones.
+fn event_total(s: &[u8], index: &Index, table: &LabelTable, e: u32) -> u32
+    requires good_index { GoodIndex s.now index.now × ByLabel s.now index.now table.now }
+    requires e_bound { e ≤ 15 }
+    ensures { result ≡ event_total (components_from s.now index.now) e }
+{
+    if e == 0 {
+        return silent_total(s, index, table);
+    }
+    let mask = scope_mask(s, index, e);
+    if mask.count_ones() == 0 {
+        return 0;
+    }
+    together_total(s, index, table, e)
+}
+
 // How many joint switches each event has, by the table of labels.
 fn totals_by(s: &[u8], index: &Index, table: &LabelTable) -> [u32; 16]
     requires { GoodIndex s.now index.now × ByLabel s.now index.now table.now }
     ensures { result ≡ map (event_total (components_from s.now index.now)) (count_up 0 16) }
 {
-    let mut totals = [0u32; 16];
-    totals[0] = silent_total(s, index, table);
-    for e in 1..16 {
-        totals[e as usize] = event_total(s, index, table, e);
-    }
-    totals
+    array::from_fn(|e| event_total(s, index, table, e as u32))
 }
 
 // How many joint switches each event has, over all locations. The switches are counted once by their labels.

@@ -27,5 +27,5 @@ returns c =
     let ways = λ (k : ℕ). together_into (components_on a.s.now a.index.now k) (numbers_on a.index.now a.modes k) a.e in
     c.product_over.ensures ways (sym (together-starts g a.modes long a.e))
     (λ k n h l told.
-        let is : n ≡ arrivals (component_at a.s.now a.index.now (k - 1)) (get_or a.modes (k - 1) 0) a.e = search rules in
-        together-goes-on g a.modes long a.e k n (ways k) h l is refl)
+    let is : n ≡ arrivals (component_at a.s.now a.index.now (k - 1)) (get_or a.modes (k - 1) 0) a.e = search rules in
+    together-goes-on g a.modes long a.e k n (ways k) h l is refl)

@@ -21,5 +21,5 @@ returns c =
     let index = c.args.index.now in
     c.product_over.ensures (λ (k : ℕ). location_count (components_on s index k)) (sym (count-starts c.requires))
     (λ k n h l told.
-        let is : n ≡ length (component_at s index (k - 1)).modes = search rules in
-        count-goes-on c.requires k n (location_count (components_on s index k)) h l is refl)
+    let is : n ≡ length (component_at s index (k - 1)).modes = search rules in
+    count-goes-on c.requires k n (location_count (components_on s index k)) h l is refl)

@@ -1,9 +1,8 @@
 -- What has been multiplied is the product of the components from here on. Assumes nothing.
 use mathlib.Core.Path.{◌≡◌, sym, ap, ◌∙◌}
-use Prim.Native.Nat.{ℕ, suc, ◌+◌, ◌*◌, ◌-◌, ◌^◌, ◌≤◌, ◌<◌}
+use Prim.Native.Nat.{ℕ, suc, ◌*◌, ◌-◌, ◌^◌, ◌≤◌, ◌<◌}
 use native.Mathlib.Nat.{le_trans, mul-le-mul, pow-succ', pow-le-pow_right}
 use native.Mathlib.Omega.{arith}
-use Rattle.models.specs.Index.{entry}
 use Rattle.joint_switches.proofs.joints.product_over.Goals as goal
 
 -- powers that bound it: at the start, and with one factor more

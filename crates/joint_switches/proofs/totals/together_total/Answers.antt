@@ -23,5 +23,5 @@ returns c =
     let total = λ (k : ℕ). together_total (components_on a.s.now a.index.now k) a.e in
     c.product_over.ensures total (sym (together-starts g a.e))
     (λ k n h l told.
-        let is : n ≡ choices (component_at a.s.now a.index.now (k - 1)) a.e = search rules in
-        together-goes-on g a.e k n (total k) h l is refl)
+    let is : n ≡ choices (component_at a.s.now a.index.now (k - 1)) a.e = search rules in
+    together-goes-on g a.e k n (total k) h l is refl)
