@@ -19,15 +19,11 @@ use Rattle.formats.proofs.SumLaws.{sum-most}
 use Rattle.models.proofs.GoodIndexLaws.{components-back, components-end, few-components}
 use Rattle.joint_switches.proofs.JointLoops.{components_on, numbers_on, per-component-back}
 use Rattle.joint_switches.proofs.NumberedLaws.{entering-few}
-use Rattle.joint_switches.proofs.TotalLaws.{good-on, few-or-none}
+use Rattle.joint_switches.proofs.TotalLaws.{good-on, either-few, few-or-none}
 
-either-few : (b : Bool) (x : ℕ) → x ≤ 32 → cond b x 1 ≤ 32
-either-few true x h = h
-either-few false x h = omega arith
-
-arrivals-few : {n : ℕ} (c : Component) (mode e : ℕ) → GoodComponent n c → arrivals c mode e ≤ 32
+pub arrivals-few : {n : ℕ} (c : Component) (mode e : ℕ) → GoodComponent n c → arrivals c mode e ≤ 32
 unfolding arrivals
-arrivals-few c mode e g = either-few (has_event c.alphabet e) (entering c mode e) (omega (arith, entering-few c mode e, g.few))
+arrivals-few c mode e g = either-few (has_event c.alphabet e) (entering c mode e) 1 (omega (arith, entering-few c mode e, g.few)) (omega arith)
 
 -- in how many ways a component arrives, by whether it is in the scope
 pub arrivals-member : (c : Component) (mode e : ℕ) {b : Bool} → b ≡ has_event c.alphabet e → b ≡ true → arrivals c mode e ≡ entering c mode e

@@ -86,12 +86,6 @@ module _ {width step : ℕ} {s index : List ℕ} (g : GoodIndex s index) (fits :
   pub block-small : width * k ≤ 384
   block-small = let last : k ≤ 3 = omega (arith, g.few) in mul-le-mul fits.few last
 
-  pub target-part : step * entry index (16 + 219 * k + 59 + 5 * i + 1) ≤ 112
-  target-part =
-      let small : step ≤ 16 = omega (arith, fits.enough, fits.few) in
-      let last : entry index (16 + 219 * k + 59 + 5 * i + 1) ≤ 7 = omega (arith, target_at g k i h l, target_small g k i h l) in
-      mul-le-mul small last
-
   pub number-kept : step * entry index (16 + 219 * k + 59 + 5 * i + 1) + entry index (16 + 219 * k + 59 + 5 * i + 2) ≡ number_of step (switch_of (component_at s index k) i)
   unfolding number_of
   number-kept = ap₂ (λ (t e : ℕ). step * t + e) (target_at g k i h l) (label_at g k i h l)

@@ -1,8 +1,8 @@
 -- The totals of the components of an index, from one component on: what the loops that make them keep up, and how large they get.
 -- Assumes nothing.
-use mathlib.Core.Path.{◌≡◌, refl, sym, ap, ◌∙◌}
+use mathlib.Core.Path.{◌≡◌, refl, sym, ap, ◌∙◌, subst}
 use mathlib.Core.Bool.{Bool, true, false, cond}
-use mathlib.Core.List.{List, map}
+use mathlib.Core.List.{List, [], ◌∷◌, map}
 use Prim.Native.Nat.{ℕ, zero, suc, ◌+◌, ◌*◌, ◌-◌, ◌^◌, ◌≤◌, ◌<◌}
 use native.Mathlib.Decide.{ℕ_discrete}
 use native.Mathlib.Nat.{le_trans, mul-le-mul, pow-succ', pow-le-pow_right}
@@ -10,8 +10,12 @@ use native.Mathlib.Omega.{arith}
 use borrow.Author.Tests.{eq-eqb, ne_eqb}
 use lib.Count.{ones}
 use lib.Dec.{eqb}
-use lib.ListN.{length, get_or, set}
-use lib.Seq.{get_or-set_same, get_or-set_other}
+use lib.ListN.{length, get_or}
+use denote.Param.Members.{Mut}
+use Rattle.std.specs.Array.{IsFromFnResult, IsFromFnResultFrom}
+use Rattle.std.specs.Fn.{Called}
+use Rattle.std.specs.List.{sum}
+use Rattle.std.proofs.lemmas.List.Sums.{sum_by-cons}
 use Rattle.farkas.specs.Lists.{All, none, more}
 use Rattle.formats.specs.Model.{Component, has_event}
 use Rattle.formats.specs.Locations.{location_count}
@@ -21,8 +25,9 @@ use Rattle.models.specs.Index.{entry, GoodIndex, components_from}
 use Rattle.models.specs.Counts.{component_at}
 use Rattle.formats.proofs.WellFormed.{GoodComponent}
 use Rattle.formats.proofs.JointCounts.{count_most}
+use Rattle.formats.proofs.SumLaws.{sum-most}
 use Rattle.formats.proofs.JointProduct.{countable, joints-total}
-use Rattle.models.proofs.GoodIndexLaws.{counted-at, components-back, components-end, good-components, few-components}
+use Rattle.models.proofs.GoodIndexLaws.{components-back, components-end, good-components, few-components}
 use Rattle.joint_switches.proofs.JointLoops.{all_drop, components_on}
 use Rattle.joint_switches.proofs.TableLaws.{by-numbers}
 use Rattle.joint_switches.proofs.NumberedLaws.{labelled-few}
@@ -32,11 +37,11 @@ few-modes none = none
 few-modes (more g rest) = more g.most (few-modes rest)
 
 -- a component's factor is at most 32
-either-few : (b : Bool) (x y : ℕ) → x ≤ 32 → y ≤ 8 → cond b x y ≤ 32
+pub either-few : (b : Bool) (x y : ℕ) → x ≤ 32 → y ≤ 8 → cond b x y ≤ 32
 either-few true x y h k = h
 either-few false x y h k = omega arith
 
-choices-few : {n : ℕ} (c : Component) (e : ℕ) → GoodComponent n c → choices c e ≤ 32
+pub choices-few : {n : ℕ} (c : Component) (e : ℕ) → GoodComponent n c → choices c e ≤ 32
 unfolding choices
 choices-few c e g = either-few (has_event c.alphabet e) (labelled c e) (length c.modes) (omega (arith, labelled-few c e, g.few)) g.most
 
@@ -132,29 +137,37 @@ event-few g zero = omega (arith, silent-few g 0)
 event-few {s} {index} g (suc e) =
     few-or-none (eqb (mover_count (components_from s index) (suc e)) 0) (together_total (components_from s index) (suc e)) 1048576 (together-few g (suc e) 0)
 
--- an array that is filled from its first number on: what stands in it so far, one more, and the whole
-abbrev pub FilledTo : (ℕ → ℕ) → ℕ → List ℕ → Type 0
-FilledTo f n xs = (i : ℕ) → i < n → get_or xs i 0 ≡ f i
+-- an array that a function makes, number by number, with calls that leave the function as it is
+module _ {F : Type 0} (calls : Mut F (ℕ × Unit {0}) ℕ) (f : F) (h : ℕ → ℕ) (told : (i y : ℕ) (q : F) → Called calls f (i, tt) y q → (q ≡ f) × (y ≡ h i)) where
+  made : (ys : List ℕ) (i n : ℕ) → IsFromFnResultFrom calls f ys i n → (j : ℕ) → i ≤ j → j < i + n → get_or ys j 0 ≡ h j
+  made ys i zero r j a b = absurd (omega arith)
+  made ys i (suc n) (q, y, at, called, rest) j a b =
+      here (ℕ_discrete i j) (λ d. made ys (i + 1) n (subst (λ (p : F). IsFromFnResultFrom calls p ys (i + 1) n) (told i y q called).0 rest) j (omega (arith, d)) (omega arith))
+    where
+      here : Dec (i ≡ j) → ((i ≡ j → ⊥) → get_or ys j 0 ≡ h j) → get_or ys j 0 ≡ h j
+      here (yes e) later = ap (λ (k : ℕ). get_or ys k 0) (sym e) ∙ at.1 0 ∙ (told i y q called).1 ∙ ap h e
+      here (no d) later = later d
 
-pub filled_more : (f : ℕ → ℕ) (n v : ℕ) (xs : List ℕ) → n < length xs → v ≡ f n → FilledTo f n xs → FilledTo f (n + 1) (set xs n v)
-filled_more f n v xs h p w i l = here (ℕ_discrete i n)
-  where
-    here : Dec (i ≡ n) → get_or (set xs n v) i 0 ≡ f i
-    here (yes q) = ap (λ (k : ℕ). get_or (set xs n v) k 0) q ∙ get_or-set_same xs n v 0 h ∙ p ∙ ap f (sym q)
-    here (no d) = get_or-set_other xs n i v 0 d ∙ w i (omega (arith, d))
+  pub made-whole : (ys : List ℕ) (n : ℕ) → IsFromFnResult calls f ys n → ys ≡ map h (count_up 0 n)
+  made-whole ys n r =
+      by-numbers h ys 0 (λ p l. made ys 0 n r.each p (omega arith) (omega (arith, r.long)) ∙ ap h (start p)) ∙ ap (λ (k : ℕ). map h (count_up 0 k)) r.long
+    where
+      start : (p : ℕ) → p ≡ 0 + p
+      start p = omega arith
 
-pub filled-whole : (f : ℕ → ℕ) (n : ℕ) (xs : List ℕ) → length xs ≡ n → FilledTo f n xs → xs ≡ map f (count_up 0 n)
-filled-whole f n xs long w =
-    by-numbers f xs 0 (λ p l. w p (omega arith) ∙ ap f (start p)) ∙ ap (λ (k : ℕ). map f (count_up 0 k)) long
-  where
-    start : (p : ℕ) → p ≡ 0 + p
-    start p = omega arith
+-- all events: the sum of an array of their totals, which is how many joint switches there are, and how large it gets
+sum-mapped : (f : ℕ → ℕ) (xs : List ℕ) → sum (map f xs) ≡ sum_over f xs
+unfolding sum_over
+sum-mapped f [] = refl
+sum-mapped f (x ∷ xs) = sum_by-cons (λ n. n) (f x) (map f xs) ∙ ap (λ (n : ℕ). f x + n) (sum-mapped f xs)
 
--- all events, one after the other: what an array of their totals has at a number, and the law that their sum is how many there are
-pub total-at : (f : ℕ → ℕ) (totals : List ℕ) (e : ℕ) → totals ≡ map f (count_up 0 16) → e < 16 → get_or totals e 0 ≡ f e
-total-at f totals e p h = ap (λ (xs : List ℕ). get_or xs e 0) p ∙ counted-at f 16 e 0 h
+module _ {s index totals : List ℕ} (g : GoodIndex s index) (told : totals ≡ map (event_total (components_from s index)) (count_up 0 16)) where
+  in_all : sum totals ≡ sum_over (event_total (components_from s index)) (count_up 0 16)
+  in_all = ap sum told ∙ sum-mapped (event_total (components_from s index)) (count_up 0 16)
 
-pub totals-summed : {s index : List ℕ} → GoodIndex s index → (e count : ℕ) → e ≡ 16 → count ≡ sum_over (event_total (components_from s index)) (count_up 0 e) → count ≡ length (joints (components_from s index))
-unfolding joint_total
-totals-summed {s} {index} g e count whole h =
-    h ∙ ap (λ (n : ℕ). sum_over (event_total (components_from s index)) (count_up 0 n)) whole ∙ sym (joints-total (countable (good-components g)))
+  pub totals-few : sum totals < 2 ^ 32
+  totals-few = omega (arith, in_all, sum-most (event_total (components_from s index)) 1048576 (event-few g) 16)
+
+  pub totals-summed : sum totals ≡ length (joints (components_from s index))
+  unfolding joint_total
+  totals-summed = in_all ∙ sym (joints-total (countable (good-components g)))

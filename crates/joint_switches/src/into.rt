@@ -8,7 +8,7 @@ ghost use Rattle.joint_switches.specs.Tables.{Blank, SmallModes};
 ghost use Rattle.joint_switches.specs.Numbered.{numbered, ByMode};
 ghost use Rattle.joint_switches.specs.Counted.{Counted};
 
-use crate::joints::{component_count, in_scope};
+use crate::joints::{component_count, in_scope, product_over};
 use crate::numbered::count_switches;
 use models::layout::{FIRST_TOTAL, Index};
 
@@ -33,7 +33,7 @@ fn entering_of(s: &[u8], index: &Index, table: &EnteringTable, k: usize, mode: u
     requires k_bound { (k < components_in index.now) × ((mode < 8) × (e ≤ 15)) }
     ensures { result ≡ entering (component_at s.now index.now k) mode e }
 {
-    table[128 * k + (16 * (mode as usize) + e as usize)] as u32
+    u32::from(table[128 * k + (16 * usize::from(mode) + e as usize)])
 }
 
 // In how many ways a component comes into a mode by an event: by its switches if it is in the scope, else in one, by staying.
@@ -56,9 +56,7 @@ fn silent_into(s: &[u8], index: &Index, table: &EnteringTable, modes: [u8; 4]) -
     ensures { result ≡ silent_into (components_from s.now index.now) (per_component index.now modes) }
 {
     let mut count: u32 = 0;
-    let mut k = component_count(s, index);
-    while 0 < k {
-        k -= 1;
+    for k in (0..component_count(s, index)).rev() {
         count = entering_of(s, index, table, k, modes[k], 0) + count;
     }
     count
@@ -70,13 +68,7 @@ fn together_into(s: &[u8], index: &Index, table: &EnteringTable, modes: [u8; 4],
     requires small_modes { SmallModes index.now modes × (e ≤ 15) }
     ensures { result ≡ together_into (components_from s.now index.now) (per_component index.now modes) e }
 {
-    let mut count: u32 = 1;
-    let mut k = component_count(s, index);
-    while 0 < k {
-        k -= 1;
-        count = arrivals_of(s, index, table, k, modes[k], e) * count;
-    }
-    count
+    product_over(s, index, |k| arrivals_of(s, index, table, k, modes[k], e))
 }
 
 // An event from 1: none where the event has no joint switch at all, as the index says.
@@ -99,10 +91,8 @@ pub fn joints_into(s: &[u8], index: &Index, table: &EnteringTable, modes: [u8; 4
     ensures { result ≡ joints_into (components_from s.now index.now) (per_component index.now modes) }
 {
     let mut count = silent_into(s, index, table, modes);
-    let mut e: u32 = 1;
-    while e < 16 {
+    for e in 1..16 {
         count += event_into(s, index, table, modes, e);
-        e += 1;
     }
     count
 }

@@ -1,6 +1,6 @@
 // Locations and joint switches of a model, by its index. Joint switches are counted, and one is found by its number among those of its
 // location and event; they are never listed. The sheet is handed over for the contracts, which speak of the model: no byte of it is read.
-ghost use Rattle.std.specs.Prelude.{◌≡◌, cond, false, ◌++◌, ◌+◌, ◌-◌, ◌<◌, ◌≤◌, eqb, length, replicate};
+ghost use Rattle.std.specs.Prelude.{◌≡◌, ℕ, cond, false, ◌++◌, ◌+◌, ◌-◌, ◌*◌, ◌<◌, ◌≤◌, eqb, length, replicate};
 ghost use Rattle.formats.specs.Model.{has_event};
 ghost use Rattle.formats.specs.Locations.{location_count, modes_at};
 ghost use Rattle.formats.specs.Joint.{stays, switch_of, leaves, bit, scope_mask};
@@ -18,7 +18,7 @@ pub fn component_count(s: &[u8], index: &Index) -> usize
     requires { GoodIndex s.now index.now }
     ensures { result ≡ components_in index.now }
 {
-    index[COMPONENTS_AT] as usize
+    usize::from(index[COMPONENTS_AT])
 }
 
 // How many modes a component has.
@@ -27,7 +27,7 @@ pub fn mode_count(s: &[u8], index: &Index, k: usize) -> u32
     requires k_bound { k < components_in index.now }
     ensures { result ≡ length (component_at s.now index.now k).modes }
 {
-    index[FIRST_BLOCK + BLOCK_LENGTH * k + MODE_COUNT_AT] as u32
+    u32::from(index[FIRST_BLOCK + BLOCK_LENGTH * k + MODE_COUNT_AT])
 }
 
 // How many switches a component has.
@@ -36,7 +36,21 @@ pub fn switch_count(s: &[u8], index: &Index, k: usize) -> usize
     requires k_bound { k < components_in index.now }
     ensures { result ≡ length (component_at s.now index.now k).switches }
 {
-    index[FIRST_BLOCK + BLOCK_LENGTH * k + SWITCH_COUNT_AT] as usize
+    usize::from(index[FIRST_BLOCK + BLOCK_LENGTH * k + SWITCH_COUNT_AT])
+}
+
+// A product over the components, from the last to the first, of what is told of each by its number.
+pub(crate) fn product_over<F: Fn(usize) -> u32>(s: &[u8], index: &Index, factor: F) -> u32
+    requires good_index { GoodIndex s.now index.now }
+    requires callable { (k : ℕ) → k < components_in index.now → F.pre factor k }
+    requires small { (k n : ℕ) → k < components_in index.now → F.post factor k n → n ≤ 32 }
+    ensures { (product : ℕ → ℕ) → product (components_in index.now) ≡ 1 → ((k n : ℕ) → 0 < k → k ≤ components_in index.now → F.post factor (k - 1) n → n * product k ≡ product (k - 1)) → result ≡ product 0 }
+{
+    let mut product: u32 = 1;
+    for k in (0..component_count(s, index)).rev() {
+        product = factor(k) * product;
+    }
+    product
 }
 
 // How many locations there are: the product of the mode counts.
@@ -44,13 +58,7 @@ pub fn location_count(s: &[u8], index: &Index) -> u32
     requires { GoodIndex s.now index.now }
     ensures { result ≡ location_count (components_from s.now index.now) }
 {
-    let mut count: u32 = 1;
-    let mut k = component_count(s, index);
-    while 0 < k {
-        k -= 1;
-        count = mode_count(s, index, k) * count;
-    }
-    count
+    product_over(s, index, |k| mode_count(s, index, k))
 }
 
 // The modes of a location, one per component, and 0 for an absent one. They are the digits of its number, the last component's last.
@@ -61,9 +69,7 @@ pub fn modes_at(s: &[u8], index: &Index, location: u32) -> [u8; 4]
 {
     let mut modes = [0u8; 4];
     let mut left = location;
-    let mut k = component_count(s, index);
-    while 0 < k {
-        k -= 1;
+    for k in (0..component_count(s, index)).rev() {
         let count = mode_count(s, index, k);
         modes[k] = (left % count) as u8;
         left /= count;
@@ -79,11 +85,7 @@ pub fn leaves_by(s: &[u8], index: &Index, k: usize, i: usize, mode: u8, e: u32) 
     ensures { result ≡ leaves mode e (switch_of (component_at s.now index.now k) i) }
 {
     let place = FIRST_BLOCK + BLOCK_LENGTH * k + FIRST_SWITCH + SWITCH_LENGTH * i;
-    if index[place + LABEL_AT] as u32 == e {
-        index[place] as u32 == mode as u32
-    } else {
-        false
-    }
+    u32::from(index[place + LABEL_AT]) == e && index[place] == u16::from(mode)
 }
 
 // 1 for yes, 0 for no.
@@ -106,7 +108,7 @@ pub fn in_scope(s: &[u8], index: &Index, k: usize, e: u32) -> bool
     requires k_bound { (k < components_in index.now) × (e ≤ 15) }
     ensures { result ≡ has_event (component_at s.now index.now k).alphabet e }
 {
-    has_event(wide(index[FIRST_BLOCK + BLOCK_LENGTH * k]), e)
+    has_event(u32::from(index[FIRST_BLOCK + BLOCK_LENGTH * k]), e)
 }
 
 // The scope mask of an event: a one for each component that has it in its alphabet, component 0 lowest.
@@ -116,10 +118,8 @@ pub fn scope_mask(s: &[u8], index: &Index, e: u32) -> u32
     ensures { result ≡ scope_mask (components_from s.now index.now) e }
 {
     let mut mask: u32 = 0;
-    let mut k = component_count(s, index);
-    while 0 < k {
-        k -= 1;
-        mask = bit_of(in_scope(s, index, k, e)) + 2 * mask;
+    for k in (0..component_count(s, index)).rev() {
+        mask = u32::from(in_scope(s, index, k, e)) + 2 * mask;
     }
     mask
 }
@@ -137,7 +137,7 @@ pub fn mode_after(s: &[u8], index: &Index, k: usize, mode: u8, i: u8) -> u8
         index[FIRST_BLOCK
             + BLOCK_LENGTH * k
             + FIRST_SWITCH
-            + SWITCH_LENGTH * (i as usize)
+            + SWITCH_LENGTH * usize::from(i)
             + TARGET_AT] as u8
     }
 }

@@ -19,7 +19,7 @@ fn place_of(s: &[u8], index: &Index, k: usize, i: usize, width: usize, step: usi
     ensures { result ≡ width * k + number_of step (switch_of (component_at s.now index.now k) i) }
 {
     let at = FIRST_BLOCK + BLOCK_LENGTH * k + FIRST_SWITCH + SWITCH_LENGTH * i;
-    width * k + (step * (index[at + TARGET_AT] as usize) + index[at + LABEL_AT] as usize)
+    width * k + (step * usize::from(index[at + TARGET_AT]) + usize::from(index[at + LABEL_AT]))
 }
 
 // The switches of one component are counted, in a table that has counted none of them.
@@ -30,12 +30,9 @@ fn count_part(s: &[u8], index: &Index, k: usize, width: usize, step: usize, tabl
     ensures numbered_at { NumberedAt width step s.now index.now k table.new }
     ensures kept { Kept (width * k) (width * k + width) table.old table.new }
 {
-    let switches = switch_count(s, index, k);
-    let mut i: usize = 0;
-    while i < switches {
+    for i in 0..switch_count(s, index, k) {
         let place = place_of(s, index, k, i, width, step);
         table[place] += 1;
-        i += 1;
     }
 }
 
@@ -45,10 +42,7 @@ pub fn count_switches(s: &[u8], index: &Index, width: usize, step: usize, table:
     requires width_in_bounds { (4 * width ≤ length table.old) × Blank 0 table.old }
     ensures { (k p : ℕ) → k < components_in index.now → p < width → get_or table.new (width * k + p) 0 ≡ numbered step (component_at s.now index.now k) p }
 {
-    let components = component_count(s, index);
-    let mut k: usize = 0;
-    while k < components {
+    for k in 0..component_count(s, index) {
         count_part(s, index, k, width, step, table);
-        k += 1;
     }
 }

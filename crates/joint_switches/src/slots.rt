@@ -40,7 +40,7 @@ fn target_in(s: &[u8], index: &Index, k: usize, i: usize) -> u32
     requires k_bound { (k < components_in index.now) × (i < length (component_at s.now index.now k).switches) }
     ensures { result ≡ (switch_of (component_at s.now index.now k) i).target }
 {
-    index[FIRST_BLOCK + BLOCK_LENGTH * k + FIRST_SWITCH + SWITCH_LENGTH * i + TARGET_AT] as u32
+    u32::from(index[FIRST_BLOCK + BLOCK_LENGTH * k + FIRST_SWITCH + SWITCH_LENGTH * i + TARGET_AT])
 }
 
 // Puts a switch in a line of the table if it has the event's label and leaves the mode, and tells which line is next.
@@ -71,12 +71,9 @@ fn list_leaving(s: &[u8], index: &Index, part: Part, from: usize, ways: &mut [u8
     ensures movers_at { MoversAt part.k from (length (leaving_by s.now index.now part)) ways.new }
     ensures other_lines { OtherLines from ways.old ways.new }
 {
-    let switches = switch_count(s, index, part.k);
     let mut at = from;
-    let mut i: usize = 0;
-    while i < switches {
+    for i in 0..switch_count(s, index, part.k) {
         at = take_switch(s, index, part, i, at, ways);
-        i += 1;
     }
     at
 }
@@ -95,7 +92,7 @@ fn list_part(s: &[u8], index: &Index, part: Part, ways: &mut [u8]) -> u32
     if in_scope(s, index, k, part.e) {
         return (list_leaving(s, index, part, 32 * k, ways) - 32 * k) as u32;
     }
-    let landing = part.rest + (part.mode as u32) * part.unit;
+    let landing = part.rest + u32::from(part.mode) * part.unit;
     ways[32 * k] = 255;
     ways[LANDINGS_AT + 32 * k] = landing as u8;
     1
@@ -112,9 +109,7 @@ fn list_together(s: &[u8], index: &Index, modes: [u8; 4], e: u32, ways: &mut [u8
     let mut counts = [0u32; 4];
     let mut count: u32 = 1;
     let mut unit: u32 = 1;
-    let mut k = component_count(s, index);
-    while 0 < k {
-        k -= 1;
+    for k in (0..component_count(s, index)).rev() {
         let part = Part {
             k,
             mode: modes[k],
@@ -149,22 +144,19 @@ fn list_silent(s: &[u8], index: &Index, location: u32, modes: [u8; 4], ways: &mu
     requires in_bounds { 384 ≤ length ways.old }
     ensures { ListedAs (silent_in s.now index.now modes) s.now index.now modes 0 ways.new result }
 {
-    let components = component_count(s, index);
-    let mut unit = index[LOCATIONS_AT] as u32;
+    let mut unit = u32::from(index[LOCATIONS_AT]);
     let mut at: usize = 0;
-    let mut k: usize = 0;
-    while k < components {
+    for k in 0..component_count(s, index) {
         unit /= mode_count(s, index, k);
         let mode = modes[k];
         let part = Part {
             k,
             mode,
             e: 0,
-            rest: location - (mode as u32) * unit,
+            rest: location - u32::from(mode) * unit,
             unit,
         };
         at = list_leaving(s, index, part, at, ways);
-        k += 1;
     }
     Slot {
         e: 0,
@@ -220,13 +212,11 @@ fn together_at(index: &Index, ways: &[u8], counts: [u32; 4], x: u32) -> Landing
     let mut switches = [255u8; 4];
     let mut target: u32 = 0;
     let mut left = x;
-    let mut k = index[COMPONENTS_AT] as usize;
-    while 0 < k {
-        k -= 1;
+    for k in (0..usize::from(index[COMPONENTS_AT])).rev() {
         let count = counts[k];
         let way = 32 * k + (left % count) as usize;
         switches[k] = ways[way];
-        target += ways[LANDINGS_AT + way] as u32;
+        target += u32::from(ways[LANDINGS_AT + way]);
         left /= count;
     }
     Landing { switches, target }
@@ -239,10 +229,10 @@ pub fn landing_at(index: &Index, slot: Slot, ways: &[u8], x: u32) -> Landing
 {
     if slot.e == 0 {
         let at = x as usize;
-        let switches = alone(ways[MOVERS_AT + at] as usize, ways[at]);
+        let switches = alone(usize::from(ways[MOVERS_AT + at]), ways[at]);
         return Landing {
             switches,
-            target: ways[LANDINGS_AT + at] as u32,
+            target: u32::from(ways[LANDINGS_AT + at]),
         };
     }
     let counts = slot.ways;

@@ -7,9 +7,10 @@ ghost use Rattle.models.specs.Index.{GoodIndex, components_from, components_in};
 ghost use Rattle.models.specs.Counts.{component_at};
 ghost use Rattle.joint_switches.specs.Numbered.{ByLabel};
 
-use crate::joints::{component_count, in_scope, mode_count, scope_mask};
+use crate::joints::{component_count, in_scope, mode_count, product_over, scope_mask};
 use crate::numbered::count_switches;
 use models::layout::Index;
+use std::array;
 
 // How many switches a component has with each of sixteen labels, for four components.
 const LABELS_LENGTH: usize = 64;
@@ -22,7 +23,7 @@ fn labels_of(s: &[u8], index: &Index, table: &LabelTable, k: usize, e: u32) -> u
     requires k_bound { (k < components_in index.now) × (e ≤ 15) }
     ensures { result ≡ labelled (component_at s.now index.now k) e }
 {
-    table[16 * k + e as usize] as u32
+    u32::from(table[16 * k + e as usize])
 }
 
 // A component's factor for an event: its switches with that label if it is in the scope, else its modes.
@@ -44,26 +45,7 @@ fn together_total(s: &[u8], index: &Index, table: &LabelTable, e: u32) -> u32
     requires e_bound { e ≤ 15 }
     ensures { result ≡ together_total (components_from s.now index.now) e }
 {
-    let mut count: u32 = 1;
-    let mut k = component_count(s, index);
-    while 0 < k {
-        k -= 1;
-        count = choices_of(s, index, table, k, e) * count;
-    }
-    count
-}
-
-// How many joint switches an event from 1 has, over all locations: none where the scope mask has no ones.
-fn event_total(s: &[u8], index: &Index, table: &LabelTable, e: u32) -> u32
-    requires good_index { GoodIndex s.now index.now × ByLabel s.now index.now table.now }
-    requires le_e { (1 ≤ e) × (e ≤ 15) }
-    ensures { result ≡ event_total (components_from s.now index.now) e }
-{
-    let mask = scope_mask(s, index, e);
-    if u32::count_ones(mask) == 0 {
-        return 0;
-    }
-    together_total(s, index, table, e)
+    product_over(s, index, |k| choices_of(s, index, table, k, e))
 }
 
 // How many joint switches event 0 has, over all locations: one component moves, the others are in any of their modes.
@@ -73,9 +55,7 @@ fn silent_total(s: &[u8], index: &Index, table: &LabelTable) -> u32
 {
     let mut count: u32 = 0;
     let mut unit: u32 = 1;
-    let mut k = component_count(s, index);
-    while 0 < k {
-        k -= 1;
+    for k in (0..component_count(s, index)).rev() {
         let modes = mode_count(s, index, k);
         count = labels_of(s, index, table, k, 0) * unit + modes * count;
         unit = modes * unit;
@@ -83,19 +63,28 @@ fn silent_total(s: &[u8], index: &Index, table: &LabelTable) -> u32
     count
 }
 
+// How many joint switches an event has, over all locations: none where an event from 1 has a scope mask with no ones.
+fn event_total(s: &[u8], index: &Index, table: &LabelTable, e: u32) -> u32
+    requires good_index { GoodIndex s.now index.now × ByLabel s.now index.now table.now }
+    requires e_bound { e ≤ 15 }
+    ensures { result ≡ event_total (components_from s.now index.now) e }
+{
+    if e == 0 {
+        return silent_total(s, index, table);
+    }
+    let mask = scope_mask(s, index, e);
+    if mask.count_ones() == 0 {
+        return 0;
+    }
+    together_total(s, index, table, e)
+}
+
 // How many joint switches each event has, by the table of labels.
 fn totals_by(s: &[u8], index: &Index, table: &LabelTable) -> [u32; 16]
     requires { GoodIndex s.now index.now × ByLabel s.now index.now table.now }
     ensures { result ≡ map (event_total (components_from s.now index.now)) (count_up 0 16) }
 {
-    let mut totals = [0u32; 16];
-    totals[0] = silent_total(s, index, table);
-    let mut e: u32 = 1;
-    while e < 16 {
-        totals[e as usize] = event_total(s, index, table, e);
-        e += 1;
-    }
-    totals
+    array::from_fn(|e| event_total(s, index, table, e as u32))
 }
 
 // How many joint switches each event has, over all locations. The switches are counted once by their labels.
@@ -114,11 +103,5 @@ pub fn joint_total(s: &[u8], index: &Index, totals: [u32; 16]) -> u32
     requires totals_value { totals ≡ map (event_total (components_from s.now index.now)) (count_up 0 16) }
     ensures { result ≡ length (joints (components_from s.now index.now)) }
 {
-    let mut count: u32 = 0;
-    let mut e: usize = 0;
-    while e < 16 {
-        count += totals[e];
-        e += 1;
-    }
-    count
+    totals.iter().sum()
 }

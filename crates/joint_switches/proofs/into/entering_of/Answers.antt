@@ -1,19 +1,13 @@
 -- The number that the table has. Assumes nothing.
-use native.Mathlib.Omega.{arith}
-use Rattle.models.specs.Counts.{component_at}
-use Rattle.models.proofs.GoodIndexLaws.{good-component}
-use Rattle.joint_switches.proofs.NumberedLaws.{entering-told, entering-few}
+use mathlib.Core.Path.{◌≡◌, ap, ◌∙◌}
+use Prim.Native.Nat.{ℕ, ◌+◌, ◌*◌}
+use lib.ListN.{get_or}
+use Rattle.joint_switches.proofs.NumberedLaws.{entering-told}
 use Rattle.joint_switches.proofs.into.entering_of.Goals as goal
-
-pub overflow_cast-result-3 : goal.overflow_cast-result-3
-overflow_cast-result-3 c =
-    let a = c.args in
-    let p = c.requires in
-    omega
-    (arith, entering-told p.good_index.0 p.good_index.1 a.k a.mode a.e p.k_bound.0 p.k_bound.1.0 p.k_bound.1.1, entering-few (component_at a.s.now a.index.now a.k) a.mode a.e, (good-component p.good_index.0 a.k p.k_bound.0).few)
 
 pub returns : goal.returns
 returns c =
     let a = c.args in
     let p = c.requires in
-    entering-told p.good_index.0 p.good_index.1 a.k a.mode a.e p.k_bound.0 p.k_bound.1.0 p.k_bound.1.1
+    let read : c.from-2.result ≡ get_or a.table.now (128 * a.k + (16 * a.mode + a.e)) 0 = c.from-2.ensures ∙ ap (λ (m : ℕ). get_or a.table.now (128 * a.k + (16 * m + a.e)) 0) c.from.ensures in
+    read ∙ entering-told p.good_index.0 p.good_index.1 a.k a.mode a.e p.k_bound.0 p.k_bound.1.0 p.k_bound.1.1

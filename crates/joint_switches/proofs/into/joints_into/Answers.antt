@@ -9,16 +9,10 @@ use Rattle.formats.proofs.SumLaws.{sum-next, sum-most}
 use Rattle.joint_switches.proofs.IntoLaws.{event-starts, event-few, into-counted}
 use Rattle.joint_switches.proofs.into.joints_into.Goals as goal
 
-pub silent_into-count-requires : goal.silent_into-count-requires
-silent_into-count-requires c = record { good_index = c.requires.good_index; small_modes = c.requires.counted.1 }
-
 pub loop-e-init : goal.loop-e-init
 loop-e-init c =
     let a = c.args in
-    (omega arith, omega arith, event-starts (components_from a.s.now a.index.now) (per_component a.index.now a.modes) c.silent_into-count.result c.silent_into-count.ensures)
-
-pub event_into-count-requires : goal.event_into-count-requires
-event_into-count-requires c = let p = c.requires in record { good_index = p.good_index; counted = p.counted; le_e = (c.loop-e.invariant.0, omega (arith, c.loop-e-test.true)) }
+    event-starts (components_from a.s.now a.index.now) (per_component a.index.now a.modes) c.silent_into-count.result c.silent_into-count.ensures
 
 pub overflow_add-count : goal.overflow_add-count
 overflow_add-count c =
@@ -26,22 +20,16 @@ overflow_add-count c =
     let long : entry c.args.index.now 1 ≤ length c.args.modes = omega (arith, g.few, c.well_formed.1.1.1.0.1.0.1) in
     let f = event_into (components_from c.args.s.now c.args.index.now) (per_component c.args.index.now c.args.modes) in
     let l = c.loop-e in
-    omega (arith, l.invariant.2, sum-most f 1048576 (event-few g c.args.modes long) l.e, l.invariant.1, c.event_into-count.ensures, event-few g c.args.modes long l.e)
-
-pub overflow_add-e : goal.overflow_add-e
-overflow_add-e c = omega (arith, c.loop-e-test.true)
-
-pub loop-e-smaller : goal.loop-e-smaller
-loop-e-smaller c = omega (arith, c.loop-e-test.true)
+    omega (arith, l.invariant, sum-most f 1048576 (event-few g c.args.modes long) l.e, c.event_into-count.ensures, event-few g c.args.modes long l.e)
 
 pub loop-e-preserved : goal.loop-e-preserved
 loop-e-preserved c =
     let a = c.args in
     let l = c.loop-e in
-    (omega arith, omega (arith, c.loop-e-test.true), sum-next (event_into (components_from a.s.now a.index.now) (per_component a.index.now a.modes)) l.e c.event_into-count.result l.count c.event_into-count.ensures l.invariant.2)
+    sum-next (event_into (components_from a.s.now a.index.now) (per_component a.index.now a.modes)) l.e c.event_into-count.result l.count c.event_into-count.ensures l.invariant
 
 pub returns : goal.returns
 returns c =
     let a = c.args in
     let l = c.loop-e in
-    into-counted (components_from a.s.now a.index.now) (per_component a.index.now a.modes) l.e l.count (omega (arith, l.invariant.1, c.loop-e-test.false)) l.invariant.2
+    into-counted (components_from a.s.now a.index.now) (per_component a.index.now a.modes) l.e l.count (omega arith) l.invariant

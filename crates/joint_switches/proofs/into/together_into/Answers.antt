@@ -1,59 +1,31 @@
--- What has been counted are those of the components from here on. Assumes nothing.
-use mathlib.Core.Path.{ap, ◌∙◌}
-use Prim.Native.Nat.{ℕ, ◌-◌, ◌≤◌, ◌<◌}
+-- Each factor is in how many ways a component arrives. Assumes nothing.
+use mathlib.Core.Path.{◌≡◌, refl, sym}
+use Prim.Native.Nat.{ℕ, ◌-◌, ◌≤◌}
 use native.Mathlib.Omega.{arith}
-use lib.Arith.{le-zero}
-use lib.ListN.{length}
-use Rattle.formats.specs.JointTotals.{together_into}
+use borrow.Author.Rules.{rules}
+use lib.ListN.{length, get_or}
+use Rattle.formats.specs.JointTotals.{arrivals, together_into}
 use Rattle.models.specs.Index.{entry}
+use Rattle.models.specs.Counts.{component_at}
+use Rattle.models.proofs.GoodIndexLaws.{good-component}
 use Rattle.joint_switches.proofs.JointLoops.{components_on, numbers_on}
-use Rattle.joint_switches.proofs.IntoLaws.{together-starts, together-goes-on, together-few}
+use Rattle.joint_switches.proofs.IntoLaws.{arrivals-few, together-starts, together-goes-on}
 use Rattle.joint_switches.proofs.into.together_into.Goals as goal
 
-pub component_count-k-requires : goal.component_count-k-requires
-component_count-k-requires c = c.requires.good_index.0
-
-pub loop-k-init : goal.loop-k-init
-loop-k-init c =
+pub product_over-requires-clause-small : goal.product_over-requires-clause-small
+product_over-requires-clause-small c = λ k n h told.
     let a = c.args in
-    let g = c.requires.good_index.0 in
-    let long : entry a.index.now 1 ≤ length a.modes = omega (arith, g.few, c.well_formed.1.1.1.0.1.0.1) in
-    let e = c.component_count-k.ensures in
-    (omega arith, rw e (together-starts g a.modes long a.e))
-
-pub overflow_sub-k : goal.overflow_sub-k
-overflow_sub-k c = omega (arith, c.loop-k-test.true)
-
-pub bounds-modes-k : goal.bounds-modes-k
-bounds-modes-k c = omega (arith, c.loop-k-test.true, c.loop-k.invariant.0, c.requires.good_index.0.few)
-
-pub arrivals_of-count-requires : goal.arrivals_of-count-requires
-arrivals_of-count-requires c =
-    let p = c.requires in
-    let k = c.loop-k.k in
-    let h : k - 1 < entry c.args.index.now 1 = omega (arith, c.loop-k.invariant.0, c.loop-k-test.true) in record { good_index = p.good_index; k_bound = (h, (p.small_modes.0.small (k - 1) h, p.small_modes.1)) }
-
-pub overflow_mul-count : goal.overflow_mul-count
-overflow_mul-count c =
-    let a = c.args in
-    let g = c.requires.good_index.0 in
-    let long : entry a.index.now 1 ≤ length a.modes = omega (arith, g.few, c.well_formed.1.1.1.0.1.0.1) in
-    let l = c.loop-k in
-    omega (arith, together-goes-on g a.modes long a.e l.k c.arrivals_of-count.result l.count c.loop-k-test.true l.invariant.0 c.arrivals_of-count.ensures l.invariant.1, together-few g a.modes long a.e (l.k - 1))
-
-pub loop-k-smaller : goal.loop-k-smaller
-loop-k-smaller c = omega (arith, c.loop-k-test.true)
-
-pub loop-k-preserved : goal.loop-k-preserved
-loop-k-preserved c =
-    let a = c.args in
-    let g = c.requires.good_index.0 in
-    let long : entry a.index.now 1 ≤ length a.modes = omega (arith, g.few, c.well_formed.1.1.1.0.1.0.1) in
-    let l = c.loop-k in
-    (omega (arith, l.invariant.0), together-goes-on g a.modes long a.e l.k c.arrivals_of-count.result l.count c.loop-k-test.true l.invariant.0 c.arrivals_of-count.ensures l.invariant.1)
+    let component = component_at a.s.now a.index.now k in
+    let is : n ≡ arrivals component (get_or a.modes k 0) a.e = search rules in
+    omega (arith, is, arrivals-few component (get_or a.modes k 0) a.e (good-component c.requires.good_index.0 k h))
 
 pub returns : goal.returns
 returns c =
     let a = c.args in
-    c.loop-k.invariant.1
-    ∙ ap (λ (k : ℕ). together_into (components_on a.s.now a.index.now k) (numbers_on a.index.now a.modes k) a.e) (le-zero c.loop-k-test.false)
+    let g = c.requires.good_index.0 in
+    let long : entry a.index.now 1 ≤ length a.modes = omega (arith, g.few, c.well_formed.1.1.1.0.1.0.1) in
+    let ways = λ (k : ℕ). together_into (components_on a.s.now a.index.now k) (numbers_on a.index.now a.modes k) a.e in
+    c.product_over.ensures ways (sym (together-starts g a.modes long a.e))
+    (λ k n h l told.
+    let is : n ≡ arrivals (component_at a.s.now a.index.now (k - 1)) (get_or a.modes (k - 1) 0) a.e = search rules in
+    together-goes-on g a.modes long a.e k n (ways k) h l is refl)

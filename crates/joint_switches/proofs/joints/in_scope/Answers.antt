@@ -10,4 +10,4 @@ pub returns : goal.returns
 unfolding component_at component_from entry component_place
 returns c =
     let a = c.args in
-    c.has_event.ensures ∙ ap (λ (n : ℕ). has_event n a.e) c.wide.ensures
+    c.has_event.ensures ∙ ap (λ (n : ℕ). has_event n a.e) c.from.ensures

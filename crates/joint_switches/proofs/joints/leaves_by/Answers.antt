@@ -6,87 +6,45 @@ use native.Mathlib.Omega.{arith}
 use borrow.Author.Tests.{eq-eqb, ne_eqb}
 use lib.Dec.{eqb}
 use Rattle.models.specs.Index.{entry, component_place, switch_place}
-use Rattle.models.proofs.GoodIndexLaws.{switch-length, leaves_at, good-component}
+use Rattle.models.proofs.GoodIndexLaws.{switch-length, leaves_at}
+use Rattle.joint_switches.proofs.TableLaws.{switch-within}
 use Rattle.joint_switches.proofs.joints.leaves_by.Goals as goal
 
 pub overflow_mul-place-2 : goal.overflow_mul-place-2
-overflow_mul-place-2 c =
-    let a = c.args in
-    let g = c.requires.good_index in
-    let few = (good-component g a.k c.requires.k_bound).few in
-    omega (arith, few, c.requires.i_in_bounds, c.requires.k_bound, g.few)
+overflow_mul-place-2 c = omega (arith, switch-within c.requires.good_index c.args.k c.args.i c.requires.k_bound c.requires.i_in_bounds)
 
 pub overflow_add-place-3 : goal.overflow_add-place-3
-overflow_add-place-3 c =
-    let a = c.args in
-    let g = c.requires.good_index in
-    let few = (good-component g a.k c.requires.k_bound).few in
-    omega (arith, few, c.requires.i_in_bounds, c.requires.k_bound, g.few)
+overflow_add-place-3 c = omega (arith, switch-within c.requires.good_index c.args.k c.args.i c.requires.k_bound c.requires.i_in_bounds)
 
 pub overflow_add-place-4 : goal.overflow_add-place-4
-overflow_add-place-4 c =
-    let a = c.args in
-    let g = c.requires.good_index in
-    let few = (good-component g a.k c.requires.k_bound).few in
-    omega (arith, few, c.requires.i_in_bounds, c.requires.k_bound, g.few)
+overflow_add-place-4 c = omega (arith, switch-within c.requires.good_index c.args.k c.args.i c.requires.k_bound c.requires.i_in_bounds)
 
 pub offset_bounds-index-place : goal.offset_bounds-index-place
-offset_bounds-index-place c =
-    let a = c.args in
-    let g = c.requires.good_index in
-    let few = (good-component g a.k c.requires.k_bound).few in
-    omega (arith, few, c.requires.i_in_bounds, c.requires.k_bound, g.few)
+offset_bounds-index-place c = omega (arith, switch-within c.requires.good_index c.args.k c.args.i c.requires.k_bound c.requires.i_in_bounds)
 
 pub bounds-index-place : goal.bounds-index-place
-bounds-index-place c =
-    let a = c.args in
-    let g = c.requires.good_index in
-    let few = (good-component g a.k c.requires.k_bound).few in
-    omega (arith, few, c.requires.i_in_bounds, c.requires.k_bound, g.few)
+bounds-index-place c = omega (arith, switch-within c.requires.good_index c.args.k c.args.i c.requires.k_bound c.requires.i_in_bounds)
 
-pub overflow_cast-index : goal.overflow_cast-index
+pub offset_bounds-index-place-then-from-e : goal.offset_bounds-index-place-then-from-e
+offset_bounds-index-place-then-from-e c = omega (arith, switch-within c.requires.good_index c.args.k c.args.i c.requires.k_bound c.requires.i_in_bounds)
+
+pub bounds-index-place-then-from-e : goal.bounds-index-place-then-from-e
+bounds-index-place-then-from-e c = omega (arith, switch-within c.requires.good_index c.args.k c.args.i c.requires.k_bound c.requires.i_in_bounds)
+
+pub returns-then-from-e : goal.returns-then-from-e
 unfolding entry component_place switch_place
-overflow_cast-index c =
+returns-then-from-e c =
     let a = c.args in
-    let g = c.requires.good_index in
     let l : a.i < entry a.index.now (component_place a.k + 2) = omega (arith, switch-length a.s.now a.index.now a.k, c.requires.i_in_bounds) in
-    omega (arith, ((g.blocks a.k c.requires.k_bound).switches a.i l).label)
+    let source = entry a.index.now (switch_place (component_place a.k) a.i) in
+    ap (eqb source) c.from-then-from-e.ensures
+    ∙ sym (leaves_at a.s.now a.index.now a.k a.i a.mode a.e l ∙ ap (λ b. b && eqb source a.mode) (eq-eqb _ _ (sym c.from.ensures ∙ c.if-from-e.true)))
 
-pub offset_bounds-index-place-then-index-place : goal.offset_bounds-index-place-then-index-place
-offset_bounds-index-place-then-index-place c =
-    let a = c.args in
-    let g = c.requires.good_index in
-    let few = (good-component g a.k c.requires.k_bound).few in
-    omega (arith, few, c.requires.i_in_bounds, c.requires.k_bound, g.few)
-
-pub bounds-index-place-then-index-place : goal.bounds-index-place-then-index-place
-bounds-index-place-then-index-place c =
-    let a = c.args in
-    let g = c.requires.good_index in
-    let few = (good-component g a.k c.requires.k_bound).few in
-    omega (arith, few, c.requires.i_in_bounds, c.requires.k_bound, g.few)
-
-pub overflow_cast-result : goal.overflow_cast-result
+pub returns-else-from-e : goal.returns-else-from-e
 unfolding entry component_place switch_place
-overflow_cast-result c =
-    let a = c.args in
-    let g = c.requires.good_index in
-    let l : a.i < entry a.index.now (component_place a.k + 2) = omega (arith, switch-length a.s.now a.index.now a.k, c.requires.i_in_bounds) in
-    let b = g.blocks a.k c.requires.k_bound in
-    omega (arith, (b.switches a.i l).source, b.most)
-
-pub returns-then-index-place : goal.returns-then-index-place
-unfolding entry component_place switch_place
-returns-then-index-place c =
+returns-else-from-e c =
     let a = c.args in
     let l : a.i < entry a.index.now (component_place a.k + 2) = omega (arith, switch-length a.s.now a.index.now a.k, c.requires.i_in_bounds) in
     let source = eqb (entry a.index.now (switch_place (component_place a.k) a.i)) a.mode in
-    sym (leaves_at a.s.now a.index.now a.k a.i a.mode a.e l ∙ ap (λ b. b && source) (eq-eqb _ _ c.if-index-place.true))
-
-pub returns-else-index-place : goal.returns-else-index-place
-unfolding entry component_place switch_place
-returns-else-index-place c =
-    let a = c.args in
-    let l : a.i < entry a.index.now (component_place a.k + 2) = omega (arith, switch-length a.s.now a.index.now a.k, c.requires.i_in_bounds) in
-    let source = eqb (entry a.index.now (switch_place (component_place a.k) a.i)) a.mode in
-    sym (leaves_at a.s.now a.index.now a.k a.i a.mode a.e l ∙ ap (λ b. b && source) (ne_eqb _ _ c.if-index-place.false))
+    ne_eqb _ _ c.if-from-e.false
+    ∙ sym (leaves_at a.s.now a.index.now a.k a.i a.mode a.e l ∙ ap (λ b. b && source) (ne_eqb _ _ (λ h. c.if-from-e.false (c.from.ensures ∙ h))))

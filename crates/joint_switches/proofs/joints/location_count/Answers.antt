@@ -1,43 +1,25 @@
--- What has been counted is the number of locations of the components from here on. Assumes nothing.
-use mathlib.Core.Path.{ap, ◌∙◌}
+-- Each factor is the number of a component's modes. Assumes nothing.
+use mathlib.Core.Path.{◌≡◌, sym, refl}
 use Prim.Native.Nat.{ℕ, ◌-◌}
 use native.Mathlib.Omega.{arith}
-use lib.Arith.{le-zero}
+use borrow.Author.Rules.{rules}
+use lib.ListN.{length}
 use Rattle.formats.specs.Locations.{location_count}
-use Rattle.joint_switches.proofs.JointLoops.{components_on, count-starts, count-goes-on, count-few}
+use Rattle.models.specs.Counts.{component_at}
+use Rattle.models.proofs.GoodIndexLaws.{good-component}
+use Rattle.joint_switches.proofs.JointLoops.{components_on, count-starts, count-goes-on}
 use Rattle.joint_switches.proofs.joints.location_count.Goals as goal
 
-pub component_count-k-requires : goal.component_count-k-requires
-component_count-k-requires c = c.requires
-
-pub loop-k-init : goal.loop-k-init
-loop-k-init c =
-    let g = c.requires in
-    let e = c.component_count-k.ensures in
-    (omega arith, rw e (count-starts g))
-
-pub overflow_sub-k : goal.overflow_sub-k
-overflow_sub-k c = omega (arith, c.loop-k-test.true)
-
-pub mode_count-count-requires : goal.mode_count-count-requires
-mode_count-count-requires c = record { good_index = c.requires; k_bound = omega (arith, c.loop-k.invariant, c.loop-k-test.true) }
-
-pub overflow_mul-count : goal.overflow_mul-count
-overflow_mul-count c =
-    let g = c.requires in
-    let k = c.loop-k.k in
-    let w = c.loop-k.invariant in
-    omega (arith, count-goes-on g k c.mode_count-count.result c.loop-k.count c.loop-k-test.true w.0 c.mode_count-count.ensures w.1, count-few g (k - 1))
-
-pub loop-k-smaller : goal.loop-k-smaller
-loop-k-smaller c = omega (arith, c.loop-k-test.true)
-
-pub loop-k-preserved : goal.loop-k-preserved
-loop-k-preserved c =
-    let w = c.loop-k.invariant in
-    (omega (arith, w.0), count-goes-on c.requires c.loop-k.k c.mode_count-count.result c.loop-k.count c.loop-k-test.true w.0 c.mode_count-count.ensures w.1)
+pub product_over-requires-clause-small : goal.product_over-requires-clause-small
+product_over-requires-clause-small c = λ k n h told.
+    let is : n ≡ length (component_at c.args.s.now c.args.index.now k).modes = search rules in
+    omega (arith, is, (good-component c.requires k h).most)
 
 pub returns : goal.returns
 returns c =
-    let a = c.args in
-    c.loop-k.invariant.1 ∙ ap (λ (k : ℕ). location_count (components_on a.s.now a.index.now k)) (le-zero c.loop-k-test.false)
+    let s = c.args.s.now in
+    let index = c.args.index.now in
+    c.product_over.ensures (λ (k : ℕ). location_count (components_on s index k)) (sym (count-starts c.requires))
+    (λ k n h l told.
+    let is : n ≡ length (component_at s index (k - 1)).modes = search rules in
+    count-goes-on c.requires k n (location_count (components_on s index k)) h l is refl)

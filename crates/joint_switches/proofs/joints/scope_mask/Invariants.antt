@@ -1,12 +1,7 @@
 use mathlib.Core.Path.{◌≡◌}
-use Prim.Native.Nat.{◌≤◌}
 use Rattle.formats.specs.Joint.{scope_mask}
-use Rattle.models.specs.Index.{entry}
 use Rattle.joint_switches.proofs.JointLoops.{components_on}
 use Rattle.joint_switches.proofs.joints.scope_mask.Given as goal
 
 abbrev pub invariant-loop-k : goal.invariant-loop-k
-invariant-loop-k l = (l.k ≤ entry l.index 1) × (l.mask ≡ scope_mask (components_on l.s l.index l.k) l.e)
-
-abbrev pub decreases-loop-k : goal.decreases-loop-k
-decreases-loop-k l = l.k
+invariant-loop-k l = l.mask ≡ scope_mask (components_on l.s l.index l.k) l.e

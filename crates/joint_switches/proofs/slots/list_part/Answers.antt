@@ -1,15 +1,15 @@
 -- By cases: in the scope or not. Assumes nothing.
-use mathlib.Core.Path.{◌≡◌, refl, sym, ap}
+use mathlib.Core.Path.{◌≡◌, sym, ap}
 use mathlib.Core.List.{[], ◌∷◌}
-use Prim.Native.Nat.{◌+◌, ◌*◌, ◌≤◌}
+use Prim.Native.Nat.{ℕ, ◌+◌, ◌*◌, ◌≤◌}
 use native.Mathlib.Omega.{arith}
-use lib.ListN.{length, length-set}
+use lib.ListN.{length}
 use Rattle.formats.specs.Joint.{stays}
 use Rattle.models.specs.Counts.{component_at}
 use Rattle.joint_switches.specs.Slots.{leaving_by, parts_by}
 use Rattle.formats.proofs.JointCounts.{leaving-few, parts-member, parts-other}
 use Rattle.models.proofs.GoodIndexLaws.{good-component}
-use Rattle.joint_switches.proofs.LineLaws.{mode-fits, ways-same, stays-ways, stays-others}
+use Rattle.joint_switches.proofs.LineLaws.{ways-same, stays-ways, stays-others}
 use Rattle.joint_switches.proofs.slots.list_part.Goals as goal
 
 pub overflow_cast-result : goal.overflow_cast-result
@@ -24,22 +24,6 @@ returns-then-in_scope c =
     let told = c.list_leaving.ensures in
     let same : parts_by a.s.now a.index.now a.part ≡ leaving_by a.s.now a.index.now a.part = parts-member (component_at a.s.now a.index.now a.part.k) a.part.mode a.part.e c.in_scope.ensures c.if-in_scope.true in record { value = omega (arith, told.value, ap length same); ways_at = ways-same same told.ways_at; other_lines = told.other_lines }
 
-pub overflow_mul-landing : goal.overflow_mul-landing
-overflow_mul-landing c =
-    omega (arith, mode-fits c.args.part c.requires.good_index.1 c.args.part.mode (omega (arith, c.requires.mode_in_bounds.0)))
-
-pub overflow_add-landing : goal.overflow_add-landing
-overflow_add-landing c =
-    omega (arith, mode-fits c.args.part c.requires.good_index.1 c.args.part.mode (omega (arith, c.requires.mode_in_bounds.0)))
-
-pub overflow_cast-ways : goal.overflow_cast-ways
-overflow_cast-ways c =
-    omega (arith, mode-fits c.args.part c.requires.good_index.1 c.args.part.mode (omega (arith, c.requires.mode_in_bounds.0)))
-
-pub bounds-ways-k-2 : goal.bounds-ways-k-2
-bounds-ways-k-2 c =
-    simp length-set (omega (arith, c.requires.in_bounds, c.requires.good_index.0.few, c.requires.good_index.1.inside))
-
 pub returns : goal.returns
 returns c =
     let a = c.args in
@@ -48,4 +32,5 @@ returns c =
     let index = a.index.now in
     let same : parts_by s index a.part ≡ stays ∷ [] = parts-other (component_at s index a.part.k) a.part.mode a.part.e c.in_scope.ensures c.if-in_scope.false in
     let inside : a.part.k + 1 ≤ 4 = omega (arith, p.good_index.0.few, p.good_index.1.inside) in
-    let landing = a.part.rest + a.part.mode * a.part.unit in record { value = sym (ap length same); ways_at = ways-same same (stays-ways s index a.part landing a.ways.now (omega (arith, inside)) p.in_bounds refl); other_lines = stays-others s index a.part landing a.ways.now (omega (arith, inside)) p.in_bounds refl }
+    let landing = a.part.rest + c.from.result * a.part.unit in
+    let is : landing ≡ a.part.rest + a.part.mode * a.part.unit = ap (λ (m : ℕ). a.part.rest + m * a.part.unit) c.from.ensures in record { value = sym (ap length same); ways_at = ways-same same (stays-ways s index a.part landing a.ways.now (omega (arith, inside)) p.in_bounds is); other_lines = stays-others s index a.part landing a.ways.now (omega (arith, inside)) p.in_bounds is }

@@ -1,7 +1,6 @@
 -- By cases: a line is put, or nothing is changed. Assumes nothing.
 use mathlib.Core.Path.{sym, ◌∙◌}
 use native.Mathlib.Omega.{arith}
-use lib.ListN.{length-set}
 use Rattle.joint_switches.proofs.TableLaws.{switch-within}
 use Rattle.joint_switches.proofs.LineLaws.{landing-fits, not_taken, line_taken}
 use Rattle.joint_switches.proofs.slots.take_switch.Goals as goal
@@ -32,12 +31,6 @@ overflow_cast-ways-2 c =
     let a = c.args in
     let p = c.requires in
     omega (arith, landing-fits p.good_index.0 a.part a.i p.good_index.1 p.i_in_bounds c.target_in.result c.target_in.ensures)
-
-pub bounds-ways-at-2 : goal.bounds-ways-at-2
-bounds-ways-at-2 c = simp length-set (omega (arith, c.requires.at_bound))
-
-pub bounds-ways-at-3 : goal.bounds-ways-at-3
-bounds-ways-at-3 c = simp length-set (omega (arith, c.requires.at_bound))
 
 pub returns : goal.returns
 returns c =

@@ -7,7 +7,4 @@ use Rattle.joint_switches.proofs.slots.together_at.Given as goal
 
 abbrev pub invariant-loop-k : goal.invariant-loop-k
 invariant-loop-k l =
-    (l.k ≤ entry l.index 1) × (l.target + 255 * l.k ≤ 1020) × (length l.switches ≡ 4) × Taking l.counts l.ways (entry l.index 1) l.x l.k l.left l.switches l.target
-
-abbrev pub decreases-loop-k : goal.decreases-loop-k
-decreases-loop-k l = l.k
+    (l.target + 255 * l.k ≤ 1020) × (length l.switches ≡ 4) × Taking l.counts l.ways (entry l.index 1) l.x l.k l.left l.switches l.target

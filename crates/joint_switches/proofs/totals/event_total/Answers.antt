@@ -1,16 +1,24 @@
--- By cases: the scope mask has no ones, or it has some. Assumes nothing.
-use mathlib.Core.Path.{◌∙◌}
+-- By cases: event 0, a scope mask that has no ones, or one that has some. Assumes nothing.
+use mathlib.Core.Path.{sym, ap, ◌∙◌}
+use Prim.Native.Nat.{ℕ}
+use native.Mathlib.Omega.{arith}
+use Rattle.formats.specs.JointTotals.{event_total}
 use Rattle.models.specs.Index.{components_from}
-use Rattle.joint_switches.proofs.TotalLaws.{none-in-scope, some-in-scope}
+use Rattle.joint_switches.proofs.TotalLaws.{none-in-scope, some-in-scope, silent-event}
 use Rattle.joint_switches.proofs.totals.event_total.Goals as goal
+
+pub returns-then-e-eq0 : goal.returns-then-e-eq0
+returns-then-e-eq0 c =
+    let components = components_from c.args.s.now c.args.index.now in
+    c.silent_total.ensures ∙ silent-event components ∙ sym (ap (λ (e : ℕ). event_total components e) c.if-e-eq0.true)
 
 pub returns-then-mask-eq0 : goal.returns-then-mask-eq0
 returns-then-mask-eq0 c =
     let a = c.args in
-    none-in-scope (components_from a.s.now a.index.now) a.e c.scope_mask-mask.result c.requires.le_e.0 c.scope_mask-mask.ensures c.if-mask-eq0.true
+    none-in-scope (components_from a.s.now a.index.now) a.e c.scope_mask-mask.result (omega (arith, c.if-e-eq0.false)) c.scope_mask-mask.ensures c.if-mask-eq0.true
 
 pub returns : goal.returns
 returns c =
     let a = c.args in
     c.together_total.ensures
-    ∙ some-in-scope (components_from a.s.now a.index.now) a.e c.scope_mask-mask.result c.requires.le_e.0 c.scope_mask-mask.ensures c.if-mask-eq0.false
+    ∙ some-in-scope (components_from a.s.now a.index.now) a.e c.scope_mask-mask.result (omega (arith, c.if-e-eq0.false)) c.scope_mask-mask.ensures c.if-mask-eq0.false
