@@ -19,7 +19,8 @@ use Rattle.farkas.specs.Farkas.{same_z}
 use Rattle.farkas.proofs.Bits.{size-+*, same_bits}
 use Rattle.farkas.proofs.Promise.{same-means}
 use Rattle.fields.specs.Places.{signed_at, numbers_at, row_at, rows_from}
-use Rattle.formats.specs.Joint.{stays}
+use Rattle.farkas.specs.Lists.{every}
+use Rattle.formats.specs.Joint.{stays, count_up}
 use Rattle.formats.specs.Rows.{SheetRow}
 use Rattle.models.specs.Index.{entry, component_place, mode_place, switch_place, unsafe_place, span_rows, GoodSpan, GoodIndex}
 use Rattle.rules.specs.Runs.{condition_holds}
@@ -112,6 +113,18 @@ module _ (s : List ℕ) (version n q : ℕ) (ps : List ℤ) where
   unfolding condition_holds holds
   rows_start = loops.rows_start holds s version n
 
+  -- a row of each number of a range
+  rows-counted : (from at k rows : ℕ) → at ≡ from + row_bytes version n * k → every (λ j. row_holds q ps (row_at s version n (from + row_bytes version n * j)).row) (count_up k rows) ≡ condition_holds q ps (rows_from s version n at rows)
+  unfolding condition_holds every count_up rows_from
+  rows-counted from at k zero e = refl
+  rows-counted from at k (suc rows) e =
+      ap (λ (p : ℕ). row_holds q ps (row_at s version n p).row && every (λ j. row_holds q ps (row_at s version n (from + row_bytes version n * j)).row) (count_up (suc k) rows)) (sym e)
+      ∙ ap (λ b. row_holds q ps (row_at s version n at).row && b) (rows-counted from (at + row_bytes version n) (suc k) rows (loops.row_next from version n at k e ∙ ap (λ (i : ℕ). from + row_bytes version n * i) (add-one k)))
+
+  pub rows-range : (index : List ℕ) (place v first size : ℕ) → v ≡ version → first ≡ entry index place → size ≡ row_bytes v n → every (λ j. row_holds q ps (row_at s v n (first + size * j)).row) (count_up 0 (entry index (place + 1))) ≡ condition_holds q ps (span_rows s version n index place)
+  unfolding span_rows
+  rows-range index place v first size p f z = rw (z, f, p) (rows-counted (entry index place) (entry index place) 0 (entry index (place + 1)) (omega arith))
+
 -- two values are the same where their bits are
 told-false : (b : Bool) → (T b → ⊥) → b ≡ false
 told-false true f = absurd (f tt)
@@ -170,12 +183,12 @@ module _ {s index modes : List ℕ} {offset : ℕ} (g : (offset ≤ 5) × GoodMo
       subst (λ (i : ℕ). GoodSpan s (entry index 11) i index place) (sym p)
       (subst (λ (i : ℕ). GoodSpan s (entry index 11) (entry index 0) index i) (sym q) (g.1.spans k h))
 
-  pub mode-told : (t : ℕ) (point : List ℤ) (r : Bool) → r ≡ condition_holds t (take n point) (span_rows s (entry index 11) n index place) → r ≡ mode_holds s index modes offset t point k
-  unfolding mode_holds
-  mode-told t point r e =
-      e
-      ∙ ap (λ (i : ℕ). condition_holds t (take i point) (span_rows s (entry index 11) i index place)) p
-      ∙ ap (λ (i : ℕ). condition_holds t (take (entry index 0) point) (span_rows s (entry index 11) (entry index 0) index i)) q
+pub mode-told : (s index modes : List ℕ) (offset n k place t : ℕ) (point : List ℤ) (r : Bool) → n ≡ entry index 0 → place ≡ mode_place (component_place k) (get_or modes k 0) + offset → r ≡ condition_holds t (take n point) (span_rows s (entry index 11) n index place) → r ≡ mode_holds s index modes offset t point k
+unfolding mode_holds
+mode-told s index modes offset n k place t point r p q e =
+    e
+    ∙ ap (λ (i : ℕ). condition_holds t (take i point) (span_rows s (entry index 11) i index place)) p
+    ∙ ap (λ (i : ℕ). condition_holds t (take (entry index 0) point) (span_rows s (entry index 11) (entry index 0) index i)) q
 
 module _ {s index : List ℕ} (g : GoodIndex s index) (n k i place : ℕ) (h : k < entry index 1) (l : i < entry index (component_place k + 2)) (p : n ≡ entry index 0) (q : place ≡ switch_place (component_place k) i + 3) where
   pub switch-place : place + 1 < 1004

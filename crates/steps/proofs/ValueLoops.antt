@@ -5,6 +5,14 @@ use mathlib.Core.List.{List, [], ◌∷◌, map}
 use Prim.Native.Nat.{ℕ, zero, suc, ◌+◌, ◌-◌, ◌≤◌, ◌<◌}
 use native.Mathlib.Numerals.{add-one}
 use native.Mathlib.Omega.{arith}
+use denote.Param.Members.{Mut}
+use Rattle.std.specs.List.{list_all, list_any, range_with_len}
+use Rattle.std.specs.Fn.{Called}
+use Rattle.std.specs.Iterator.{ChecksAll, ChecksAny}
+use Rattle.std.specs.declared.ops.Range.{Range}
+use Rattle.std.proofs.iter.Yields.{nat_range_steps}
+use Rattle.std.proofs.lemmas.Iterator.{YieldsList-from_range}
+use Rattle.std.proofs.lemmas.Iterator.Search.{all_from_yields_List, any_from_yields_List}
 use Rattle.farkas.specs.Lists.{every, some}
 use Rattle.formats.specs.Joint.{count_up}
 use Rattle.papers.proofs.RowLoops.{left_less, left-none, one_less}
@@ -59,6 +67,24 @@ module _ (f : ℕ → Bool) where
   pub some-none : (n k : ℕ) (whole : Bool) → n ≤ k → some f (count_up k (n - k)) ≡ whole → false ≡ whole
   unfolding some count_up
   some-none n k whole h e = ap (λ (m : ℕ). some f (count_up k m)) (left-none n k h) ∙ e
+
+-- `all` and `any` over a range answer as the tests of the numbers that are counted up, where the closure answers each as the test does
+all-counted : (f : ℕ → Bool) (k n : ℕ) → list_all f (range_with_len k n) ≡ every f (count_up k n)
+unfolding every count_up
+all-counted f k zero = refl
+all-counted f k (suc n) = ap (λ (m : ℕ). f k && list_all f (range_with_len m n)) (add-one k) ∙ ap (λ b. f k && b) (all-counted f (suc k) n)
+
+any-counted : (f : ℕ → Bool) (k n : ℕ) → list_any f (range_with_len k n) ≡ some f (count_up k n)
+unfolding some count_up
+any-counted f k zero = refl
+any-counted f k (suc n) = ap (λ (m : ℕ). f k || list_any f (range_with_len m n)) (add-one k) ∙ ap (λ b. f k || b) (any-counted f (suc k) n)
+
+module _ {F : Type 0} {g : Mut F (ℕ × Unit {0}) Bool} {f : F} {r : Bool} {u : Range ℕ} (test : ℕ → Bool) (m n : ℕ) (all : m ≡ n) where
+  pub all-range : ChecksAll nat_range_steps g (record { start = 0; end = m }) f r u → ((x : ℕ) (b : Bool) (q : F) → Called g f (x, tt) b q → (q ≡ f) × (b ≡ test x)) → r ≡ every test (count_up 0 n)
+  all-range ran same = all_from_yields_List test _ _ _ ran (YieldsList-from_range 0 m n refl (omega arith)) same ∙ all-counted test 0 n
+
+  pub any-range : ChecksAny nat_range_steps g (record { start = 0; end = m }) f r u → ((x : ℕ) (b : Bool) (q : F) → Called g f (x, tt) b q → (q ≡ f) × (b ≡ test x)) → r ≡ some test (count_up 0 n)
+  any-range ran same = any_from_yields_List test _ _ _ ran (YieldsList-from_range 0 m n refl (omega arith)) same ∙ any-counted test 0 n
 
 -- tests that agree on the numbers
 agree-from : (f g : ℕ → Bool) (k n : ℕ) → ((i : ℕ) → k ≤ i → i < k + n → f i ≡ g i) → every f (count_up k n) ≡ every g (count_up k n)

@@ -25,12 +25,10 @@ fn row_holds(s: &[u8], at: usize, version: u32, count: usize, point: &[i64], q: 
     ensures { result ≡ row_holds q (take count point.now) (row_at s.now version count at).row }
 {
     let mut sum: i64 = 0;
-    let mut i: usize = 0;
-    while i < count {
+    for i in 0..count {
         sum = multiply_add(sum, signed_word(s, at + 4 * i), point[i]);
-        i += 1;
     }
-    let bound = multiply_add(0, signed_word(s, at + 4 * count), q as i64);
+    let bound = multiply_add(0, signed_word(s, at + 4 * count), i64::from(q));
     compare(is_strict(version, s, at), sum, bound)
 }
 
@@ -48,17 +46,10 @@ pub fn condition_holds(
     ensures { result ≡ runs.condition_holds q (take count point.now) (span_rows s.now (version_in index.now) count index.now place) }
 {
     let version = version_of(index);
+    let first = number_at(index, place);
     let rows = number_at(index, place + COUNT_AT);
-    let mut at = number_at(index, place);
-    let mut j: usize = 0;
-    while j < rows {
-        if !row_holds(s, at, version, count, point, q) {
-            return false;
-        }
-        at += row_bytes(version, count);
-        j += 1;
-    }
-    true
+    let size = row_bytes(version, count);
+    (0..rows).all(|j| row_holds(s, first + size * j, version, count, point, q))
 }
 
 // Whether the rows hold that an index keeps of the modes at an offset: 1 initial, 3 invariant, 5 flow.
@@ -76,13 +67,8 @@ pub fn modes_hold(
 {
     let n = number_at(index, VARIABLES_AT);
     let components = number_at(index, COMPONENTS_AT);
-    let mut k: usize = 0;
-    while k < components {
+    (0..components).all(|k| {
         let place = mode_place(k, modes[k], offset);
-        if !condition_holds(model, index, place, n, point, q) {
-            return false;
-        }
-        k += 1;
-    }
-    true
+        condition_holds(model, index, place, n, point, q)
+    })
 }

@@ -1,6 +1,6 @@
 // Tests on the values of states, which stand in a lent slice: the values before in its first numbers, one to a variable, those after in as
 // many numbers from there on, and then their change. How a run may begin, unsafe states, the rules of flows and jumps.
-ghost use Rattle.std.specs.Prelude.{◌≡◌, false, not, ℕ, ◌+◌, ◌*◌, ◌^◌, ◌≤◌, ◌<◌, eqb, length};
+ghost use Rattle.std.specs.Prelude.{Bool, ◌≡◌, false, not, ℕ, ◌+◌, ◌*◌, ◌^◌, ◌≤◌, ◌<◌, eqb, length};
 ghost use Rattle.farkas.specs.Lists.{every};
 ghost use Rattle.formats.specs.Joint.{stays, count_up};
 ghost use Rattle.models.specs.Index.{model_from, GoodIndex, components_in, conditions_in, switch_count_in, variables_in};
@@ -25,13 +25,9 @@ pub fn start_allowed(model: &[u8], index: &Index, modes: [u8; 4], q: u32, state:
     requires small_values { SmallValues (variables_in index.now) state.now × (q < 2 ^ 24) }
     ensures { result ≡ runs.start_allowed (model_from model.now index.now) q (state_in model.now index.now modes state.now) }
 {
-    if !modes_hold(model, index, modes, INVARIANT_AT, state, q) {
-        return false;
-    }
-    if !all_start(model, index, modes) {
-        return false;
-    }
-    modes_hold(model, index, modes, INITIAL_AT, state, q)
+    modes_hold(model, index, modes, INVARIANT_AT, state, q)
+        && all_start(model, index, modes)
+        && modes_hold(model, index, modes, INITIAL_AT, state, q)
 }
 
 // Whether the modes and the rows of an unsafe condition fit.
@@ -40,18 +36,9 @@ fn unsafe_fits(model: &[u8], index: &Index, u: usize, modes: [u8; 4], state: &[i
     requires small_point { SmallPoint (variables_in index.now) state.now × (q < 2 ^ 24) }
     ensures { result ≡ unsafe_at model.now index.now modes q state.now u }
 {
-    if !modes_fit(model, index, u, modes) {
-        return false;
-    }
     let place = FIRST_UNSAFE + UNSAFE_LENGTH * u + UNSAFE_ROWS_AT;
-    condition_holds(
-        model,
-        index,
-        place,
-        number_at(index, VARIABLES_AT),
-        state,
-        q,
-    )
+    let n = number_at(index, VARIABLES_AT);
+    modes_fit(model, index, u, modes) && condition_holds(model, index, place, n, state, q)
 }
 
 // Whether a state is unsafe: some unsafe condition fits.
@@ -61,14 +48,7 @@ pub fn is_unsafe(model: &[u8], index: &Index, modes: [u8; 4], q: u32, state: &[i
     ensures { result ≡ runs.is_unsafe (model_from model.now index.now) q (state_in model.now index.now modes state.now) }
 {
     let conditions = number_at(index, CONDITIONS_AT);
-    let mut u: usize = 0;
-    while u < conditions {
-        if unsafe_fits(model, index, u, modes, state, q) {
-            return true;
-        }
-        u += 1;
-    }
-    false
+    (0..conditions).any(|u| unsafe_fits(model, index, u, modes, state, q))
 }
 
 // Whether the values after are those before.
@@ -76,14 +56,7 @@ fn same_values(n: usize, state: &[i64]) -> bool
     requires { 2 * n ≤ length state.now }
     ensures { result ≡ every (same_at n state.now) (count_up 0 n) }
 {
-    let mut i: usize = 0;
-    while i < n {
-        if state[n + i] != state[i] {
-            return false;
-        }
-        i += 1;
-    }
-    true
+    (0..n).all(|v| same_value(v, n, state))
 }
 
 // By how much each value changes, behind the values after.
@@ -91,10 +64,8 @@ fn changes_into(n: usize, state: &mut [i64])
     requires { SmallValues (2 * n) state.old × (3 * n ≤ length state.old) }
     ensures { state.new ≡ with_changes n state.old }
 {
-    let mut i: usize = 0;
-    while i < n {
+    for i in 0..n {
         state[2 * n + i] = state[n + i] - state[i];
-        i += 1;
     }
 }
 
@@ -106,41 +77,17 @@ fn same_value(v: usize, n: usize, state: &[i64]) -> bool
     state[n + v] == state[v]
 }
 
-// Whether a variable's value has changed though a flow in these modes, or a jump by these switches, keeps it. Rows are looked at only where
-// it has changed.
-fn moved(
-    model: &[u8],
-    index: &Index,
-    flow: bool,
-    numbers: [u8; 4],
-    v: usize,
-    n: usize,
-    state: &[i64],
-) -> bool
-    requires good_index { GoodIndex model.now index.now × (length model.now ≤ 32768) }
-    requires known_in { KnownIn flow index.now numbers × (v < variables_in index.now) }
-    requires v_lt_n { (v < n) × (2 * n ≤ length state.now) }
-    ensures { not result ≡ kept_at (keeps_at model.now index.now flow numbers) n state.now v }
-{
-    if same_value(v, n, state) {
-        return false;
-    }
-    keeps(model, index, flow, numbers, v)
-}
-
-// Whether the variables keep their values that a flow in these modes, or a jump by these switches, keeps.
-fn values_kept(model: &[u8], index: &Index, flow: bool, numbers: [u8; 4], state: &[i64]) -> bool
-    requires good_index { GoodIndex model.now index.now × (length model.now ≤ 32768) }
-    requires known_in { KnownIn flow index.now numbers × (2 * variables_in index.now ≤ length state.now) }
-    ensures { result ≡ every (kept_at (keeps_at model.now index.now flow numbers) (variables_in index.now) state.now) (count_up 0 (variables_in index.now)) }
+// Whether the variables keep their values that a test says are kept. It is asked only where a value has changed.
+fn values_kept<K: Fn(usize) -> bool>(index: &Index, state: &[i64], keeps: K) -> bool
+    requires callable { (v : ℕ) → v < variables_in index.now → K.pre keeps v }
+    requires state_bound { 2 * variables_in index.now ≤ length state.now }
+    ensures { (test : ℕ → Bool) → ((v : ℕ) (r : Bool) → K.post keeps v r → r ≡ test v) → result ≡ every (kept_at test (variables_in index.now) state.now) (count_up 0 (variables_in index.now)) }
 {
     let n = number_at(index, VARIABLES_AT);
-    let mut v: usize = 0;
-    while v < n {
-        if moved(model, index, flow, numbers, v, n, state) {
+    for v in 0..n {
+        if !same_value(v, n, state) && keeps(v) {
             return false;
         }
-        v += 1;
     }
     true
 }
@@ -154,7 +101,7 @@ fn still_kept(model: &[u8], index: &Index, modes: [u8; 4], state: &[i64]) -> boo
     if !keeps_blanks(version_of(index)) {
         return true;
     }
-    values_kept(model, index, true, modes, state)
+    values_kept(index, state, |v| keeps(model, index, true, modes, v))
 }
 
 // Whether a flow of this time meets its rule. The changes of the values stand behind them then.
@@ -167,16 +114,9 @@ pub fn flow_rule(model: &[u8], index: &Index, modes: [u8; 4], time: u32, state: 
     let n = number_at(index, VARIABLES_AT);
     changes_into(n, state);
     let changes = 2 * n;
-    if !modes_hold(model, index, modes, FLOW_AT, &state[changes..], time) {
-        return false;
-    }
-    if !still_kept(model, index, modes, state) {
-        return false;
-    }
-    if time != 0 {
-        return true;
-    }
-    same_values(n, state)
+    modes_hold(model, index, modes, FLOW_AT, &state[changes..], time)
+        && still_kept(model, index, modes, state)
+        && (time != 0 || same_values(n, state))
 }
 
 // Whether a component stays, or the rows of its switch hold at the values before and after.
@@ -208,42 +148,7 @@ pub fn jump_rows(model: &[u8], index: &Index, q: u32, switches: [u8; 4], state: 
     ensures { (location : ℕ) → result ≡ runs.jump_rows (model_from model.now index.now) q (state_of index.now location state.now) (per_component index.now switches) (values_after index.now state.now) }
 {
     let components = number_at(index, COMPONENTS_AT);
-    let mut k: usize = 0;
-    while k < components {
-        if !move_holds(model, index, k, switches[k], state, q) {
-            return false;
-        }
-        k += 1;
-    }
-    true
-}
-
-// Whether a variable's value is the same after as before, where its owner stays.
-fn value_kept(index: &Index, switches: [u8; 4], v: usize, n: usize, state: &[i64]) -> bool
-    requires owned { Owned index.now × (v < variables_in index.now) }
-    requires v_lt_n { (v < n) × (2 * n ≤ length state.now) }
-    ensures { result ≡ kept_at (stays_at index.now switches) n state.now v }
-{
-    if !owner_stays(index, switches, v) {
-        return true;
-    }
-    same_value(v, n, state)
-}
-
-// Whether the variables keep their values whose owners stay.
-fn owned_kept(index: &Index, switches: [u8; 4], state: &[i64]) -> bool
-    requires { Owned index.now × (2 * variables_in index.now ≤ length state.now) }
-    ensures { result ≡ every (kept_at (stays_at index.now switches) (variables_in index.now) state.now) (count_up 0 (variables_in index.now)) }
-{
-    let n = number_at(index, VARIABLES_AT);
-    let mut v: usize = 0;
-    while v < n {
-        if !value_kept(index, switches, v, n, state) {
-            return false;
-        }
-        v += 1;
-    }
-    true
+    (0..components).all(|k| move_holds(model, index, k, switches[k], state, q))
 }
 
 // Whether the variables keep their values that a jump by these switches keeps, from whichever location. Where no blank is kept, only
@@ -254,9 +159,9 @@ pub fn staying_kept(model: &[u8], index: &Index, switches: [u8; 4], state: &[i64
     ensures { (location : ℕ) → result ≡ runs.staying_kept (model_from model.now index.now) (state_of index.now location state.now) (per_component index.now switches) (values_after index.now state.now) }
 {
     if !keeps_blanks(version_of(index)) {
-        return owned_kept(index, switches, state);
+        return values_kept(index, state, |v| owner_stays(index, switches, v));
     }
-    values_kept(model, index, false, switches, state)
+    values_kept(index, state, |v| keeps(model, index, false, switches, v))
 }
 
 // The values after a step are those before the next.
@@ -265,9 +170,5 @@ pub fn keep_values(index: &Index, state: &mut [i64])
     ensures { state.new ≡ moved_on (variables_in index.now) state.old }
 {
     let n = number_at(index, VARIABLES_AT);
-    let mut i: usize = 0;
-    while i < n {
-        state[i] = state[n + i];
-        i += 1;
-    }
+    state.copy_within(n..2 * n, 0);
 }

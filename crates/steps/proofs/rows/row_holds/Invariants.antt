@@ -1,5 +1,5 @@
 use mathlib.Core.Path.{◌≡◌}
-use Prim.Native.Nat.{◌*◌, ◌-◌, ◌^◌, ◌≤◌}
+use Prim.Native.Nat.{◌*◌, ◌^◌, ◌≤◌}
 use lib.IntN.{nat_abs}
 use Rattle.farkas.specs.Rows.{dot}
 use Rattle.fields.specs.Places.{numbers_at}
@@ -7,7 +7,4 @@ use Rattle.steps.proofs.rows.row_holds.Given as goal
 
 abbrev pub invariant-loop-i : goal.invariant-loop-i
 invariant-loop-i l =
-    (l.i ≤ l.count) × ((l.sum ≡ dot (numbers_at l.s l.at l.i) l.point) × (nat_abs l.sum * l.count ≤ l.i * 2 ^ 62))
-
-abbrev pub decreases-loop-i : goal.decreases-loop-i
-decreases-loop-i l = l.count - l.i
+    (l.sum ≡ dot (numbers_at l.s l.at l.i) l.point) × (nat_abs l.sum * l.count ≤ l.i * 2 ^ 62)

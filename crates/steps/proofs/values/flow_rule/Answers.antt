@@ -1,6 +1,6 @@
 -- The rates are the rows of the present modes at offset 5, at the changes of the values. Assumes nothing.
 use mathlib.Core.Path.{◌≡◌, refl, sym, ap, ap₂, ◌∙◌, subst}
-use mathlib.Core.Bool.{Bool, not, ◌&&◌, ◌||◌}
+use mathlib.Core.Bool.{Bool, true, not, ◌&&◌, ◌||◌, true≢false}
 use mathlib.Core.List.{List}
 use Prim.Native.Nat.{ℕ, ◌*◌, ◌-◌, ◌≤◌}
 use native.Mathlib.Omega.{arith}
@@ -20,16 +20,11 @@ use Rattle.papers.proofs.StandingLaws.{flow-good}
 use Rattle.steps.proofs.SliceLaws.{part-rest, changes-small}
 use Rattle.steps.proofs.StandLaws.{stands-in}
 use Rattle.steps.proofs.ValueStates.{changes-same, changes-kept, flow-told}
-use Rattle.steps.proofs.values.flow_rule.Goals.{After-changes_into, After-modes_hold, After-still_kept, Start}
+use Rattle.steps.proofs.values.flow_rule.Goals.{After-changes_into, After-modes_hold, Then-still_kept, Start, then-modes_hold, else-modes_hold}
 use Rattle.steps.proofs.values.flow_rule.Goals as goal
 
 modes-length : (c : Start) → length c.args.modes ≡ 4
 modes-length c = search rules
-
-pub changes_into-requires : goal.changes_into-requires
-changes_into-requires c =
-    let n = c.number_at-n.ensures in
-    (subst (λ (k : ℕ). SmallValues (2 * k) c.args.state.now) (sym n) c.requires.small_state.values, omega (arith, n, c.requires.small_state.room))
 
 -- the slice with the changes, by the index's number of variables
 changed : (c : After-changes_into) → c.changes_into.new.state ≡ with_changes (entry c.args.index.now 0) c.args.state.now
@@ -41,11 +36,11 @@ point-is c =
     part-rest (2 * c.number_at-n.result) c.changes_into.new.state
     ∙ ap₂ (λ (k : ℕ) (xs : List ℤ). drop (2 * k) xs) c.number_at-n.ensures (changed c)
 
-pub modes_hold-requires : goal.modes_hold-requires
-modes_hold-requires c =
+pub modes_hold-requires-clause-small_point : goal.modes_hold-requires-clause-small_point
+modes_hold-requires-clause-small_point c =
     let a = c.args in
-    let w = c.requires.located.0 in
-    let n = entry a.index.now 0 in record { model_len_bound = (w.short, (w.good.few, (omega arith, flow-good a.model.now a.index.now a.modes w.good w.known))); small_point = (subst (SmallPoint n) (sym (point-is (goal.at.modes_hold-requires c).After-changes_into)) (changes-small n a.state.now c.requires.small_state.room c.requires.small_state.values w.good.most), c.requires.located.1) }
+    let n = entry a.index.now 0 in
+    (subst (SmallPoint n) (sym (point-is (goal.at.modes_hold-requires-clause-small_point c).After-changes_into)) (changes-small n a.state.now c.requires.small_state.room c.requires.small_state.values c.requires.located.0.good.most), c.requires.located.1)
 
 -- what is asked of the values: that blanks are kept, and that all stand still
 abbrev blanks : Start → Bool
@@ -69,35 +64,52 @@ rule-is c k b t p =
     let rates = c.modes_hold.ensures ∙ ap (λ (xs : List ℤ). every (mode_holds model index a.modes 5 a.time xs) (count_up 0 (entry index 1))) (point-is (goal.at.After-modes_hold c).After-changes_into) in
     flow-told w.good _ a.modes (stands-in a.modes w.good w.known long) long a.time a.state.now c.requires.small_state.room c.modes_hold.result k b rates t p
 
-pub returns-then-not-modes_hold : goal.returns-then-not-modes_hold
-returns-then-not-modes_hold c = record { value = flow-fails c.modes_hold.result (blanks (goal.at.returns-then-not-modes_hold c).Start) (eqb c.args.time 0) (still (goal.at.returns-then-not-modes_hold c).Start) (c.if-not-modes_hold.true) ∙ rule-is (goal.at.returns-then-not-modes_hold c).After-modes_hold (blanks (goal.at.returns-then-not-modes_hold c).Start) (still (goal.at.returns-then-not-modes_hold c).Start) refl refl; state_after = changed (goal.at.returns-then-not-modes_hold c).After-changes_into }
-
-pub still_kept-requires : goal.still_kept-requires
-still_kept-requires c =
-    let w = c.requires.located.0 in record { good_index = (w.good, w.short); known_modes = (w.known, omega (arith, c.requires.small_state.room, c.changes_into.auto.state)) }
-
 -- the test of blanks, on the values without their changes
-blanks-are : (c : After-still_kept) → c.still_kept.result ≡ blanks (goal.at.After-still_kept c).Start
-blanks-are c =
+blanks-are : (c : After-changes_into) (r : Bool) → r ≡ every (kept_at (still_at c.args.model.now c.args.index.now c.args.modes) (entry c.args.index.now 0) c.changes_into.new.state) (count_up 0 (entry c.args.index.now 0)) → r ≡ blanks (goal.at.After-changes_into c).Start
+blanks-are c r e =
     let a = c.args in
     let n = entry a.index.now 0 in
     let test = still_at a.model.now a.index.now a.modes in
-    c.still_kept.ensures
-    ∙ ap (λ (xs : List ℤ). every (kept_at test n xs) (count_up 0 n)) (changed (goal.at.After-still_kept c).After-changes_into)
-    ∙ changes-kept n a.state.now test c.requires.small_state.room
+    e ∙ ap (λ (xs : List ℤ). every (kept_at test n xs) (count_up 0 n)) (changed c) ∙ changes-kept n a.state.now test c.requires.small_state.room
 
-pub returns-then-not-still_kept : goal.returns-then-not-still_kept
-returns-then-not-still_kept c = record { value = flow-drifts c.modes_hold.result c.still_kept.result (eqb c.args.time 0) (still (goal.at.returns-then-not-still_kept c).Start) (c.if-not-modes_hold.false) (c.if-not-still_kept.true) ∙ rule-is (goal.at.returns-then-not-still_kept c).After-modes_hold c.still_kept.result (still (goal.at.returns-then-not-still_kept c).Start) (blanks-are (goal.at.returns-then-not-still_kept c).After-still_kept) refl; state_after = changed (goal.at.returns-then-not-still_kept c).After-changes_into }
+-- the first two tests, where both passed
+passed : (c : Then-still_kept) → (c.modes_hold.result ≡ true) × (blanks (goal.at.Then-still_kept c).Start ≡ true)
+passed c =
+    elim c.if-modes_hold.branch [
+      then-modes_hold w ↦ (w.if-modes_hold.true, sym (blanks-are (goal.at.Then-still_kept c).After-changes_into w.still_kept.result w.still_kept.ensures) ∙ sym w.value-is ∙ c.if-still_kept.true)
+      | else-modes_hold w ↦ absurd (true≢false (sym c.if-still_kept.true ∙ w.value-is ∙ w.if-modes_hold.false))
+    ]
 
-pub returns-then-time-ne0 : goal.returns-then-time-ne0
-returns-then-time-ne0 c = record { value = flow-lasts c.modes_hold.result c.still_kept.result (eqb c.args.time 0) (still (goal.at.returns-then-time-ne0 c).Start) (c.if-not-modes_hold.false) (c.if-not-still_kept.false) (ne_eqb _ _ c.if-time-ne0.true) ∙ rule-is (goal.at.returns-then-time-ne0 c).After-modes_hold c.still_kept.result (still (goal.at.returns-then-time-ne0 c).Start) (blanks-are (goal.at.returns-then-time-ne0 c).After-still_kept) refl; state_after = changed (goal.at.returns-then-time-ne0 c).After-changes_into }
+pub returns-then-time-ne0-clause-value : goal.returns-then-time-ne0-clause-value
+returns-then-time-ne0-clause-value c =
+    let start = (goal.at.returns-then-time-ne0-clause-value c).Start in
+    let p = passed (goal.at.returns-then-time-ne0-clause-value c).Then-still_kept in
+    let moves = ne_eqb c.args.time 0 c.if-time-ne0.true in
+    ap not moves ∙ flow-lasts c.modes_hold.result (blanks start) (eqb c.args.time 0) (still start) p.0 p.1 moves
+    ∙ rule-is (goal.at.returns-then-time-ne0-clause-value c).After-modes_hold (blanks start) (still start) refl refl
 
-pub returns : goal.returns
-returns c =
-    let a = c.args in
-    let n = entry a.index.now 0 in
-    let state = a.state.now in
-    let told : c.same_values.result ≡ every (same_at n state) (count_up 0 n) =
-    c.same_values.ensures
-    ∙ ap₂ (λ (k : ℕ) (xs : List ℤ). every (same_at k xs) (count_up 0 k)) c.number_at-n.ensures (changed (goal.at.returns c).After-changes_into)
-    ∙ changes-same n state c.requires.small_state.room in record { value = flow-stands c.modes_hold.result c.still_kept.result (eqb a.time 0) c.same_values.result (c.if-not-modes_hold.false) (c.if-not-still_kept.false) (eq-eqb _ _ c.if-time-ne0.false) ∙ rule-is (goal.at.returns c).After-modes_hold c.still_kept.result c.same_values.result (blanks-are (goal.at.returns c).After-still_kept) told; state_after = changed (goal.at.returns c).After-changes_into }
+pub returns-else-time-ne0-clause-value : goal.returns-else-time-ne0-clause-value
+returns-else-time-ne0-clause-value c =
+    let start = (goal.at.returns-else-time-ne0-clause-value c).Start in
+    let p = passed (goal.at.returns-else-time-ne0-clause-value c).Then-still_kept in
+    let n = entry c.args.index.now 0 in
+    let state = c.args.state.now in
+    let same = c.same_values in
+    let told : same.result ≡ still start =
+    same.ensures
+    ∙ ap₂ (λ (k : ℕ) (xs : List ℤ). every (same_at k xs) (count_up 0 k)) c.number_at-n.ensures (changed (goal.at.returns-else-time-ne0-clause-value c).After-changes_into)
+    ∙ changes-same n state c.requires.small_state.room in
+    flow-stands c.modes_hold.result (blanks start) (eqb c.args.time 0) same.result p.0 p.1 (eq-eqb _ _ c.if-time-ne0.false)
+    ∙ rule-is (goal.at.returns-else-time-ne0-clause-value c).After-modes_hold (blanks start) same.result refl told
+
+pub returns-else-still_kept-clause-value : goal.returns-else-still_kept-clause-value
+returns-else-still_kept-clause-value c =
+    let start = (goal.at.returns-else-still_kept-clause-value c).Start in
+    let after = (goal.at.returns-else-still_kept-clause-value c).After-modes_hold in
+    let lost = c.if-still_kept.false in
+    lost
+    ∙ elim c.if-modes_hold.branch [
+      then-modes_hold w ↦ flow-drifts c.modes_hold.result (blanks start) (eqb c.args.time 0) (still start) w.if-modes_hold.true (sym (blanks-are (goal.at.returns-else-still_kept-clause-value c).After-changes_into w.still_kept.result w.still_kept.ensures) ∙ sym w.value-is ∙ lost)
+      | else-modes_hold w ↦ flow-fails c.modes_hold.result (blanks start) (eqb c.args.time 0) (still start) w.if-modes_hold.false
+    ]
+    ∙ rule-is after (blanks start) (still start) refl refl

@@ -4,13 +4,14 @@ use mathlib.Core.Bool.{Bool}
 use Prim.Native.Nat.{ℕ, ◌≤◌}
 use native.Mathlib.Omega.{arith}
 use borrow.Author.Rules.{rules}
+use borrow.Author.Tests.{tests}
 use lib.ListN.{length}
 use Rattle.farkas.specs.Lists.{every}
 use Rattle.formats.specs.Joint.{count_up}
 use Rattle.formats.specs.Versions.{keeps_blanks}
 use Rattle.models.specs.Index.{model_from, entry}
 use Rattle.models.specs.Counts.{per_component}
-use Rattle.papers.specs.Blanks.{rests_at, KnownIn, keeps_at}
+use Rattle.papers.specs.Blanks.{rests_at, stays_at, KnownIn, keeps_at}
 use Rattle.papers.proofs.BlankLaws.{owners-known}
 use Rattle.rules.specs.Runs as runs
 use Rattle.steps.specs.Held.{state_of, values_after, kept_at}
@@ -32,26 +33,21 @@ whole_is c location =
     let long : entry c.args.index.now 1 ≤ length c.args.switches = omega (arith, switches-length c, c.requires.good_index.0.few) in
     staying-told c.requires.good_index.0 c.args.switches c.requires.known_switches.0 long location c.args.state.now
 
-pub version_of-requires : goal.version_of-requires
-version_of-requires c = tt
-
-pub keeps_blanks-requires : goal.keeps_blanks-requires
-keeps_blanks-requires c = tt
-
-pub owned_kept-requires : goal.owned_kept-requires
-owned_kept-requires c = let p = c.requires in (owners-known p.good_index.0, p.known_switches.1)
-
 pub returns-then-not-keeps_blanks : goal.returns-then-not-keeps_blanks
 returns-then-not-keeps_blanks c =
     let index = c.args.index.now in
     let keeps = c.keeps_blanks in
     let free : keeps.result ≡ keeps_blanks (entry index 11) = keeps.ensures ∙ ap keeps_blanks c.version_of.ensures in
-    λ location. c.owned_kept.ensures ∙ owned-all c.args.model.now index c.args.switches (entry index 0) c.args.state.now (sym free ∙ c.if-not-keeps_blanks.true) ∙ whole_is (goal.at.returns-then-not-keeps_blanks c).Start location
+    λ location.
+    c.values_kept.ensures (stays_at index c.args.switches) (λ v r k. search (rules, tests))
+    ∙ owned-all c.args.model.now index c.args.switches (entry index 0) c.args.state.now (sym free ∙ c.if-not-keeps_blanks.true) ∙ whole_is (goal.at.returns-then-not-keeps_blanks c).Start location
 
-pub values_kept-requires : goal.values_kept-requires
+pub values_kept-requires-2-clause-callable : goal.values_kept-requires-2-clause-callable
 unfolding KnownIn
-values_kept-requires c = record { good_index = c.requires.good_index; known_in = c.requires.known_switches }
+values_kept-requires-2-clause-callable c = λ v h. search rules
 
 pub returns : goal.returns
 unfolding keeps_at
-returns c = λ location. c.values_kept.ensures ∙ whole_is (goal.at.returns c).Start location
+returns c = λ location.
+    c.values_kept-2.ensures (rests_at c.args.model.now c.args.index.now c.args.switches) (λ v r k. search (rules, tests))
+    ∙ whole_is (goal.at.returns c).Start location

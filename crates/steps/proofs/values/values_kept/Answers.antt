@@ -1,60 +1,43 @@
 -- The variables that are left keep their values exactly when all do. Assumes nothing.
-use mathlib.Core.Path.{◌≡◌, ap}
-use mathlib.Core.Bool.{Bool, not}
-use Prim.Native.Nat.{ℕ}
+use mathlib.Core.Path.{◌≡◌, refl, sym, ap, ◌∙◌}
+use mathlib.Core.Bool.{Bool, true, false, not}
+use Prim.Native.Nat.{ℕ, ◌-◌}
 use native.Mathlib.Omega.{arith}
 use Rattle.farkas.specs.Lists.{every}
 use Rattle.formats.specs.Joint.{count_up}
-use Rattle.models.specs.Index.{entry}
-use Rattle.papers.specs.Blanks.{keeps_at}
 use Rattle.steps.specs.Held.{kept_at}
-use Rattle.steps.proofs.ValueLoops.{each_start, each-pass, each-fail, each_none}
-use Rattle.steps.proofs.ValueLaws.{kept_of}
-use Rattle.steps.proofs.values.values_kept.Goals.{After-moved, Start}
+use Rattle.steps.proofs.ValueLoops.{each-pass, each-fail, each_none}
+use Rattle.steps.proofs.ValueLaws.{kept_same, kept-changed}
+use Rattle.steps.proofs.values.values_kept.Goals.{else-not-same_value-via-then-not-same_value+else-keeps, else-not-same_value-via-else-not-same_value}
 use Rattle.steps.proofs.values.values_kept.Goals as goal
 
--- what is asked of a variable
-abbrev asked : Start → ℕ → Bool
-asked c = kept_at (keeps_at c.args.model.now c.args.index.now c.args.flow c.args.numbers) (entry c.args.index.now 0) c.args.state.now
-
-pub number_at-n-requires : goal.number_at-n-requires
-number_at-n-requires c = omega arith
-
-pub loop-v-init : goal.loop-v-init
-loop-v-init c =
-    (omega arith, each_start (asked (goal.at.loop-v-init c).Start) c.number_at-n.result (entry c.args.index.now 0) c.number_at-n.ensures)
-
-pub moved-requires : goal.moved-requires
-moved-requires c =
-    let p = c.requires in
-    let n = c.number_at-n in record { good_index = p.good_index; known_in = (p.known_in.0, omega (arith, c.loop-v-test.true, n.ensures)); v_lt_n = (c.loop-v-test.true, omega (arith, n.ensures, p.known_in.1)) }
-
--- what a turn tells of its number
-told : (c : After-moved) → not c.moved.result ≡ asked (goal.at.After-moved c).Start c.loop-v.v
-told c =
+pub returns-then-keeps : goal.returns-then-keeps
+returns-then-keeps g c = λ test told.
     let n = c.number_at-n in
-    kept_of (keeps_at c.args.model.now c.args.index.now c.args.flow c.args.numbers) n.result (entry c.args.index.now 0) c.args.state.now c.loop-v.v (not c.moved.result) n.ensures c.moved.ensures
-
-pub returns-then-moved : goal.returns-then-moved
-returns-then-moved c =
-    let f = asked (goal.at.returns-then-moved c).Start in
     let l = c.loop-v in
-    each-fail f c.number_at-n.result l.v (every f (count_up 0 (entry c.args.index.now 0))) (not c.moved.result) c.loop-v-test.true (told (goal.at.returns-then-moved c).After-moved) (ap not c.if-moved.true) l.invariant.1
-
-pub overflow_add-v : goal.overflow_add-v
-overflow_add-v c = omega arith
-
-pub loop-v-smaller : goal.loop-v-smaller
-loop-v-smaller c = omega arith
+    let state = c.args.state.now in
+    let f = kept_at test n.result state in
+    each-fail f n.result l.v (every f (count_up 0 n.result)) false c.loop-v-test.true (ap not (sym c.if-keeps.true) ∙ kept-changed test n.result state l.v c.same_value.result c.keeps.result c.same_value.ensures c.if-not-same_value.true (told _ _ c.keeps.ensures)) refl (l.invariant test told)
+    ∙ ap (λ (k : ℕ). every (kept_at test k state) (count_up 0 k)) n.ensures
 
 pub loop-v-preserved : goal.loop-v-preserved
-loop-v-preserved c =
-    let f = asked (goal.at.loop-v-preserved c).Start in
+loop-v-preserved g c = λ test told.
+    let n = c.number_at-n.result in
     let l = c.loop-v in
-    (omega arith, each-pass f c.number_at-n.result l.v (every f (count_up 0 (entry c.args.index.now 0))) (not c.moved.result) c.loop-v-test.true (told (goal.at.loop-v-preserved c).After-moved) (ap not c.if-moved.false) l.invariant.1)
+    let state = c.args.state.now in
+    let f = kept_at test n state in
+    let same = c.same_value in
+    let passed : true ≡ f l.v = elim c.else-not-same_value.branch [
+      else-not-same_value-via-then-not-same_value+else-keeps w ↦ ap not (sym w.if-keeps.false) ∙ kept-changed test n state l.v same.result w.keeps.result same.ensures w.if-not-same_value.true (told _ _ w.keeps.ensures)
+      | else-not-same_value-via-else-not-same_value w ↦ kept_same test n state l.v same.result same.ensures w.if-not-same_value.false
+    ] in
+    each-pass f n l.v (every f (count_up 0 n)) true c.loop-v-test.true passed refl (l.invariant test told)
 
 pub returns : goal.returns
-returns c =
-    let f = asked (goal.at.returns c).Start in
+returns g c = λ test told.
+    let n = c.number_at-n in
     let l = c.loop-v in
-    each_none f c.number_at-n.result l.v (every f (count_up 0 (entry c.args.index.now 0))) c.loop-v-test.false l.invariant.1
+    let state = c.args.state.now in
+    let f = kept_at test n.result state in
+    each_none f n.result l.v (every f (count_up 0 n.result)) (omega arith) (l.invariant test told)
+    ∙ ap (λ (k : ℕ). every (kept_at test k state) (count_up 0 k)) n.ensures
