@@ -18,9 +18,12 @@ use Rattle.model_sheets.specs.Limits.{Small, Standing, OnlyCounts, CountedAfter}
 use Rattle.formats.proofs.SumLaws.{sum-part}
 use Rattle.formats.proofs.JointProduct.{countable, joints-total}
 use Rattle.models.proofs.IndexLaws.{entry-same, entry_other, kept-none, kept_set, kept_then, kept-wider}
-use Rattle.models.proofs.GoodIndexLaws.{good-components}
+use Rattle.models.proofs.GoodIndexLaws.{counted-at, good-components}
 use Rattle.models.proofs.SameSheetLaws.{components-same, same_none, same_then, same_kept, same_after}
-use Rattle.joint_switches.proofs.TotalLaws.{total-at}
+
+-- what an array of the events' totals has at a number
+total-at : (f : ℕ → ℕ) (totals : List ℕ) (e : ℕ) → totals ≡ map f (count_up 0 16) → e < 16 → get_or totals e 0 ≡ f e
+total-at f totals e p h = ap (λ (xs : List ℕ). get_or xs e 0) p ∙ counted-at f 16 e 0 h
 
 -- no event has more joint switches than there are
 pub counts-small : {s index : List ℕ} → GoodIndex s index → (totals : List ℕ) (joined locations : ℕ) → totals ≡ map (event_total (components_from s index)) (count_up 0 16) → joined ≡ length (joints (components_from s index)) → joined ≤ 4096 → locations ≤ 64 → Small totals joined locations

@@ -9,7 +9,7 @@ ghost use Rattle.model_sheets.specs.Opening.{read_opening, opening_from};
 use fields::header::{finished, header, read_paper};
 use fields::{Cause, Next, Refusal};
 use formats::Limits;
-use joint_switches::joints::{location_count, wide};
+use joint_switches::joints::location_count;
 use joint_switches::totals::{event_totals, joint_total};
 use models::body::body_into;
 use models::layout::{FIRST_TOTAL, Index, JOINTS_AT, LOCATIONS_AT, PAPER_AT, VERSION_AT};
@@ -77,7 +77,7 @@ pub fn model_into(s: &[u8], index: &mut Index, limits: Limits) -> Next
     ensures counted_after { CountedAfter s.now index.new result }
 {
     let body = opening_into(s, index)?;
-    let version = wide(index[VERSION_AT]);
+    let version = u32::from(index[VERSION_AT]);
     let end = body_into(s, body, version, index)?;
     let next = finished(s, end)?;
     within_limits(s, index, body, next, limits)

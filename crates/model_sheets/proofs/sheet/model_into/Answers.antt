@@ -58,7 +58,7 @@ module _ (c : In_ok-end) where
 
   two : read_model_body (version_in (opened (goal.at.In_ok-end c).In_ok-body)) (paper_in (opened (goal.at.In_ok-end c).In_ok-body)) (s (goal.at.In_ok-end c).In_ok-body) (body (goal.at.In_ok-end c).In_ok-body) ≡ got m end
   unfolding entry
-  two = subst (λ (v : ℕ). read_model_body v (paper_in (opened (goal.at.In_ok-end c).In_ok-body)) (s (goal.at.In_ok-end c).In_ok-body) (body (goal.at.In_ok-end c).In_ok-body) ≡ got m end) c.wide-version.ensures (told_at m _ c.body_into.ensures.result_after c.in_ok-end.was)
+  two = subst (λ (v : ℕ). read_model_body v (paper_in (opened (goal.at.In_ok-end c).In_ok-body)) (s (goal.at.In_ok-end c).In_ok-body) (body (goal.at.In_ok-end c).In_ok-body) ≡ got m end) c.from-version.ensures (told_at m _ c.body_into.ensures.result_after c.in_ok-end.was)
 
   good : GoodIndex (s (goal.at.In_ok-end c).In_ok-body) index
   good = body-good (version_in (opened (goal.at.In_ok-end c).In_ok-body)) (paper_in (opened (goal.at.In_ok-end c).In_ok-body)) (s (goal.at.In_ok-end c).In_ok-body) index (body (goal.at.In_ok-end c).In_ok-body) end (known (goal.at.In_ok-end c).In_ok-body).fits two
@@ -66,7 +66,7 @@ module _ (c : In_ok-end) where
 pub body_into-requires : goal.body_into-requires
 unfolding entry
 body_into-requires c =
-    let long : 1004 ≤ length (opened (goal.at.body_into-requires c).In_ok-body) = search rules in record { sized = record { short = (known (goal.at.body_into-requires c).In_ok-body).short; long = long }; version_value = c.wide-version.ensures }
+    let long : 1004 ≤ length (opened (goal.at.body_into-requires c).In_ok-body) = search rules in record { sized = record { short = (known (goal.at.body_into-requires c).In_ok-body).short; long = long }; version_value = c.from-version.ensures }
 
 pub within_limits-requires : goal.within_limits-requires
 within_limits-requires c = record { good_index = good (goal.at.within_limits-requires c).In_ok-end; t = c.requires }
@@ -85,7 +85,7 @@ unfolding got_as opening_from entry
 returns-in_err-end c =
     let read = c.body_into in
     let y = read.new.index in
-    let e = subst (λ (v : ℕ). read_model_body v (paper_in (opened (goal.at.returns-in_err-end c).In_ok-body)) (s (goal.at.returns-in_err-end c).In_ok-body) (body (goal.at.returns-in_err-end c).In_ok-body) ≡ refused (number_of c.in_err-end.field-0.0.0) c.in_err-end.field-0.0.1) c.wide-version.ensures (told-refused (model_from (s (goal.at.returns-in_err-end c).In_ok-body) y) _ read.ensures.result_after c.in_err-end.was) in
+    let e = subst (λ (v : ℕ). read_model_body v (paper_in (opened (goal.at.returns-in_err-end c).In_ok-body)) (s (goal.at.returns-in_err-end c).In_ok-body) (body (goal.at.returns-in_err-end c).In_ok-body) ≡ refused (number_of c.in_err-end.field-0.0.0) c.in_err-end.field-0.0.1) c.from-version.ensures (told-refused (model_from (s (goal.at.returns-in_err-end c).In_ok-body) y) _ read.ensures.result_after c.in_err-end.was) in
     let same : c.from_residual-in_err-end.result ≡ Err c.in_err-end.field-0.0 = search rules in
     record { result_after = next-refused _ same ∙ sym (sheet-second c.args.limits (s (goal.at.returns-in_err-end c).In_ok-body) (opening_from (opened (goal.at.returns-in_err-end c).In_ok-body)) (body (goal.at.returns-in_err-end c).In_ok-body) (one (goal.at.returns-in_err-end c).In_ok-body) (number_of c.in_err-end.field-0.0.0) c.in_err-end.field-0.0.1 e); kept = kept_then (stored (goal.at.returns-in_err-end c).In_ok-body) (kept-wider (omega arith) (omega arith) read.ensures.kept); counted_after = refused-uncounted (s (goal.at.returns-in_err-end c).In_ok-body) y same }
 
