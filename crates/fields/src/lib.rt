@@ -2,7 +2,9 @@
 #![tactic(auto)]
 
 ghost use Rattle.std.specs.Prelude.{◌≡◌};
-ghost use Rattle.fields.specs.Causes.{number_of};
+ghost use Rattle.fields.specs.Causes.{number_of, cause_of};
+
+use farkas::Mismatch;
 
 pub mod conditions;
 pub mod fields;
@@ -51,6 +53,18 @@ impl From<Cause> for u32 {
             Cause::Step => 13,
             Cause::End => 14,
             Cause::Pairing => 18,
+        }
+    }
+}
+
+// The cause that refuses a proof whose test doesn't pass.
+impl From<Mismatch> for Cause {
+    ghost from_gives = { λ mismatch cause. cause ≡ cause_of mismatch };
+
+    fn from(mismatch: Mismatch) -> Cause {
+        match mismatch {
+            Mismatch::CoefficientsDiffer => Cause::Coefficients,
+            Mismatch::BoundFails => Cause::Bound,
         }
     }
 }

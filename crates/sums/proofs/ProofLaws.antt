@@ -1,24 +1,25 @@
 -- A proof of a certificate: what the answers of its readers tell, and how the parts of its marking make the whole. Assumes nothing.
-use mathlib.Core.Path.{◌≡◌, refl, ap, ◌∙◌}
+use mathlib.Core.Path.{◌≡◌, refl, sym, ap, ◌∙◌}
 use mathlib.Core.Bool.{Bool, true, false, cond}
 use mathlib.Core.List.{List}
 use Prim.Native.Nat.{ℕ, zero, suc, ◌≤◌}
 use native.Mathlib.Omega.{arith}
 use lib.ListN.{length}
 use Rattle.farkas.specs.Rows.{Row}
-use Rattle.farkas.specs.declared.Verdict.{Verdict}
-use Rattle.farkas.specs.declared.Verdict.TheVariants as verdicts
-use Rattle.fields.specs.declared.Next.{Next}
-use Rattle.fields.specs.declared.Next.TheVariants as next
+use Rattle.std.specs.Prelude.{Result, Ok, Err}
+use Rattle.farkas.specs.declared.Mismatch.{Mismatch}
+use Rattle.farkas.specs.declared.Mismatch.TheVariants as mismatch
+use Rattle.fields.specs.declared.Refusal.{Refusal}
+use Rattle.fields.specs.Causes as causes
+use Rattle.fields.specs.Answers.{got_as}
+use Rattle.fields.proofs.AnswerLaws.{Read, Next, next-at, next-refused}
 use Rattle.farkas.specs.Farkas.{number_of, Entry, Proof, SumsOf, sums_test, farkas_test}
 use Rattle.farkas.proofs.Promise.{held_test}
-use Rattle.second_sheets.specs.declared.EntryRead.{EntryRead}
-use Rattle.second_sheets.specs.declared.EntryRead.TheVariants as entries
-use Rattle.second_sheets.specs.declared.HeadRead.{HeadRead}
-use Rattle.second_sheets.specs.declared.HeadRead.TheVariants as heads
+use Rattle.second_sheets.specs.declared.Entry as coded
+use Rattle.second_sheets.specs.declared.Head.{Head}
 use Rattle.formats.specs.Reading.{Got, got, refused, Reader, ◌>>=◌, give, u8, u32}
 use Rattle.formats.specs.Certificate.{read_entries, read_proof}
-use Rattle.second_sheets.specs.CertificateAnswers.{Head, read_head, got_head, got_entry}
+use Rattle.second_sheets.specs.CertificateAnswers.{read_head, got_entry}
 use Rattle.formats.proofs.Gives.{Gives, gives-any, gives-bind, gives-give, gives-within, bind-got}
 use Rattle.fields.proofs.Skipping.{bind-refused}
 use Rattle.second_sheets.proofs.CertificateLaws.{proof-reads}
@@ -27,21 +28,13 @@ use Rattle.papers.specs.Paper.{held_next}
 use Rattle.sums.specs.Summing.{tested}
 
 -- What the answers of the readers tell
-pub entry-got : {f : EntryRead} {h m p : ℕ} → f ≡ entries.Entry h m p → got_entry f ≡ got (record { hypothesis = h; multiplier = m }) p
+pub entry-got : {f : Read coded.Entry} {e : coded.Entry} {p : ℕ} → f ≡ Ok (e, p) → got_entry f ≡ got (record { hypothesis = e.hypothesis; multiplier = e.multiplier }) p
 unfolding got_entry
 entry-got e = ap got_entry e
 
-pub entry-refused : {f : EntryRead} {number place : ℕ} → f ≡ entries.Refused number place → got_entry f ≡ refused number place
+pub entry-refused : {f : Read coded.Entry} {w : Refusal} → f ≡ Err w → got_entry f ≡ refused (causes.number_of w.0) w.1
 unfolding got_entry
 entry-refused e = ap got_entry e
-
-pub head-got : {f : HeadRead} {k count p : ℕ} → f ≡ heads.Head k count p → got_head f ≡ got (record { k = k; count = count }) p
-unfolding got_head
-head-got e = ap got_head e
-
-pub head-not : {f : HeadRead} {number place : ℕ} → f ≡ heads.Refused number place → got_head f ≡ refused number place
-unfolding got_head
-head-not e = ap got_head e
 
 -- a proof has at most 128 entries
 pub head_few : (zero_k : Bool) → Gives (λ h. h.count ≤ 128) (read_head zero_k)
@@ -58,19 +51,19 @@ head-zero false = gives-bind gives-any (λ k u. gives-bind gives-any (λ count w
     not-both : false ≡ true → ⊥
     not-both e = let z : ◌≡◌ {A = ℕ} 0 1 = ap (λ (b : Bool). cond b 1 0) e in omega (arith, z)
 
--- a refusal is no place, and only a verdict that the proof holds gives one
-pub refused-not-at : {number place end : ℕ} → next.Refused number place ≡ next.At end → ⊥
-refused-not-at e = let z : ◌≡◌ {A = ℕ} 0 1 = ap kind e in omega (arith, z)
+-- a refusal is no place, and only a test that the proof passes gives one
+pub refused-not-at : {x : Next} {w : Refusal} {end : ℕ} → x ≡ Err w → x ≡ Ok end → ⊥
+refused-not-at h e = let z : ◌≡◌ {A = ℕ} 0 1 = sym (ap kind h) ∙ ap kind e in omega (arith, z)
   where
     kind : Next → ℕ
-    kind (next.At p) = 1
-    kind (next.Refused n p) = 0
+    kind (Ok p) = 1
+    kind (Err r) = 0
 
-pub tested-holds : (v : Verdict) (at end reached : ℕ) → tested (number_of v) at end ≡ next.At reached → v ≡ verdicts.Holds
+pub tested-holds : (v : Result (Unit {0}) Mismatch) (at end reached : ℕ) {x : Next} → got_as tt x ≡ tested (number_of v) at end → x ≡ Ok reached → v ≡ Ok tt
 unfolding tested number_of
-tested-holds verdicts.Holds at end reached e = refl
-tested-holds verdicts.CoefficientsDiffer at end reached e = absurd (refused-not-at e)
-tested-holds verdicts.BoundFails at end reached e = absurd (refused-not-at e)
+tested-holds (Ok done) at end reached told e = refl
+tested-holds (Err mismatch.CoefficientsDiffer) at end reached told e = let n : refused 10 at ≡ got tt reached = sym told ∙ next-at tt e in let z : ◌≡◌ {A = ℕ} 0 1 = cc in absurd (omega (arith, z))
+tested-holds (Err mismatch.BoundFails) at end reached told e = let n : refused 11 at ≡ got tt reached = sym told ∙ next-at tt e in let z : ◌≡◌ {A = ℕ} 0 1 = cc in absurd (omega (arith, z))
 
 module _ (rows : List Row) (zero_k : Bool) (goal : Row) (s : List ℕ) (at : ℕ) where
   abbrev rest : ℕ → Head → Reader Proof

@@ -1,20 +1,18 @@
 -- What the contracts of testing proofs name: hypotheses by their segments, the sums of the entries so far, and what the number of a test
 -- answers. Assumes nothing.
-use Rattle.std.specs.Prelude.{true, false, cond, List, [], ◌∷◌, ◌≡◌, ℕ, zero, suc, ◌-◌, ◌≤◌, ◌<◌, ltb, ℤ, pos, replicate}
+use Rattle.std.specs.Prelude.{Result, Ok, Err, true, false, cond, List, [], ◌∷◌, ◌≡◌, ℕ, zero, suc, ◌-◌, ◌≤◌, ◌<◌, ltb, ℤ, pos, replicate}
 use Rattle.farkas.specs.Rows.{Row, row_of, strictly, zero_row}
 use Rattle.farkas.specs.Farkas.{Entry, SumsOf}
-use Rattle.fields.specs.declared.Next.{Next}
-use Rattle.fields.specs.declared.Next.TheVariants as next
+use Rattle.fields.specs.declared.Refusal.{Refusal}
+use Rattle.fields.specs.Causes.{number_of}
 use Rattle.fields.specs.Places.{row_at}
-use Rattle.formats.specs.Reading.{got, refused}
+use Rattle.formats.specs.Reading.{Got, got, refused}
 use Rattle.formats.specs.Certificate.{read_entries}
 use Rattle.hypotheses.specs.declared.Group.{Group}
 use Rattle.hypotheses.specs.Tables.{TableLine, end_of, form_of, place_of, line, hypotheses_from, hypothesis_rows}
 use Rattle.rules.specs.Obligations.{on_next}
 use Rattle.sums.specs.declared.Line.{Line}
 use Rattle.sums.specs.declared.Reached.{Reached}
-use Rattle.sums.specs.declared.Summed.{Summed}
-use Rattle.sums.specs.declared.Summed.TheVariants as summed
 
 -- the first segment from one on that ends after a hypothesis; so many others are left
 unfoldable pub segment_for : List ℕ → ℕ → ℕ → ℕ → ℕ
@@ -72,11 +70,11 @@ pub record SoughtFrom (table : List ℕ) (g : Group) (reached : Reached) : Type 
   pub before : end_of table (reached.segment - 1) ≤ reached.least
 
 -- what holds once i entries were read and summed, or reading them was refused
-unfoldable pub SummedAfter : List ℕ → List ℕ → ℕ → List ℕ → Group → ℕ → ℕ → List ℤ → Summed → Type 0
-SummedAfter model second n table g at i sums (summed.At reached) = SoFar model second n table g at i reached sums × SoughtFrom table g reached
-SummedAfter model second n table g at i sums (summed.Refused number cut) = read_entries g.hypotheses 0 i second at ≡ refused number cut
+unfoldable pub SummedAfter : List ℕ → List ℕ → ℕ → List ℕ → Group → ℕ → ℕ → List ℤ → Result Reached Refusal → Type 0
+SummedAfter model second n table g at i sums (Ok reached) = SoFar model second n table g at i reached sums × SoughtFrom table g reached
+SummedAfter model second n table g at i sums (Err r) = read_entries g.hypotheses 0 i second at ≡ refused (number_of r.0) r.1
 
 -- a proof that begins at a place and ends at another, by the number of its test
-unfoldable pub tested : ℕ → ℕ → ℕ → Next
-tested zero at end = next.At end
-tested (suc number) at end = next.Refused (suc number) at
+unfoldable pub tested : ℕ → ℕ → ℕ → Got (Unit {0})
+tested zero at end = got tt end
+tested (suc number) at end = refused (suc number) at

@@ -22,10 +22,3 @@ pub struct Reached {
     pub bound: i64,
     pub strict: bool,
 }
-
-// What reading and summing entries finds: a refusal, by its number and place, or how far they are read.
-#[derive(Clone, Copy)]
-pub enum Summed {
-    Refused(u32, usize),
-    At(Reached),
-}
