@@ -22,8 +22,7 @@ use Rattle.second_sheets.specs.CertificateAnswers.{regions_from}
 use Rattle.queries.specs.declared.Which.{Which}
 use Rattle.queries.specs.declared.Shown.{Shown}
 use Rattle.queries.specs.declared.Located.{Located}
-use Rattle.queries.specs.declared.Opened.{Opened}
-use Rattle.queries.specs.declared.Opened.TheVariants as outcome
+use Rattle.std.specs.Prelude.{Result, Ok, Err}
 use Rattle.queries.specs.declared.RowFound.{RowFound}
 use Rattle.queries.specs.declared.RowFound.TheVariants as row
 use Rattle.rules.specs.Obligations.{nowhere, Obligation, obligations, region_of}
@@ -82,17 +81,17 @@ module _ (limits : Limits) (model index second regions : List ℕ) (o h : ℕ) w
       ∙ sym (row_one (roles_for model index second regions) (paper_obligations model index second regions) o h)
       ∙ ap (λ (t : Told). t.row) (w.told o h)
 
-  pub is_open : {r : Opened} → r ≡ outcome.Open → OpensTo limits model index second regions r → OpenFor limits model index second regions
+  pub is_open : {r : Result (Unit {0}) Answer} → r ≡ Ok tt → OpensTo limits model index second regions r → OpenFor limits model index second regions
   unfolding OpensTo
   is_open e w = subst (OpensTo limits model index second regions) e w
 
-  pub which-stopped : {r : Opened} (number sheet place : ℕ) → r ≡ outcome.Refused number sheet place → OpensTo limits model index second regions r → which_refused number sheet place ≡ which_obligation limits model second o
+  pub which-stopped : {r : Result (Unit {0}) Answer} {a : Answer} → r ≡ Err a → OpensTo limits model index second regions r → which_refused a.number a.sheet a.place ≡ which_obligation limits model second o
   unfolding OpensTo told_refused told_for
-  which-stopped number sheet place e w = ap (λ (t : Told). t.which) (subst (OpensTo limits model index second regions) e w o h)
+  which-stopped e w = ap (λ (t : Told). t.which) (subst (OpensTo limits model index second regions) e w o h)
 
-  pub row-stopped : {r : Opened} (number sheet place : ℕ) → r ≡ outcome.Refused number sheet place → OpensTo limits model index second regions r → no_row number sheet place ≡ hypothesis_located limits model second o h
+  pub row-stopped : {r : Result (Unit {0}) Answer} {a : Answer} → r ≡ Err a → OpensTo limits model index second regions r → no_row a.number a.sheet a.place ≡ hypothesis_located limits model second o h
   unfolding OpensTo told_refused told_for
-  row-stopped number sheet place e w = ap (λ (t : Told). t.row) (subst (OpensTo limits model index second regions) e w o h)
+  row-stopped e w = ap (λ (t : Told). t.row) (subst (OpensTo limits model index second regions) e w o h)
 
 pub paper-whole : (model index second regions : List ℕ) (locations o h : ℕ) → locations ≡ location_count (components_from model index) → told_in (length second) (roles_for model index second regions) (paper_obligations model index second regions) o h ≡ told_in (length second) (roles_of (model_from model index) (region_of (regions_from second (entry index 11) (entry index 0) regions locations))) (obligations (model_from model index) (regions_from second (entry index 11) (entry index 0) regions locations)) o h
 unfolding paper_obligations obligations regions_of model_from

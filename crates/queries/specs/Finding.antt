@@ -1,6 +1,6 @@
 -- Which obligation has a number, where a search for it has come to, and where the row of a hypothesis stands. The list of obligations is
 -- that of 01; the code never lists it, so a search is told by what it has passed over. Assumes nothing.
-use Rattle.std.specs.Prelude.{◌≡◌, true, false, List, [], ◌∷◌, ◌++◌, ℕ, zero, suc, ◌+◌, ◌-◌, ◌≤◌, ◌<◌, ltb, length, get_or, take, drop}
+use Rattle.std.specs.Prelude.{Result, Ok, Err, ◌≡◌, true, false, List, [], ◌∷◌, ◌++◌, ℕ, zero, suc, ◌+◌, ◌-◌, ◌≤◌, ◌<◌, ltb, length, get_or, take, drop}
 use Rattle.farkas.specs.Rows.{zero_row}
 use Rattle.formats.specs.Reading.{Got, got, refused, ◌>>◌}
 use Rattle.formats.specs.Rows.{Condition}
@@ -14,8 +14,6 @@ use Rattle.formats.specs.Certificate.{read_regions}
 use Rattle.queries.specs.declared.Which.{Which}
 use Rattle.queries.specs.declared.Shown.{Shown}
 use Rattle.queries.specs.declared.Located.{Located}
-use Rattle.queries.specs.declared.Opened.{Opened}
-use Rattle.queries.specs.declared.Opened.TheVariants as opened
 use Rattle.queries.specs.declared.Spot.{Spot}
 use Rattle.queries.specs.declared.Sought.{Sought}
 use Rattle.queries.specs.declared.Sought.TheVariants as sought
@@ -385,7 +383,7 @@ pub record OpenFor (limits : Limits) (model index second regions : List ℕ) : T
   pub told : (o h : ℕ) → told_in (length second) (roles_for model index second regions) (paper_obligations model index second regions) o h ≡ told_for limits model second o h
 
 -- or a refusal, which is told whatever is asked
-unfoldable pub OpensTo : Limits → List ℕ → List ℕ → List ℕ → List ℕ → Opened → Type 0
-OpensTo limits model index second regions opened.Open = OpenFor limits model index second regions
-OpensTo limits model index second regions (opened.Refused number sheet place) =
-    (o h : ℕ) → told_refused number sheet place ≡ told_for limits model second o h
+unfoldable pub OpensTo : Limits → List ℕ → List ℕ → List ℕ → List ℕ → Result (Unit {0}) Answer → Type 0
+OpensTo limits model index second regions (Ok done) = OpenFor limits model index second regions
+OpensTo limits model index second regions (Err a) =
+    (o h : ℕ) → told_refused a.number a.sheet a.place ≡ told_for limits model second o h

@@ -32,16 +32,17 @@ fn find_location(
     ensures { LeadsToLocation model.now index.now second.now regions.now locations o result }
 {
     let mut left = o;
-    let mut at: u32 = 0;
-    while at < locations {
+    for at in 0..locations {
         let goals = location_goals(model, index, second, regions, at);
         if left < goals {
             return Spot { at, left };
         }
         left -= goals;
-        at += 1;
     }
-    Spot { at, left }
+    Spot {
+        at: locations,
+        left,
+    }
 }
 
 // How many goals a group of a location has.
@@ -90,16 +91,14 @@ fn find_group(
     let modes = modes_at(model, index, location);
     let groups = 2 + index[CONDITIONS_AT] as u32;
     let mut left = o;
-    let mut at: u32 = 0;
-    while at < groups {
+    for at in 0..groups {
         let goals = group_goals(model, index, second, regions, location, modes, at);
         if left < goals {
             return Spot { at, left };
         }
         left -= goals;
-        at += 1;
     }
-    Spot { at, left }
+    Spot { at: groups, left }
 }
 
 // The obligation with a number among those of an event's joint switches, from the table that lists them.
@@ -121,17 +120,15 @@ fn find_switch(
     let count = slot.count;
     let first = from.at;
     let mut left = from.left;
-    let mut at: u32 = 0;
-    while at < count {
+    for at in 0..count {
         let landing = landing_at(index, slot, ways, at);
         let goals = region_rows(model, index, second, regions, landing.target);
         if left < goals {
             return Sought::AtJoint(first + at, location, slot.e, at, left);
         }
         left -= goals;
-        at += 1;
     }
-    Sought::Beyond(first + at, left)
+    Sought::Beyond(first + count, left)
 }
 
 // The same from the location: where the event has joint switches they are listed once.
@@ -173,8 +170,7 @@ fn find_leaving(
     let modes = modes_at(model, index, location);
     let mut number = from.at;
     let mut left = from.left;
-    let mut e: u32 = 0;
-    while e < 16 {
+    for e in 0..16 {
         let spot = Spot { at: number, left };
         match find_event(model, index, second, regions, location, modes, e, spot) {
             Sought::AtLocation(l, g, line) => return Sought::AtLocation(l, g, line),
@@ -184,7 +180,6 @@ fn find_leaving(
                 left = rest;
             }
         }
-        e += 1;
     }
     Sought::Beyond(number, left)
 }
@@ -204,8 +199,7 @@ fn find_jump(
 {
     let mut number: u32 = 0;
     let mut left = o;
-    let mut location: u32 = 0;
-    while location < locations {
+    for location in 0..locations {
         let spot = Spot { at: number, left };
         match find_leaving(model, index, second, regions, location, spot) {
             Sought::AtLocation(l, g, line) => return Sought::AtLocation(l, g, line),
@@ -215,7 +209,6 @@ fn find_jump(
                 left = rest;
             }
         }
-        location += 1;
     }
     Sought::Beyond(number, left)
 }

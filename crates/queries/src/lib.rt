@@ -67,10 +67,3 @@ pub struct Shown {
     pub role: u32,
     pub owner: u32,
 }
-
-// Both sheets read up to the regions, or why not, by number, sheet and place.
-#[derive(Clone, Copy)]
-pub enum Opened {
-    Open,
-    Refused(u32, u32, u32),
-}

@@ -7,10 +7,10 @@ ghost use Rattle.queries.specs.Finding.{which_obligation, group_which, row_found
 
 use crate::find::find;
 use crate::rows::{refused_row, sought_row};
-use crate::{Located, Opened, RowFound, Shown, Sought, Which};
-use fields::Next;
+use crate::{Located, RowFound, Shown, Sought, Which};
 use formats::Limits;
 use models::layout::{INDEX_LENGTH, Index, LOCATIONS_AT, VARIABLES_AT, VERSION_AT};
+use papers::answers::second_refused;
 use papers::opening::open_paper;
 use rules::Answer;
 use second_sheets::certificate::read_regions;
@@ -80,26 +80,16 @@ fn open_regions(
     index: &mut Index,
     regions: &mut Regions,
     limits: Limits,
-) -> Opened
+) -> Result<(), Answer>
     ensures { OpensTo limits model.now index.new second.now regions.new result }
 {
-    let opened = open_paper(model, second, 2, index, limits);
-    if opened.number != 0 {
-        return Opened::Refused(opened.number, opened.sheet, opened.place);
-    }
+    let body = open_paper(model, second, 2, index, limits)?;
     let version = index[VERSION_AT] as u32;
     let n = index[VARIABLES_AT] as usize;
     let locations = index[LOCATIONS_AT] as u32;
-    match read_regions(
-        second,
-        opened.place as usize,
-        version,
-        n,
-        locations,
-        regions,
-    ) {
-        Next::Refused(number, place) => Opened::Refused(number, 1, place as u32),
-        Next::At(_) => Opened::Open,
+    match read_regions(second, body, version, n, locations, regions) {
+        Ok(_) => Ok(()),
+        Err(refusal) => Err(second_refused(refusal, 0, 0)),
     }
 }
 
@@ -110,15 +100,15 @@ pub fn which(model: &[u8], second: &[u8], o: u32, limits: Limits) -> Which
     let mut index = [0u16; INDEX_LENGTH];
     let mut regions = [0u16; REGIONS_LENGTH];
     match open_regions(model, second, &mut index, &mut regions, limits) {
-        Opened::Refused(number, sheet, place) => Which {
-            number,
-            sheet,
-            place,
+        Err(answer) => Which {
+            number: answer.number,
+            sheet: answer.sheet,
+            place: answer.place,
             kind: 0,
             subject: 0,
             line: 0,
         },
-        Opened::Open => {
+        Ok(()) => {
             let sought = find(model, &index, second, &regions, o);
             sought_which(model, &index, second, &regions, sought)
         }
@@ -134,8 +124,8 @@ pub fn find_row(model: &[u8], second: &[u8], o: u32, h: u32, limits: Limits) -> 
     let mut index = [0u16; INDEX_LENGTH];
     let mut regions = [0u16; REGIONS_LENGTH];
     match open_regions(model, second, &mut index, &mut regions, limits) {
-        Opened::Refused(number, sheet, place) => refused_row(number, sheet, place),
-        Opened::Open => {
+        Err(answer) => refused_row(answer.number, answer.sheet, answer.place),
+        Ok(()) => {
             let sought = find(model, &index, second, &regions, o);
             sought_row(model, &index, second, &regions, sought, h)
         }

@@ -45,13 +45,6 @@ returns-then-left-goals c =
       at_bound = c.loop-at-test.true;
     }
 
-pub overflow_add-at : goal.overflow_add-at
-unfolding entry
-overflow_add-at c = omega (arith, c.loop-at-test.true, c.requires.good_paper.good.conditions)
-
-pub loop-at-smaller : goal.loop-at-smaller
-loop-at-smaller c = omega (arith, c.loop-at-test.true)
-
 pub loop-at-preserved : goal.loop-at-preserved
 unfolding entry
 loop-at-preserved c =

@@ -1,6 +1,6 @@
 use mathlib.Core.Path.{◌≡◌}
 use mathlib.Core.List.{[], ◌++◌}
-use Prim.Native.Nat.{◌-◌, ◌≤◌, ◌<◌}
+use Prim.Native.Nat.{◌≤◌, ◌<◌}
 use lib.ListN.{length}
 use Rattle.models.specs.Index.{model_from}
 use Rattle.rules.specs.Obligations.{location_obligations}
@@ -13,6 +13,3 @@ abbrev pub invariant-loop-at : goal.invariant-loop-at
 invariant-loop-at l = (l.at ≤ l.groups)
     × ((one_at (joined_on (group_obligations (model_from l.model l.index) (regions_of l.model l.index l.second l.regions) l.location) l.groups l.at ++ []) l.left ≡ one_at (location_obligations (model_from l.model l.index) (regions_of l.model l.index l.second l.regions) l.location) l.o)
     × (l.left < length (joined_on (group_obligations (model_from l.model l.index) (regions_of l.model l.index l.second l.regions) l.location) l.groups l.at)))
-
-abbrev pub decreases-loop-at : goal.decreases-loop-at
-decreases-loop-at l = l.groups - l.at

@@ -29,12 +29,6 @@ pub returns-in-AtJoint : goal.returns-in-AtJoint
 returns-in-AtJoint c =
     in-joint _ _ _ _ _ c.loop-location-test.true c.loop-location.invariant.1 c.find_leaving.ensures c.in-AtJoint.j c.in-AtJoint.l c.in-AtJoint.e c.in-AtJoint.x c.in-AtJoint.line c.in-AtJoint.is
 
-pub overflow_add-location : goal.overflow_add-location
-overflow_add-location c = omega (arith, c.loop-location-test.true, c.ranges.locations)
-
-pub loop-location-smaller : goal.loop-location-smaller
-loop-location-smaller c = omega (arith, c.loop-location-test.true)
-
 pub loop-location-preserved : goal.loop-location-preserved
 loop-location-preserved c =
     let h = c.loop-location-test.true in

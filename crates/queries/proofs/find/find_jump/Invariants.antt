@@ -1,4 +1,4 @@
-use Prim.Native.Nat.{◌-◌, ◌≤◌}
+use Prim.Native.Nat.{◌≤◌}
 use Rattle.formats.specs.Joint.{joints_of, joints, join_all, count_up}
 use Rattle.models.specs.Index.{components_from, model_from}
 use Rattle.papers.specs.Paper.{regions_of}
@@ -10,6 +10,3 @@ abbrev pub invariant-loop-location : goal.invariant-loop-location
 invariant-loop-location l =
     (l.location ≤ l.locations)
     × Passing (model_from l.model l.index) (regions_of l.model l.index l.second l.regions) (joints (components_from l.model l.index)) (joined_on (λ n. join_all (joints_of (components_from l.model l.index) n) (count_up 0 16)) l.locations l.location) 0 l.o l.number l.left
-
-abbrev pub decreases-loop-location : goal.decreases-loop-location
-decreases-loop-location l = l.locations - l.location

@@ -34,12 +34,6 @@ pub returns-in-AtJoint : goal.returns-in-AtJoint
 returns-in-AtJoint c =
     in-joint _ _ _ 16 _ c.loop-e-test.true c.loop-e.invariant.1 c.find_event.ensures c.in-AtJoint.j c.in-AtJoint.l c.in-AtJoint.k c.in-AtJoint.x c.in-AtJoint.line c.in-AtJoint.is
 
-pub overflow_add-e : goal.overflow_add-e
-overflow_add-e c = omega (arith, c.loop-e-test.true)
-
-pub loop-e-smaller : goal.loop-e-smaller
-loop-e-smaller c = omega (arith, c.loop-e-test.true)
-
 pub loop-e-preserved : goal.loop-e-preserved
 loop-e-preserved c =
     let h = c.loop-e-test.true in

@@ -1,4 +1,4 @@
-use Prim.Native.Nat.{◌-◌, ◌≤◌}
+use Prim.Native.Nat.{◌≤◌}
 use Rattle.formats.specs.Joint.{joints_of, join_all, count_up}
 use Rattle.models.specs.Index.{components_from, model_from}
 use Rattle.papers.specs.Paper.{regions_of}
@@ -10,6 +10,3 @@ abbrev pub invariant-loop-e : goal.invariant-loop-e
 invariant-loop-e l =
     (l.e ≤ 16)
     × Passing (model_from l.model l.index) (regions_of l.model l.index l.second l.regions) (join_all (joints_of (components_from l.model l.index) l.location) (count_up 0 16)) (joined_on (joints_of (components_from l.model l.index) l.location) 16 l.e) l.initial.number l.initial.left l.number l.left
-
-abbrev pub decreases-loop-e : goal.decreases-loop-e
-decreases-loop-e l = 16 - l.e

@@ -1,5 +1,8 @@
 -- The obligation sought is so many on among those from this location on. Assumes nothing.
+use mathlib.Core.Path.{◌≡◌, subst}
+use Prim.Native.Nat.{ℕ}
 use native.Mathlib.Omega.{arith}
+use Rattle.queries.specs.Finding.{LeadsToLocation}
 use Rattle.queries.proofs.FindLaws.{one_on_lem, paper-start}
 use Rattle.queries.proofs.find.find_location.Goals as goal
 
@@ -19,12 +22,6 @@ returns-then-left-goals c =
       here = λ h. omega (arith, c.if-left-goals.true, goals.ensures);
     }
 
-pub overflow_add-at : goal.overflow_add-at
-overflow_add-at c = omega (arith, c.loop-at-test.true, c.ranges.locations)
-
-pub loop-at-smaller : goal.loop-at-smaller
-loop-at-smaller c = omega (arith, c.loop-at-test.true)
-
 pub loop-at-preserved : goal.loop-at-preserved
 loop-at-preserved c =
     let l = c.loop-at in
@@ -34,8 +31,11 @@ loop-at-preserved c =
 pub returns : goal.returns
 returns c =
     let l = c.loop-at in
-    record {
+    let a = c.args in
+    let all : l.at ≡ a.locations = omega (arith, l.invariant.0, c.loop-at-test.false) in
+    subst (λ (k : ℕ). LeadsToLocation a.model.now a.index.now a.second.now a.regions.now a.locations a.o (record { at = k; left = l.left })) all
+    (record {
       within = l.invariant.0;
       leads = l.invariant.1;
       here = λ h. absurd (omega (arith, h, c.loop-at-test.false));
-    }
+    })

@@ -1,6 +1,6 @@
 use mathlib.Core.Path.{◌≡◌}
 use mathlib.Core.List.{◌++◌}
-use Prim.Native.Nat.{◌-◌, ◌≤◌}
+use Prim.Native.Nat.{◌≤◌}
 use Rattle.formats.specs.Joint.{joints}
 use Rattle.models.specs.Index.{components_from, model_from}
 use Rattle.rules.specs.Obligations.{location_obligations, jumps_obligations}
@@ -12,6 +12,3 @@ use Rattle.queries.proofs.find.find_location.Given as goal
 abbrev pub invariant-loop-at : goal.invariant-loop-at
 invariant-loop-at l = (l.at ≤ l.locations)
     × (one_at (joined_on (location_obligations (model_from l.model l.index) (regions_of l.model l.index l.second l.regions)) l.locations l.at ++ jumps_obligations (model_from l.model l.index) (regions_of l.model l.index l.second l.regions) 0 (joints (components_from l.model l.index))) l.left ≡ one_at (paper_obligations l.model l.index l.second l.regions) l.o)
-
-abbrev pub decreases-loop-at : goal.decreases-loop-at
-decreases-loop-at l = l.locations - l.at

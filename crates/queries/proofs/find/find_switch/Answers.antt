@@ -1,15 +1,16 @@
 -- What is left of the event's joint switches begins with the one that the search stands at. Assumes nothing.
-use mathlib.Core.Path.{◌≡◌, ap, ◌∙◌}
+use mathlib.Core.Path.{◌≡◌, ap, ◌∙◌, subst}
 use mathlib.Core.List.{List}
 use Prim.Native.Nat.{ℕ, ◌+◌, ◌<◌}
 use native.Mathlib.Omega.{arith}
 use lib.ListN.{length}
 use Rattle.formats.specs.Rows.{Condition}
 use Rattle.formats.specs.Locations.{location_count, modes_at}
-use Rattle.formats.specs.Joint.{joint_from}
+use Rattle.formats.specs.Joint.{joint_from, joints_of}
 use Rattle.models.specs.Index.{components_from}
 use Rattle.papers.specs.Paper.{regions_of}
-use Rattle.queries.specs.Finding.{joint_here}
+use Rattle.queries.specs.Finding.{joint_here, SoughtInFor}
+use Rattle.queries.specs.declared.Sought.TheVariants as sought
 use Rattle.papers.specs.Standing.{Stands}
 use Rattle.papers.proofs.LandedLaws.{stands-there, landed-count, landed-target, landed-below}
 use Rattle.queries.proofs.FindLaws.{event_size, each-starts, each_on_lem, each-few, each-found, in-none}
@@ -75,12 +76,6 @@ pub returns-then-left-goals : goal.returns-then-left-goals
 returns-then-left-goals c =
     each-found _ _ _ _ (at (goal.at.returns-then-left-goals c).After-landing_at-landing) (here (goal.at.returns-then-left-goals c).After-landing_at-landing) c.loop-at.invariant.1 (goals (goal.at.returns-then-left-goals c).After-region_rows-goals) c.requires.location_bound.0 c.requires.e_bound.0 c.if-left-goals.true
 
-pub overflow_add-at : goal.overflow_add-at
-overflow_add-at c = omega (arith, few (goal.at.overflow_add-at c).After-landing_at-landing)
-
-pub loop-at-smaller : goal.loop-at-smaller
-loop-at-smaller c = omega (arith, c.loop-at-test.true)
-
 pub loop-at-preserved : goal.loop-at-preserved
 loop-at-preserved c =
     let h = here (goal.at.loop-at-preserved c).After-landing_at-landing in
@@ -91,4 +86,8 @@ overflow_add-result-2 c = omega (arith, c.loop-at.invariant.1.counted, c.require
 
 pub returns : goal.returns
 returns c =
-    in-none _ _ _ (size (goal.at.returns c).Start) _ (omega (arith, c.loop-at-test.false, counted (goal.at.returns c).Start)) c.loop-at.invariant.1
+    let l = c.loop-at in
+    let a = c.args in
+    let all : l.at ≡ a.slot.count = omega (arith, l.invariant.0, c.loop-at-test.false) in
+    subst (λ (k : ℕ). SoughtInFor a.model.now a.index.now a.second.now a.regions.now (joints_of (components_from a.model.now a.index.now) a.location a.slot.e) a.from (sought.Beyond (a.from.at + k) l.left)) all
+    (in-none _ _ _ (size (goal.at.returns c).Start) _ (omega (arith, c.loop-at-test.false, counted (goal.at.returns c).Start)) l.invariant.1)

@@ -1,4 +1,4 @@
-use Prim.Native.Nat.{◌+◌, ◌-◌, ◌≤◌}
+use Prim.Native.Nat.{◌+◌, ◌≤◌}
 use Rattle.formats.specs.Joint.{joints_of}
 use Rattle.models.specs.Index.{components_from, model_from}
 use Rattle.papers.specs.Paper.{regions_of}
@@ -10,6 +10,3 @@ abbrev pub invariant-loop-at : goal.invariant-loop-at
 invariant-loop-at l =
     (l.at ≤ event_size l.model l.index l.location l.slot.e)
     × Passing (model_from l.model l.index) (regions_of l.model l.index l.second l.regions) (joints_of (components_from l.model l.index) l.location l.slot.e) (each_on l.model l.index l.location l.slot.e l.at) l.first l.initial.left (l.first + l.at) l.left
-
-abbrev pub decreases-loop-at : goal.decreases-loop-at
-decreases-loop-at l = l.count - l.at

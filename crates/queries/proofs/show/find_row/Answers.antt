@@ -7,18 +7,18 @@ use Rattle.rules.specs.Beside.{show_answer}
 use Rattle.queries.specs.declared.Located.{Located}
 use Rattle.queries.specs.Finding.{OpenFor, hypothesis_located, row_answer, RowInside}
 use Rattle.queries.proofs.ShowLaws.{is_open, row-found, row-stopped, row_inside, row-located, row-tells}
-use Rattle.queries.proofs.show.find_row.Goals.{In-Open}
+use Rattle.queries.proofs.show.find_row.Goals.{In-Ok}
 use Rattle.queries.proofs.show.find_row.Goals as goal
 
 -- both sheets, once they are open
-opened : (c : In-Open) → OpenFor c.args.limits c.args.model.now c.open_regions.new.index c.args.second.now c.open_regions.new.regions
-opened c = is_open _ _ _ _ _ 0 0 c.in-Open.is c.open_regions.ensures
+opened : (c : In-Ok) → OpenFor c.args.limits c.args.model.now c.open_regions.new.index c.args.second.now c.open_regions.new.regions
+opened c = is_open _ _ _ _ _ 0 0 c.in-Ok.is c.open_regions.ensures
 
 pub find-sought-requires : goal.find-sought-requires
-find-sought-requires c = let w = opened (goal.at.find-sought-requires c).In-Open in record { good_paper = w.good; index_len_bound = w.joined }
+find-sought-requires c = let w = opened (goal.at.find-sought-requires c).In-Ok in record { good_paper = w.good; index_len_bound = w.joined }
 
 pub sought_row-requires : goal.sought_row-requires
-sought_row-requires c = record { good_paper = (opened (goal.at.sought_row-requires c).In-Open).good; known_sought = c.find-sought.ensures.known_sought }
+sought_row-requires c = record { good_paper = (opened (goal.at.sought_row-requires c).In-Ok).good; known_sought = c.find-sought.ensures.known_sought }
 
 -- a row that is told stands inside its sheet, and has the sister call's numbers
 told : (limits : Limits) (model second : List ℕ) (o h : ℕ) (l : Located) → l ≡ hypothesis_located limits model second o h → (l ≡ hypothesis_located limits model second o h) × (RowInside model second l.row × (row_answer l.row ≡ show_answer limits model second o h))
@@ -26,8 +26,8 @@ told limits model second o h l e =
     let same = row-located limits model second o h e in
     (e, (subst (RowInside model second) (sym same) (row_inside limits model second o h), row-tells limits model second o h same))
 
-pub returns-in-Refused : goal.returns-in-Refused
-returns-in-Refused c = let both = told _ _ _ _ _ _ (c.refused_row.ensures ∙ row-stopped _ _ _ _ _ _ _ _ _ _ c.in-Refused.is c.open_regions.ensures) in record { value = both.0; row_inside = both.1.0; row_value = both.1.1 }
+pub returns-in-Err : goal.returns-in-Err
+returns-in-Err c = let both = told _ _ _ _ _ _ (c.refused_row.ensures ∙ row-stopped _ _ _ _ _ _ _ c.in-Err.is c.open_regions.ensures) in record { value = both.0; row_inside = both.1.0; row_value = both.1.1 }
 
-pub returns-in-Open : goal.returns-in-Open
-returns-in-Open c = let both = told _ _ _ _ _ _ (row-found _ _ _ _ _ _ _ _ (opened (goal.at.returns-in-Open c).In-Open) c.find-sought.ensures.result_value c.sought_row.ensures) in record { value = both.0; row_inside = both.1.0; row_value = both.1.1 }
+pub returns-in-Ok : goal.returns-in-Ok
+returns-in-Ok c = let both = told _ _ _ _ _ _ (row-found _ _ _ _ _ _ _ _ (opened (goal.at.returns-in-Ok c).In-Ok) c.find-sought.ensures.result_value c.sought_row.ensures) in record { value = both.0; row_inside = both.1.0; row_value = both.1.1 }
