@@ -27,9 +27,15 @@ use Rattle.scores.specs.Counting.{target_rows}
 use Rattle.rules.specs.Beside.{no_obligation}
 use Rattle.rules.specs.Roles.{no_joint}
 use Rattle.rules.proofs.RoleLengths.{after-those}
+use Rattle.std.specs.declared.ops.ControlFlow.{ControlFlow}
+use Rattle.std.specs.declared.ops.ControlFlow.TheVariants.{Break, Continue}
+use Rattle.std.specs.ControlFlow.{break_value}
+use Rattle.std.specs.Prelude.{Option, IfSome, option_map}
+use Rattle.queries.specs.declared.Spot.{Spot}
+use Rattle.queries.specs.declared.JumpLine.{JumpLine}
 use Rattle.queries.specs.declared.Sought.{Sought}
 use Rattle.queries.specs.declared.Sought.TheVariants as sought
-use Rattle.queries.specs.Finding.{one_at, group_obligations, group_kind, group_line, group_hypotheses, group_one, joint_here, joint_hypotheses, joint_one, sought_one, KnownSought, paper_obligations, Passing, NumberedIn, SoughtIn}
+use Rattle.queries.specs.Finding.{one_at, group_obligations, group_kind, group_line, group_hypotheses, group_one, joint_here, joint_hypotheses, joint_one, jump_one, sought_one, sought_in, KnownSought, paper_obligations, Passing, NumberedIn, SoughtIn}
 use Rattle.papers.proofs.JoinedLaws.{joined_on, joined-first, joined-none, joined-whole}
 use Rattle.scores.proofs.CountGoals.{jumps-length}
 
@@ -384,49 +390,42 @@ module _ (model index : List ℕ) (f : ℕ → List JointSwitch) (n i : ℕ) {re
   pub few-here : first + length all ≤ 4096 → number + length (f i) ≤ 4096
   few-here = passing-few (model_from model index) region_at (f i) (joined_on f n (i + 1)) parts
 
-  module _ {r : Sought} (w : SoughtIn model index region_at (f i) number left r) where
-    pub in-location : (location g line : ℕ) → r ≡ sought.AtLocation location g line → SoughtIn model index region_at all first o (sought.AtLocation location g line)
-    unfolding SoughtIn sought_one
-    in-location location g line e =
-        let v = subst (SoughtIn model index region_at (f i) number left) e w in
-        (v.0, passing-found (model_from model index) region_at (f i) (joined_on f n (i + 1)) parts v.1)
-
-    pub in-joint : (j location e x line : ℕ) → r ≡ sought.AtJoint j location e x line → SoughtIn model index region_at all first o (sought.AtJoint j location e x line)
-    unfolding SoughtIn sought_one
-    in-joint j location e x line q =
-        let v = subst (SoughtIn model index region_at (f i) number left) q w in
-        (v.0, (passing-found (model_from model index) region_at (f i) (joined_on f n (i + 1)) parts v.1.0, passing-number (model_from model index) region_at (f i) (joined_on f n (i + 1)) parts v.1.1))
-
-    pub in_rest : (next right : ℕ) → r ≡ sought.Beyond next right → Passing (model_from model index) region_at all (joined_on f n (i + 1)) first o next right
+  module _ {r : ControlFlow JumpLine Spot} (w : SoughtIn model index region_at (f i) number left r) where
+    pub in-joint : {found : ControlFlow JumpLine Spot} {j : JumpLine} → r ≡ Break j → found ≡ Break j → SoughtIn model index region_at all first o found
     unfolding SoughtIn
-    in_rest next right e =
+    in-joint {found} {j} q same =
+        let v = subst (SoughtIn model index region_at (f i) number left) q w in
+        let first-in : SoughtIn model index region_at all first o (Break j) = (v.0, (passing-found (model_from model index) region_at (f i) (joined_on f n (i + 1)) parts v.1.0, passing-number (model_from model index) region_at (f i) (joined_on f n (i + 1)) parts v.1.1)) in
+        subst (SoughtIn model index region_at all first o) (sym same) first-in
+
+    pub in_rest : {spot : Spot} → r ≡ Continue spot → Passing (model_from model index) region_at all (joined_on f n (i + 1)) first o spot.at spot.left
+    unfolding SoughtIn
+    in_rest e =
         let v = subst (SoughtIn model index region_at (f i) number left) e w in
         passing-on (model_from model index) region_at (f i) (joined_on f n (i + 1)) parts v
 
 -- what a search that has ended tells
-sought-beyond : (model index : List ℕ) {region_at : ℕ → Condition} {all : List JointSwitch} {first o number left : ℕ} → Passing (model_from model index) region_at all [] first o number left → SoughtIn model index region_at all first o (sought.Beyond number left)
+sought-beyond : (model index : List ℕ) {region_at : ℕ → Condition} {all : List JointSwitch} {first o : ℕ} {spot : Spot} → Passing (model_from model index) region_at all [] first o spot.at spot.left → SoughtIn model index region_at all first o (Continue spot)
 unfolding SoughtIn
 sought-beyond model index p = p
 
-pub in-none : (model index : List ℕ) (f : ℕ → List JointSwitch) (n i : ℕ) {region_at : ℕ → Condition} {all : List JointSwitch} {first o number left : ℕ} → n ≤ i → Passing (model_from model index) region_at all (joined_on f n i) first o number left → SoughtIn model index region_at all first o (sought.Beyond number left)
-in-none model index f n i {region_at} h p = sought-beyond model index (passing-end (model_from model index) region_at f n i h p)
-
-pub sought-one : (model index : List ℕ) (region_at : ℕ → Condition) (all : List JointSwitch) (first o : ℕ) (r : Sought) → SoughtIn model index region_at all first o r → sought_one model index region_at r ≡ one_at (jumps_obligations (model_from model index) region_at first all) o
-unfolding SoughtIn sought_one jumps_obligations one_at
-sought-one model index region_at all first o (sought.AtLocation location g line) w = w.1
-sought-one model index region_at all first o (sought.AtJoint number location e x line) w = w.1.0
-sought-one model index region_at all first o (sought.Beyond number left) w = w.leads
+pub in-none : (model index : List ℕ) (f : ℕ → List JointSwitch) (n i : ℕ) {region_at : ℕ → Condition} {all : List JointSwitch} {first o : ℕ} {spot : Spot} → n ≤ i → Passing (model_from model index) region_at all (joined_on f n i) first o spot.at spot.left → SoughtIn model index region_at all first o (Continue spot)
+in-none model index f n i {region_at} {spot = spot} h p = sought-beyond model index {spot = spot} (passing-end (model_from model index) region_at f n i h p)
 
 numbered-at : (all : List JointSwitch) (number : ℕ) (j : JointSwitch) → NumberedIn all 0 number j → get_or all number no_joint ≡ j
 numbered-at all number j w =
     ap₂ (λ (js : List JointSwitch) (i : ℕ). get_or js i no_joint) w.parted (w.counted ∙ zero-add (length w.before))
     ∙ after-those w.before j w.after no_joint
 
-pub sought-known : (model index : List ℕ) (region_at : ℕ → Condition) (o : ℕ) (r : Sought) → SoughtIn model index region_at (joints (components_from model index)) 0 o r → KnownSought model index r
-unfolding SoughtIn KnownSought
-sought-known model index region_at o (sought.AtLocation location g line) w = w.0
-sought-known model index region_at o (sought.AtJoint number location e x line) w = (w.0, numbered-at (joints (components_from model index)) number (joint_here model index location e x) w.1.1)
-sought-known model index region_at o (sought.Beyond number left) w = tt
+-- what a search among all of them tells, found or not
+pub record FoundIn (model index : List ℕ) (region_at : ℕ → Condition) (all : List JointSwitch) (o : ℕ) (r : Option Sought) : Type 0 where
+  pub value : sought_in model index region_at r ≡ one_at (jumps_obligations (model_from model index) region_at 0 all) o
+  pub known : IfSome r (KnownSought model index)
+
+pub sought-found : (model index : List ℕ) (region_at : ℕ → Condition) (o : ℕ) (r : ControlFlow JumpLine Spot) → SoughtIn model index region_at (joints (components_from model index)) 0 o r → FoundIn model index region_at (joints (components_from model index)) o (option_map sought.AtJoint (break_value r))
+unfolding SoughtIn sought_in sought_one KnownSought jumps_obligations one_at
+sought-found model index region_at o (Break j) w = record { value = w.1.0; known = (w.0, numbered-at (joints (components_from model index)) j.number (joint_here model index j.location j.event j.nth) w.1.1) }
+sought-found model index region_at o (Continue spot) w = record { value = w.leads; known = tt }
 
 -- the joint switches of one event, one by one
 abbrev pub event_size : List ℕ → List ℕ → ℕ → ℕ → ℕ
@@ -447,11 +446,11 @@ module _ (model index : List ℕ) (region_at : ℕ → Condition) (location e fi
       none n = omega arith
 
   -- an event that has none
-  pub none-there : joints_of (components_from model index) location e ≡ [] → SoughtIn model index region_at (joints_of (components_from model index) location e) first o (sought.Beyond first o)
+  pub none-there : joints_of (components_from model index) location e ≡ [] → SoughtIn model index region_at (joints_of (components_from model index) location e) first o (Continue (record { at = first; left = o }))
   none-there h =
       let m = model_from model index in
       let event = joints_of (components_from model index) location e in
-      sought-beyond model index (subst (λ (xs : List JointSwitch). Passing m region_at event xs first o first o) h (passing-starts m region_at event first o))
+      sought-beyond model index {spot = record { at = first; left = o }} (subst (λ (xs : List JointSwitch). Passing m region_at event xs first o first o) h (passing-starts m region_at event first o))
 
 module _ (model index : List ℕ) (location e at : ℕ) where
   abbrev event : List JointSwitch
@@ -485,8 +484,8 @@ module _ (model index : List ℕ) (location e at : ℕ) where
       pub each_on_lem : goals ≤ left → Passing m region_at event (each_on model index location e (at + 1)) first o (first + (at + 1)) (left - goals)
       each_on_lem l = passing-on m region_at (here ∷ []) (each_on model index location e (at + 1)) whole (passed l)
 
-      pub each-found : location < location_count (components_from model index) → e ≤ 15 → left < goals → SoughtIn model index region_at event first o (sought.AtJoint (first + at) location e at left)
-      unfolding SoughtIn sought_one KnownSought
+      pub each-found : location < location_count (components_from model index) → e ≤ 15 → left < goals → SoughtIn model index region_at event first o (Break (record { number = first + at; location = location; event = e; nth = at; line = left }))
+      unfolding SoughtIn jump_one
       each-found a b l =
           let alone : NumberedIn (here ∷ []) (first + at) (first + at) here = record { before = []; after = []; parted = refl; counted = omega arith } in
           ((a, (b, h)), (passing-found m region_at (here ∷ []) (each_on model index location e (at + 1)) whole (sym (joint-one m region_at location (first + at) here left (omega (arith, l, q)))), passing-number m region_at (here ∷ []) (each_on model index location e (at + 1)) whole alone))

@@ -1,6 +1,8 @@
 -- Which obligation has a number, where a search for it has come to, and where the row of a hypothesis stands. The list of obligations is
 -- that of 01; the code never lists it, so a search is told by what it has passed over. Assumes nothing.
-use Rattle.std.specs.Prelude.{Result, Ok, Err, ◌≡◌, true, false, List, [], ◌∷◌, ◌++◌, ℕ, zero, suc, ◌+◌, ◌-◌, ◌≤◌, ◌<◌, ltb, length, get_or, take, drop}
+use Rattle.std.specs.declared.ops.ControlFlow.{ControlFlow}
+use Rattle.std.specs.declared.ops.ControlFlow.TheVariants.{Break, Continue}
+use Rattle.std.specs.Prelude.{Option, Some, None, Result, Ok, Err, ◌≡◌, true, false, List, [], ◌∷◌, ◌++◌, ℕ, zero, suc, ◌+◌, ◌-◌, ◌≤◌, ◌<◌, ltb, length, get_or, take, drop}
 use Rattle.farkas.specs.Rows.{zero_row}
 use Rattle.formats.specs.Reading.{Got, got, refused, ◌>>◌}
 use Rattle.formats.specs.Rows.{Condition}
@@ -15,6 +17,7 @@ use Rattle.queries.specs.declared.Which.{Which}
 use Rattle.queries.specs.declared.Shown.{Shown}
 use Rattle.queries.specs.declared.Located.{Located}
 use Rattle.queries.specs.declared.Spot.{Spot}
+use Rattle.queries.specs.declared.JumpLine.{JumpLine}
 use Rattle.queries.specs.declared.Sought.{Sought}
 use Rattle.queries.specs.declared.Sought.TheVariants as sought
 use Rattle.queries.specs.declared.RowFound.{RowFound}
@@ -248,12 +251,18 @@ joint_one m region_at number j line =
       goal = (get_or (jump_obligations m region_at number j) line no_obligation).goal;
     }
 
--- what was found
+-- what was found: at a joint switch, at either, or nothing
+unfoldable pub jump_one : List ℕ → List ℕ → (ℕ → Condition) → JumpLine → Obligation
+jump_one model index region_at j =
+    joint_one (model_from model index) region_at j.number (joint_here model index j.location j.event j.nth) j.line
+
 unfoldable pub sought_one : List ℕ → List ℕ → (ℕ → Condition) → Sought → List Obligation
 sought_one model index region_at (sought.AtLocation location g line) = group_one (model_from model index) region_at location g line ∷ []
-sought_one model index region_at (sought.AtJoint number location e x line) =
-    joint_one (model_from model index) region_at number (joint_here model index location e x) line ∷ []
-sought_one model index region_at (sought.Beyond number left) = []
+sought_one model index region_at (sought.AtJoint j) = jump_one model index region_at j ∷ []
+
+unfoldable pub sought_in : List ℕ → List ℕ → (ℕ → Condition) → Option Sought → List Obligation
+sought_in model index region_at (Some s) = sought_one model index region_at s
+sought_in model index region_at None = []
 
 -- and that its numbers are those of a location, a group, an event and a joint switch, and its number that of the joint switch in the list
 abbrev pub KnownJoint : List ℕ → List ℕ → ℕ → ℕ → ℕ → Type 0
@@ -264,10 +273,9 @@ KnownJoint model index location e x =
 unfoldable pub KnownSought : List ℕ → List ℕ → Sought → Type 0
 KnownSought model index (sought.AtLocation location g line) =
     (location < location_count (components_from model index)) × (g < 2 + entry index 2)
-KnownSought model index (sought.AtJoint number location e x line) =
-    KnownJoint model index location e x
-    × (get_or (joints (components_from model index)) number no_joint ≡ joint_here model index location e x)
-KnownSought model index (sought.Beyond number left) = Unit {0}
+KnownSought model index (sought.AtJoint j) =
+    KnownJoint model index j.location j.event j.nth
+    × (get_or (joints (components_from model index)) j.number no_joint ≡ joint_here model index j.location j.event j.nth)
 
 -- all obligations of a paper, by its places
 unfoldable pub paper_obligations : List ℕ → List ℕ → List ℕ → List ℕ → List Obligation
@@ -298,18 +306,15 @@ pub record NumberedIn (all : List JointSwitch) (first number : ℕ) (j : JointSw
   pub counted : number ≡ first + length before
 
 -- where such a search ends: at what has the obligation, or beyond all of them
-unfoldable pub SoughtIn : List ℕ → List ℕ → (ℕ → Condition) → List JointSwitch → ℕ → ℕ → Sought → Type 0
-SoughtIn model index region_at all first o (sought.AtLocation location g line) =
-    KnownSought model index (sought.AtLocation location g line)
-    × (sought_one model index region_at (sought.AtLocation location g line) ≡ one_at (jumps_obligations (model_from model index) region_at first all) o)
-SoughtIn model index region_at all first o (sought.AtJoint number location e x line) =
-    KnownJoint model index location e x
-    × ((sought_one model index region_at (sought.AtJoint number location e x line) ≡ one_at (jumps_obligations (model_from model index) region_at first all) o)
-    × NumberedIn all first number (joint_here model index location e x))
-SoughtIn model index region_at all first o (sought.Beyond number left) = Passing (model_from model index) region_at all [] first o number left
+unfoldable pub SoughtIn : List ℕ → List ℕ → (ℕ → Condition) → List JointSwitch → ℕ → ℕ → ControlFlow JumpLine Spot → Type 0
+SoughtIn model index region_at all first o (Break j) =
+    KnownJoint model index j.location j.event j.nth
+    × ((jump_one model index region_at j ∷ [] ≡ one_at (jumps_obligations (model_from model index) region_at first all) o)
+    × NumberedIn all first j.number (joint_here model index j.location j.event j.nth))
+SoughtIn model index region_at all first o (Continue s) = Passing (model_from model index) region_at all [] first o s.at s.left
 
 -- the same from where the search begins, of the regions that the code keeps by their places
-abbrev pub SoughtInFor : List ℕ → List ℕ → List ℕ → List ℕ → List JointSwitch → Spot → Sought → Type 0
+abbrev pub SoughtInFor : List ℕ → List ℕ → List ℕ → List ℕ → List JointSwitch → Spot → ControlFlow JumpLine Spot → Type 0
 SoughtInFor model index second regions all from = SoughtIn model index (regions_of model index second regions) all from.at from.left
 
 -- the joint switches that leave a location, and those of one event as a table lists them
@@ -365,6 +370,9 @@ sought_row_for model index second regions s =
 
 abbrev pub sought_one_for : List ℕ → List ℕ → List ℕ → List ℕ → Sought → List Obligation
 sought_one_for model index second regions = sought_one model index (regions_of model index second regions)
+
+abbrev pub sought_in_for : List ℕ → List ℕ → List ℕ → List ℕ → Option Sought → List Obligation
+sought_in_for model index second regions = sought_in model index (regions_of model index second regions)
 
 -- Where a search leads: among the locations, and the groups of a location
 abbrev pub LeadsToLocation : List ℕ → List ℕ → List ℕ → List ℕ → ℕ → ℕ → Spot → Type 0

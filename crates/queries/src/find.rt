@@ -1,15 +1,15 @@
 // The obligation with a number, found in one pass without listing any: locations, groups and joint switches are passed over by the count of
 // their goals.
-ghost use Rattle.std.specs.Prelude.{◌≡◌, ◌+◌, ◌≤◌, ◌<◌, length};
+ghost use Rattle.std.specs.Prelude.{IfSome, ◌≡◌, ◌+◌, ◌≤◌, ◌<◌, length};
 ghost use Rattle.formats.specs.Locations.{location_count};
 ghost use Rattle.formats.specs.Joint.{joints_of, joints};
 ghost use Rattle.models.specs.Index.{components_from, model_from, conditions_in};
 ghost use Rattle.rules.specs.Obligations.{location_obligations};
 ghost use Rattle.papers.specs.Paper.{GoodPaper, regions_of};
 ghost use Rattle.papers.specs.Standing.{Stands};
-ghost use Rattle.queries.specs.Finding.{one_at, KnownSought, paper_obligations, group_obligations_for, sought_one_for, LeadsToLocation, LeadsToGroup, ListedFrom, leaving_from, SoughtInFor};
+ghost use Rattle.queries.specs.Finding.{one_at, KnownSought, paper_obligations, group_obligations_for, sought_in_for, LeadsToLocation, LeadsToGroup, ListedFrom, leaving_from, SoughtInFor};
 
-use crate::{Sought, Spot};
+use crate::{JumpLine, Sought, Spot};
 use joint_switches::Slot;
 use joint_switches::joints::{bit_of, modes_at};
 use joint_switches::slots::{WAYS_LENGTH, landing_at, list_slot};
@@ -17,6 +17,7 @@ use models::layout::{CONDITIONS_AT, FIRST_TOTAL, Index, LOCATIONS_AT};
 use papers::standing::{all_start, modes_fit};
 use scores::counting::{location_goals, region_rows};
 use second_sheets::ranges::Regions;
+use std::ops::ControlFlow;
 
 // The location that has the obligation, or the number of locations where none has.
 fn find_location(
@@ -111,7 +112,7 @@ fn find_switch(
     slot: Slot,
     ways: &[u8],
     from: Spot,
-) -> Sought
+) -> ControlFlow<JumpLine, Spot>
     requires good_paper { GoodPaper model.now index.now second.now regions.now }
     requires location_bound { (location < location_count (components_from model.now index.now)) × ListedFrom model.now index.now location ways.now slot }
     requires e_bound { (slot.e ≤ 15) × (from.at + length (joints_of (components_from model.now index.now) location slot.e) ≤ 4096) }
@@ -124,11 +125,20 @@ fn find_switch(
         let landing = landing_at(index, slot, ways, at);
         let goals = region_rows(model, index, second, regions, landing.target);
         if left < goals {
-            return Sought::AtJoint(first + at, location, slot.e, at, left);
+            return ControlFlow::Break(JumpLine {
+                number: first + at,
+                location,
+                event: slot.e,
+                nth: at,
+                line: left,
+            });
         }
         left -= goals;
     }
-    Sought::Beyond(first + count, left)
+    ControlFlow::Continue(Spot {
+        at: first + count,
+        left,
+    })
 }
 
 // The same from the location: where the event has joint switches they are listed once.
@@ -141,13 +151,13 @@ fn find_event(
     modes: [u8; 4],
     e: u32,
     from: Spot,
-) -> Sought
+) -> ControlFlow<JumpLine, Spot>
     requires good_paper { GoodPaper model.now index.now second.now regions.now }
     requires stands { Stands model.now index.now location modes × ((e ≤ 15) × (from.at + length (joints_of (components_from model.now index.now) location e) ≤ 4096)) }
     ensures { SoughtInFor model.now index.now second.now regions.now (joints_of (components_from model.now index.now) location e) from result }
 {
     if index[FIRST_TOTAL + e as usize] == 0 {
-        return Sought::Beyond(from.at, from.left);
+        return ControlFlow::Continue(from);
     }
     let mut ways = [0u8; WAYS_LENGTH];
     let slot = list_slot(model, index, location, modes, e, &mut ways);
@@ -162,26 +172,17 @@ fn find_leaving(
     regions: &Regions,
     location: u32,
     from: Spot,
-) -> Sought
+) -> ControlFlow<JumpLine, Spot>
     requires good_paper { GoodPaper model.now index.now second.now regions.now }
     requires location_bound { (location < location_count (components_from model.now index.now)) × (from.at + length (leaving_from model.now index.now location) ≤ 4096) }
     ensures { SoughtInFor model.now index.now second.now regions.now (leaving_from model.now index.now location) from result }
 {
     let modes = modes_at(model, index, location);
-    let mut number = from.at;
-    let mut left = from.left;
+    let mut spot = from;
     for e in 0..16 {
-        let spot = Spot { at: number, left };
-        match find_event(model, index, second, regions, location, modes, e, spot) {
-            Sought::AtLocation(l, g, line) => return Sought::AtLocation(l, g, line),
-            Sought::AtJoint(j, l, k, x, line) => return Sought::AtJoint(j, l, k, x, line),
-            Sought::Beyond(next, rest) => {
-                number = next;
-                left = rest;
-            }
-        }
+        spot = find_event(model, index, second, regions, location, modes, e, spot)?;
     }
-    Sought::Beyond(number, left)
+    ControlFlow::Continue(spot)
 }
 
 // The obligation with a number among those of all joint switches, location by location.
@@ -192,39 +193,31 @@ fn find_jump(
     regions: &Regions,
     locations: u32,
     o: u32,
-) -> Sought
+) -> ControlFlow<JumpLine, Spot>
     requires good_paper { GoodPaper model.now index.now second.now regions.now }
     requires locations_value { (locations ≡ location_count (components_from model.now index.now)) × (length (joints (components_from model.now index.now)) ≤ 4096) }
     ensures { SoughtInFor model.now index.now second.now regions.now (joints (components_from model.now index.now)) (record { at = 0; left = o }) result }
 {
-    let mut number: u32 = 0;
-    let mut left = o;
+    let mut spot = Spot { at: 0, left: o };
     for location in 0..locations {
-        let spot = Spot { at: number, left };
-        match find_leaving(model, index, second, regions, location, spot) {
-            Sought::AtLocation(l, g, line) => return Sought::AtLocation(l, g, line),
-            Sought::AtJoint(j, l, e, x, line) => return Sought::AtJoint(j, l, e, x, line),
-            Sought::Beyond(next, rest) => {
-                number = next;
-                left = rest;
-            }
-        }
+        spot = find_leaving(model, index, second, regions, location, spot)?;
     }
-    Sought::Beyond(number, left)
+    ControlFlow::Continue(spot)
 }
 
-// The obligation with a number: those of the locations first, then those of the joint switches.
-pub fn find(model: &[u8], index: &Index, second: &[u8], regions: &Regions, o: u32) -> Sought
+// The obligation with a number, if there is one: those of the locations first, then those of the joint switches.
+pub fn find(model: &[u8], index: &Index, second: &[u8], regions: &Regions, o: u32) -> Option<Sought>
     requires good_paper { GoodPaper model.now index.now second.now regions.now }
     requires index_len_bound { length (joints (components_from model.now index.now)) ≤ 4096 }
-    ensures result_value { sought_one_for model.now index.now second.now regions.now result ≡ one_at (paper_obligations model.now index.now second.now regions.now) o }
-    ensures known_sought { KnownSought model.now index.now result }
+    ensures result_value { sought_in_for model.now index.now second.now regions.now result ≡ one_at (paper_obligations model.now index.now second.now regions.now) o }
+    ensures known_sought { IfSome result (KnownSought model.now index.now) }
 {
     let locations = index[LOCATIONS_AT] as u32;
     let place = find_location(model, index, second, regions, locations, o);
     if locations <= place.at {
-        return find_jump(model, index, second, regions, locations, place.left);
+        let found = find_jump(model, index, second, regions, locations, place.left);
+        return found.break_value().map(Sought::AtJoint);
     }
     let group = find_group(model, index, second, regions, place.at, place.left);
-    Sought::AtLocation(place.at, group.at, group.left)
+    Some(Sought::AtLocation(place.at, group.at, group.left))
 }

@@ -26,14 +26,22 @@ pub struct Spot {
     pub left: u32,
 }
 
-// Where an obligation was found: at a location, in a group, with its line; at a joint switch, by its number, its location, its event, its
-// number among those of its event, and the line; or beyond the last, with the number of the next joint switch and how many obligations are
-// still to be passed over.
+// An obligation of a joint switch: the number of the joint switch, the location that it leaves, its event, its number among those of its
+// event, and the line.
+#[derive(Clone, Copy)]
+pub struct JumpLine {
+    pub number: u32,
+    pub location: u32,
+    pub event: u32,
+    pub nth: u32,
+    pub line: u32,
+}
+
+// Where an obligation was found: at a location, in a group, with its line; or at a joint switch.
 #[derive(Clone, Copy)]
 pub enum Sought {
     AtLocation(u32, u32, u32),
-    AtJoint(u32, u32, u32, u32, u32),
-    Beyond(u32, u32),
+    AtJoint(JumpLine),
 }
 
 // Where the row of a hypothesis stands: in the model or in the second sheet, at a place and with a size in bytes; in no sheet; or why it is

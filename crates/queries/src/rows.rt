@@ -218,9 +218,15 @@ pub fn sought_row(
         Sought::AtLocation(location, g, _) => location_row(
             model, index, second, regions, location, g, h,
         ),
-        Sought::AtJoint(_, source, e, x, _) => joint_row(
-            model, index, second, regions, source, e, x, h,
+        Sought::AtJoint(jump) => joint_row(
+            model,
+            index,
+            second,
+            regions,
+            jump.location,
+            jump.event,
+            jump.nth,
+            h,
         ),
-        Sought::Beyond(_, _) => refused_row(5, 2, 0),
     }
 }

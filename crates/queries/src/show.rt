@@ -3,7 +3,7 @@ ghost use Rattle.std.specs.Prelude.{◌≡◌, length};
 ghost use Rattle.formats.specs.ModelSheet.{stated};
 ghost use Rattle.papers.specs.Paper.{GoodPaper};
 ghost use Rattle.rules.specs.Beside.{find_hypothesis, show_answer, show_part};
-ghost use Rattle.queries.specs.Finding.{which_obligation, group_which, row_found, hypothesis_located, hypothesis_answer, RowInside, which_of, OpensTo, PartIs, sought_one_for, row_answer};
+ghost use Rattle.queries.specs.Finding.{which_obligation, which_refused, group_which, row_found, hypothesis_located, hypothesis_answer, RowInside, which_of, OpensTo, PartIs, sought_one_for, row_answer};
 
 use crate::find::find;
 use crate::rows::{refused_row, sought_row};
@@ -54,22 +54,28 @@ fn sought_which(
     let size = second.len() as u32;
     match sought {
         Sought::AtLocation(location, g, line) => group_which(size, location, g, line),
-        Sought::AtJoint(number, _, _, _, line) => Which {
+        Sought::AtJoint(jump) => Which {
             number: 0,
             sheet: 1,
             place: size,
             kind: 3,
-            subject: number,
-            line,
+            subject: jump.number,
+            line: jump.line,
         },
-        Sought::Beyond(_, _) => Which {
-            number: 5,
-            sheet: 2,
-            place: 0,
-            kind: 0,
-            subject: 0,
-            line: 0,
-        },
+    }
+}
+
+// Why no obligation was found.
+fn no_which(number: u32, sheet: u32, place: u32) -> Which
+    ensures { result ≡ which_refused number sheet place }
+{
+    Which {
+        number,
+        sheet,
+        place,
+        kind: 0,
+        subject: 0,
+        line: 0,
     }
 }
 
@@ -99,19 +105,12 @@ pub fn which(model: &[u8], second: &[u8], o: u32, limits: Limits) -> Which
 {
     let mut index = [0u16; INDEX_LENGTH];
     let mut regions = [0u16; REGIONS_LENGTH];
-    match open_regions(model, second, &mut index, &mut regions, limits) {
-        Err(answer) => Which {
-            number: answer.number,
-            sheet: answer.sheet,
-            place: answer.place,
-            kind: 0,
-            subject: 0,
-            line: 0,
-        },
-        Ok(()) => {
-            let sought = find(model, &index, second, &regions, o);
-            sought_which(model, &index, second, &regions, sought)
-        }
+    if let Err(answer) = open_regions(model, second, &mut index, &mut regions, limits) {
+        return no_which(answer.number, answer.sheet, answer.place);
+    }
+    match find(model, &index, second, &regions, o) {
+        Some(sought) => sought_which(model, &index, second, &regions, sought),
+        None => no_which(5, 2, 0),
     }
 }
 
@@ -123,12 +122,12 @@ pub fn find_row(model: &[u8], second: &[u8], o: u32, h: u32, limits: Limits) -> 
 {
     let mut index = [0u16; INDEX_LENGTH];
     let mut regions = [0u16; REGIONS_LENGTH];
-    match open_regions(model, second, &mut index, &mut regions, limits) {
-        Err(answer) => refused_row(answer.number, answer.sheet, answer.place),
-        Ok(()) => {
-            let sought = find(model, &index, second, &regions, o);
-            sought_row(model, &index, second, &regions, sought, h)
-        }
+    if let Err(answer) = open_regions(model, second, &mut index, &mut regions, limits) {
+        return refused_row(answer.number, answer.sheet, answer.place);
+    }
+    match find(model, &index, second, &regions, o) {
+        Some(sought) => sought_row(model, &index, second, &regions, sought, h),
+        None => refused_row(5, 2, 0),
     }
 }
 

@@ -1,11 +1,15 @@
 -- Beyond the locations the joint switches, else the group of its location. Assumes nothing.
-use mathlib.Core.Path.{sym, ◌∙◌}
+use Rattle.std.proofs.Common.{rules, ◌≡◌, Option, IfSome, sym, ap, subst, ◌∙◌}
+use Rattle.std.specs.ControlFlow.{break_value}
+use Rattle.std.specs.Option.{option_map}
+use Rattle.queries.specs.declared.Sought.{Sought}
+use Rattle.queries.specs.declared.Sought.TheVariants as sought
 use mathlib.Core.List.{[]}
 use Prim.Native.Nat.{◌<◌}
 use native.Mathlib.Omega.{arith}
 use Rattle.models.specs.Index.{entry}
-use Rattle.queries.specs.Finding.{sought_one, KnownSought}
-use Rattle.queries.proofs.FindLaws.{sought-one, sought-known, one-past, one-here, group-one}
+use Rattle.queries.specs.Finding.{sought_one, sought_in, KnownSought}
+use Rattle.queries.proofs.FindLaws.{sought-found, one-past, one-here, group-one}
 use Rattle.queries.proofs.find.find.Goals.{Else-locations-place}
 use Rattle.queries.proofs.find.find.Goals as goal
 
@@ -17,13 +21,20 @@ pub find_location-place-requires : goal.find_location-place-requires
 unfolding entry
 find_location-place-requires c = record { good_paper = c.requires.good_paper; locations_value = c.requires.good_paper.counted.located }
 
-pub find_jump-requires : goal.find_jump-requires
+pub find_jump-found-requires : goal.find_jump-found-requires
 unfolding entry
-find_jump-requires c = record { good_paper = c.requires.good_paper; locations_value = (c.requires.good_paper.counted.located, c.requires.index_len_bound) }
+find_jump-found-requires c = record { good_paper = c.requires.good_paper; locations_value = (c.requires.good_paper.counted.located, c.requires.index_len_bound) }
 
 pub returns-then-locations-place : goal.returns-then-locations-place
 unfolding entry
-returns-then-locations-place c = let place = c.find_location-place in record { result_value = sought-one _ _ _ _ 0 place.result.left _ c.find_jump.ensures ∙ one-past _ _ _ _ _ c.if-locations-place.true place.ensures.leads; known_sought = sought-known _ _ _ place.result.left _ c.find_jump.ensures }
+returns-then-locations-place c =
+    let place = c.find_location-place in
+    let w = sought-found _ _ _ place.result.left _ c.find_jump-found.ensures in
+    let same : c.map.result ≡ option_map sought.AtJoint (break_value c.find_jump-found.result) = search rules in
+    record {
+      result_value = ap (sought_in _ _ _) same ∙ w.value ∙ one-past _ _ _ _ _ c.if-locations-place.true place.ensures.leads;
+      known_sought = subst (λ (r : Option Sought). IfSome r (KnownSought c.args.model.now c.args.index.now)) (sym same) w.known;
+    }
 
 -- the search ended at a location
 below : (c : Else-locations-place) → c.find_location-place.result.at < entry c.args.index.now 15
@@ -37,7 +48,7 @@ find_group-group-requires c =
     let h = below c in record { good_paper = p.good_paper; location_bound = omega (arith, h, p.good_paper.counted.located); o_in_bounds = c.find_location-place.ensures.here h }
 
 pub returns : goal.returns
-unfolding sought_one KnownSought entry
+unfolding sought_in sought_one KnownSought entry
 returns c =
     let p = c.requires in
     let place = c.find_location-place in

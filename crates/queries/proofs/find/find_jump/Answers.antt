@@ -6,7 +6,7 @@ use Rattle.formats.specs.Joint.{JointSwitch, joints}
 use Rattle.models.specs.Index.{components_from, model_from}
 use Rattle.papers.specs.Paper.{regions_of}
 use Rattle.queries.specs.Finding.{Passing}
-use Rattle.queries.proofs.FindLaws.{passing-starts, few-here, in-location, in-joint, in_rest, in-none, joints-by-location}
+use Rattle.queries.proofs.FindLaws.{passing-starts, few-here, in-joint, in_rest, in-none, joints-by-location}
 use Rattle.queries.proofs.find.find_jump.Goals as goal
 
 pub loop-location-init : goal.loop-location-init
@@ -21,18 +21,14 @@ pub find_leaving-requires : goal.find_leaving-requires
 find_leaving-requires c =
     let h = c.loop-location-test.true in record { good_paper = c.requires.good_paper; location_bound = (omega (arith, h, c.requires.locations_value.0), few-here _ _ _ c.args.locations _ h c.loop-location.invariant.1 (omega (arith, c.requires.locations_value.1))) }
 
-pub returns-in-AtLocation : goal.returns-in-AtLocation
-returns-in-AtLocation c =
-    in-location _ _ _ _ _ c.loop-location-test.true c.loop-location.invariant.1 c.find_leaving.ensures c.in-AtLocation.l c.in-AtLocation.g c.in-AtLocation.line c.in-AtLocation.is
-
-pub returns-in-AtJoint : goal.returns-in-AtJoint
-returns-in-AtJoint c =
-    in-joint _ _ _ _ _ c.loop-location-test.true c.loop-location.invariant.1 c.find_leaving.ensures c.in-AtJoint.j c.in-AtJoint.l c.in-AtJoint.e c.in-AtJoint.x c.in-AtJoint.line c.in-AtJoint.is
-
 pub loop-location-preserved : goal.loop-location-preserved
 loop-location-preserved c =
     let h = c.loop-location-test.true in
-    (omega (arith, h), in_rest _ _ _ _ _ h c.loop-location.invariant.1 c.find_leaving.ensures c.in-Beyond.next c.in-Beyond.rest c.in-Beyond.is)
+    (omega (arith, h), in_rest _ _ _ _ _ h c.loop-location.invariant.1 c.find_leaving.ensures c.in_ok-spot.was)
 
 pub returns : goal.returns
 returns c = in-none _ _ _ _ _ c.loop-location-test.false c.loop-location.invariant.1
+
+pub returns-in_err-spot : goal.returns-in_err-spot
+returns-in_err-spot c =
+    in-joint _ _ _ _ _ c.loop-location-test.true c.loop-location.invariant.1 c.find_leaving.ensures c.in_err-spot.was c.from_residual.ensures

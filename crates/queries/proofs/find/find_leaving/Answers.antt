@@ -7,7 +7,7 @@ use Rattle.models.specs.Index.{components_from, model_from}
 use Rattle.papers.specs.Paper.{regions_of}
 use Rattle.papers.proofs.StandingLaws.{stands_at_lem}
 use Rattle.queries.specs.Finding.{Passing, leaving_from}
-use Rattle.queries.proofs.FindLaws.{passing-starts, few-here, in-location, in-joint, in_rest, in-none, events-whole}
+use Rattle.queries.proofs.FindLaws.{passing-starts, few-here, in-joint, in_rest, in-none, events-whole}
 use Rattle.queries.proofs.find.find_leaving.Goals as goal
 
 pub modes_at-modes-requires : goal.modes_at-modes-requires
@@ -26,18 +26,14 @@ find_event-requires c =
     let modes = c.modes_at-modes in
     let h = c.loop-e-test.true in record { good_paper = c.requires.good_paper; stands = (stands_at_lem c.args.model.now c.args.index.now c.args.location modes.result _ c.requires.good_paper.good c.requires.location_bound.0 modes.ensures, (omega (arith, h), few-here _ _ _ 16 _ h c.loop-e.invariant.1 c.requires.location_bound.1)) }
 
-pub returns-in-AtLocation : goal.returns-in-AtLocation
-returns-in-AtLocation c =
-    in-location _ _ _ 16 _ c.loop-e-test.true c.loop-e.invariant.1 c.find_event.ensures c.in-AtLocation.l c.in-AtLocation.g c.in-AtLocation.line c.in-AtLocation.is
-
-pub returns-in-AtJoint : goal.returns-in-AtJoint
-returns-in-AtJoint c =
-    in-joint _ _ _ 16 _ c.loop-e-test.true c.loop-e.invariant.1 c.find_event.ensures c.in-AtJoint.j c.in-AtJoint.l c.in-AtJoint.k c.in-AtJoint.x c.in-AtJoint.line c.in-AtJoint.is
-
 pub loop-e-preserved : goal.loop-e-preserved
 loop-e-preserved c =
     let h = c.loop-e-test.true in
-    (omega (arith, h), in_rest _ _ _ 16 _ h c.loop-e.invariant.1 c.find_event.ensures c.in-Beyond.next c.in-Beyond.rest c.in-Beyond.is)
+    (omega (arith, h), in_rest _ _ _ 16 _ h c.loop-e.invariant.1 c.find_event.ensures c.in_ok-spot.was)
 
 pub returns : goal.returns
 returns c = in-none _ _ _ 16 _ c.loop-e-test.false c.loop-e.invariant.1
+
+pub returns-in_err-spot : goal.returns-in_err-spot
+returns-in_err-spot c =
+    in-joint _ _ _ 16 _ c.loop-e-test.true c.loop-e.invariant.1 c.find_event.ensures c.in_err-spot.was c.from_residual.ensures

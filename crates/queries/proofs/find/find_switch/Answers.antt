@@ -10,7 +10,7 @@ use Rattle.formats.specs.Joint.{joint_from, joints_of}
 use Rattle.models.specs.Index.{components_from}
 use Rattle.papers.specs.Paper.{regions_of}
 use Rattle.queries.specs.Finding.{joint_here, SoughtInFor}
-use Rattle.queries.specs.declared.Sought.TheVariants as sought
+use Rattle.std.specs.declared.ops.ControlFlow.TheVariants.{Continue}
 use Rattle.papers.specs.Standing.{Stands}
 use Rattle.papers.proofs.LandedLaws.{stands-there, landed-count, landed-target, landed-below}
 use Rattle.queries.proofs.FindLaws.{event_size, each-starts, each_on_lem, each-few, each-found, in-none}
@@ -89,5 +89,5 @@ returns c =
     let l = c.loop-at in
     let a = c.args in
     let all : l.at ≡ a.slot.count = omega (arith, l.invariant.0, c.loop-at-test.false) in
-    subst (λ (k : ℕ). SoughtInFor a.model.now a.index.now a.second.now a.regions.now (joints_of (components_from a.model.now a.index.now) a.location a.slot.e) a.from (sought.Beyond (a.from.at + k) l.left)) all
+    subst (λ (k : ℕ). SoughtInFor a.model.now a.index.now a.second.now a.regions.now (joints_of (components_from a.model.now a.index.now) a.location a.slot.e) a.from (Continue (record { at = a.from.at + k; left = l.left }))) all
     (in-none _ _ _ (size (goal.at.returns c).Start) _ (omega (arith, c.loop-at-test.false, counted (goal.at.returns c).Start)) l.invariant.1)

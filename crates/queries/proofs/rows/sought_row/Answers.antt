@@ -10,7 +10,7 @@ use Rattle.queries.specs.declared.Sought.{Sought}
 use Rattle.queries.specs.declared.Located.{Located}
 use Rattle.papers.specs.Paper.{regions_of}
 use Rattle.rules.specs.Roles.{Role, joint_roles, kind_roles, roles_of}
-use Rattle.queries.specs.Finding.{located_at, located_of, sought_one, group_hypotheses, group_one, joint_here, joint_hypotheses, joint_one, KnownSought}
+use Rattle.queries.specs.Finding.{located_at, located_of, jump_one, sought_one, group_hypotheses, group_one, joint_here, joint_hypotheses, joint_one, KnownSought}
 use Rattle.queries.proofs.HeldLaws.{group-roles}
 use Rattle.queries.proofs.rows.sought_row.Goals.{Start}
 use Rattle.queries.proofs.rows.sought_row.Goals as goal
@@ -45,13 +45,9 @@ returns-in-AtLocation c =
     ∙ sym (ap (tells (goal.at.returns-in-AtLocation c).Start) c.in-AtLocation.is)
 
 pub returns-in-AtJoint : goal.returns-in-AtJoint
-unfolding located_of sought_one joint_one roles_of kind_roles model_from KnownSought
+unfolding located_of sought_one jump_one joint_one roles_of kind_roles model_from KnownSought
 returns-in-AtJoint c =
-    let here = joint_here c.args.model.now c.args.index.now c.in-AtJoint.source c.in-AtJoint.e c.in-AtJoint.x in
+    let here = joint_here c.args.model.now c.args.index.now c.in-AtJoint.jump.location c.in-AtJoint.jump.event c.in-AtJoint.jump.nth in
     c.joint_row.ensures
     ∙ ap (λ (j : JointSwitch). located_at (joint_hypotheses (m (goal.at.returns-in-AtJoint c).Start) (region_at (goal.at.returns-in-AtJoint c).Start) here) (joint_roles (m (goal.at.returns-in-AtJoint c).Start) (region_at (goal.at.returns-in-AtJoint c).Start) j) c.args.h) (sym (known (goal.at.returns-in-AtJoint c).Start c.in-AtJoint.is).1)
     ∙ sym (ap (tells (goal.at.returns-in-AtJoint c).Start) c.in-AtJoint.is)
-
-pub returns-in-Beyond : goal.returns-in-Beyond
-unfolding located_of sought_one
-returns-in-Beyond c = c.refused_row.ensures ∙ sym (ap (tells (goal.at.returns-in-Beyond c).Start) c.in-Beyond.is)

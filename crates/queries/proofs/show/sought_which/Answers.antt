@@ -4,7 +4,7 @@ use lib.ListN.{length}
 use Rattle.models.specs.Index.{model_from}
 use Rattle.queries.specs.declared.Sought.{Sought}
 use Rattle.papers.specs.Paper.{regions_of}
-use Rattle.queries.specs.Finding.{which_of, which_tells, which_refused, kind_number, sought_one, group_one, group_which, joint_one}
+use Rattle.queries.specs.Finding.{which_of, which_tells, kind_number, jump_one, sought_one, group_one, group_which, joint_one}
 use Rattle.queries.proofs.show.sought_which.Goals as goal
 
 pub returns-in-AtLocation : goal.returns-in-AtLocation
@@ -21,7 +21,7 @@ returns-in-AtLocation c =
     c.group_which.ensures ∙ sym (ap (λ (s : Sought). which_of (length second) (sought_one model index region_at s)) c.in-AtLocation.is)
 
 pub returns-in-AtJoint : goal.returns-in-AtJoint
-unfolding which_of which_tells sought_one joint_one kind_number
+unfolding which_of which_tells sought_one jump_one joint_one kind_number
 returns-in-AtJoint c =
     let a = c.args in
     let p = c.requires in
@@ -32,16 +32,3 @@ returns-in-AtJoint c =
     let m = model_from model index in
     let region_at = regions_of model index second regions in
     sym (ap (λ (s : Sought). which_of (length second) (sought_one model index region_at s)) c.in-AtJoint.is)
-
-pub returns-in-Beyond : goal.returns-in-Beyond
-unfolding which_of which_refused sought_one
-returns-in-Beyond c =
-    let a = c.args in
-    let p = c.requires in
-    let model = a.model.now in
-    let index = a.index.now in
-    let second = a.second.now in
-    let regions = a.regions.now in
-    let m = model_from model index in
-    let region_at = regions_of model index second regions in
-    sym (ap (λ (s : Sought). which_of (length second) (sought_one model index region_at s)) c.in-Beyond.is)
