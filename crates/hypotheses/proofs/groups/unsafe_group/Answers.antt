@@ -31,10 +31,6 @@ unsafe_table-segments-requires c = record { good_paper = c.requires.good_paper; 
 pub lines-hypotheses-requires : goal.lines-hypotheses-requires
 lines-hypotheses-requires c = let k = c.unsafe_table-segments in (omega (arith, k.auto.table, c.requires.stands.1.1.0), omega (arith, k.ensures.onto.few))
 
-pub overflow_cast-result : goal.overflow_cast-result
-unfolding entry
-overflow_cast-result c = omega (arith, c.requires.good_paper.good.most)
-
 pub shape_of-table : goal.shape_of-table
 shape_of-table c = c.unsafe_table-segments.auto.table
 
@@ -47,6 +43,6 @@ returns c =
     let fits = c.modes_fit in
     let fine = unsafe-fine c.args.model.now c.args.index.now c.args.second.now c.args.regions.now c.args.modes c.args.location (long (goal.at.returns c).Start) p.stands.0.known p.good_paper p.stands.0.below c.args.u p.stands.1.0 in
     record {
-      result_after = rw (c.lines-hypotheses.ensures, c.version_of-version.ensures) (unsafe-tasks _ _ _ _ c.args.modes _ (long (goal.at.returns c).Start) p.stands.0 _ k.result _ c.args.u p.stands.1.0 lines (sym (test-passed fits.result (ap not c.if-not-modes_fit.false) fits.ensures)));
-      good_group = rw (c.lines-hypotheses.ensures, c.version_of-version.ensures) (unsafe-good _ c.args.index.now _ _ k.result _ _ k.ensures.onto.stacked (omega (arith, k.ensures.onto.few)) lines fine (omega arith) (omega (arith, p.good_paper.good.most)));
+      result_after = rw (c.lines-hypotheses.ensures, c.version_of-version.ensures, c.from.ensures) (unsafe-tasks _ _ _ _ c.args.modes _ (long (goal.at.returns c).Start) p.stands.0 _ k.result _ c.args.u p.stands.1.0 lines (sym (test-passed fits.result (ap not c.if-not-modes_fit.false) fits.ensures)));
+      good_group = rw (c.lines-hypotheses.ensures, c.version_of-version.ensures, c.from.ensures) (unsafe-good _ c.args.index.now _ _ k.result _ _ k.ensures.onto.stacked (omega (arith, k.ensures.onto.few)) lines fine (omega arith) (omega (arith, p.good_paper.good.most)));
     }
