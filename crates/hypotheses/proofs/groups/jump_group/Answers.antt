@@ -23,22 +23,6 @@ use Rattle.hypotheses.proofs.groups.jump_group.Goals as goal
 switches-length : (c : Start) → length c.args.landing.switches ≡ 4
 switches-length c = search rules
 
-pub jump_table-segments-requires : goal.jump_table-segments-requires
-jump_table-segments-requires c =
-    let told = c.modes_at-targets in
-    let there = stands_at_lem c.args.model.now c.args.index.now c.args.landing.target told.result _ c.requires.good_paper.good c.requires.target_bound.0 told.ensures in record { good_index = (c.requires.good_paper.good, (c.requires.good_paper.short, (there.known, c.requires.target_bound.1))); in_bounds = (c.requires.in_bounds.0, (c.requires.in_bounds.1.few, c.requires.in_bounds.1.stacked)) }
-
-pub overflow_add-n : goal.overflow_add-n
-unfolding entry
-overflow_add-n c = omega (arith, c.requires.good_paper.good.most, c.from-n.ensures)
-
-pub region_group-requires : goal.region_group-requires
-region_group-requires c =
-    let k = c.jump_table-segments in record { in_bounds = (search rules, omega (arith, c.requires.target_bound.0, c.requires.good_paper.few)); in_bounds_2 = (omega (arith, k.auto.table, c.requires.in_bounds.0), omega (arith, k.ensures.onto.few, c.requires.in_bounds.1.few)) }
-
-pub shape_of-table : goal.shape_of-table
-shape_of-table c = c.jump_table-segments.auto.table
-
 pub returns : goal.returns
 unfolding entry jump_lines
 returns c =
@@ -64,3 +48,8 @@ returns c =
     k.ensures.result_after ∙ ap (λ (ls : List TableLine). ls ++ landing_lines model index (per_component index told.result) switches) (here.told ∙ ap (here_lines index regions location) (sym stands.here)) in
     let fine = jump-fine model index second regions modes location long stands.known c.requires.good_paper here.below told.result switches wide there.known broad c.requires.target_bound.1 in
     let same : c.region_group.result ≡ region_group (entry index 11) regions to table k.result n (n + n) = c.region_group.ensures ∙ ap (λ (m : ℕ). region_group (entry index 11) regions to table k.result m (m + m)) c.from-n.ensures in record { result_after = ap (tasks_of model second n table) same ∙ jump-tasks model index second regions modes location long stands table k.result (n + n) to told.result switches wide there broad c.requires.target_bound.1 c.requires.good_paper.good lines; good_group = subst (λ (g : Group). GoodGroup model second n table g) (sym same) (region-good model index second regions table to k.result n (n + n) _ c.requires.good_paper c.requires.target_bound.0 k.ensures.onto.stacked (omega (arith, k.ensures.onto.few, here.few)) lines fine (omega arith) (omega (arith, c.requires.good_paper.good.most))); kept = k.ensures.onto.kept }
+
+pub jump_table-segments-requires : goal.jump_table-segments-requires
+jump_table-segments-requires c =
+    let told = c.modes_at-targets in
+    let there = stands_at_lem c.args.model.now c.args.index.now c.args.landing.target told.result _ c.requires.good_paper.good c.requires.target_bound.0 told.ensures in record { good_index = (c.requires.good_paper.good, (c.requires.good_paper.short, (there.known, c.requires.target_bound.1))); in_bounds = (c.requires.in_bounds.0, (c.requires.in_bounds.1.few, c.requires.in_bounds.1.stacked)) }

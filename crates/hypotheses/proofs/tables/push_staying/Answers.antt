@@ -1,6 +1,6 @@
 -- Owners alone where no blank is kept; else the variables that a jump keeps. Assumes nothing.
 use mathlib.Core.Path.{◌≡◌, sym, ap, ◌∙◌}
-use mathlib.Core.Bool.{Bool, false}
+use mathlib.Core.Bool.{false}
 use mathlib.Core.List.{List, ◌++◌}
 use Prim.Native.Nat.{ℕ, ◌<◌}
 use native.Mathlib.Omega.{arith}
@@ -26,9 +26,9 @@ push_those-requires-clause-n_bound c = omega (arith, many (goal.at.push_those-re
 pub push_those-requires-clause-kept_called : goal.push_those-requires-clause-kept_called
 push_those-requires-clause-kept_called c =
     λ v h.
-      let owned : Owned c.args.index.now = owners-known c.requires.good_index.0 in
-      let within : v < entry c.args.index.now 0 = omega (arith, h, many (goal.at.push_those-requires-clause-kept_called c).After-from-n) in
-      search rules
+    let owned : Owned c.args.index.now = owners-known c.requires.good_index.0 in
+    let within : v < entry c.args.index.now 0 = omega (arith, h, many (goal.at.push_those-requires-clause-kept_called c).After-from-n) in
+    search rules
 
 pub returns-then-not-keeps_blanks-clause-result_after : goal.returns-then-not-keeps_blanks-clause-result_after
 returns-then-not-keeps_blanks-clause-result_after c =
@@ -46,8 +46,8 @@ pub push_those-requires-2-clause-kept_called : goal.push_those-requires-2-clause
 unfolding KnownIn
 push_those-requires-2-clause-kept_called c =
     λ v h.
-      let within : v < entry c.args.index.now 0 = omega (arith, h, many (goal.at.push_those-requires-2-clause-kept_called c).After-from-n) in
-      search rules
+    let within : v < entry c.args.index.now 0 = omega (arith, h, many (goal.at.push_those-requires-2-clause-kept_called c).After-from-n) in
+    search rules
 
 pub returns-clause-result_after : goal.returns-clause-result_after
 returns-clause-result_after c =

@@ -16,8 +16,8 @@ loop-v-preserved g c =
     let h = c.loop-v-test.true in
     pushing-on l.invariant {xs = variable_line c.kept.result l.v}
     (λ i.
-      joined-first (variable_at i.0) _ _ h
-      ∙ ap (λ (b : Bool). variable_line b l.v ++ joined_on (variable_at i.0) c.args.n (l.v + 1)) (sym (i.1 l.v c.kept.result h c.kept.ensures)))
+    joined-first (variable_at i.0) _ _ h
+    ∙ ap (λ (b : Bool). variable_line b l.v ++ joined_on (variable_at i.0) c.args.n (l.v + 1)) (sym (i.1 l.v c.kept.result h c.kept.ensures)))
     (pushed (k.ensures.result_after, k.ensures.onto))
 
 pub returns-clause-result_after : goal.returns-clause-result_after
