@@ -245,9 +245,6 @@ pub record Pushing {I : Type 0} (on : I → ℕ → List TableLine) (before : Li
   pub pushed : Pushed before at lines k after r
   pub whole : (i : I) → lines ++ on i k ≡ on i 0
 
-pub pushing-none : {I : Type 0} {on : I → ℕ → List TableLine} {at : ℕ} {table : List ℕ} → Stacked table at → Pushing on table at 0 table at
-pushing-none {at = at} {table = table} s = record { lines = []; pushed = pushed_none table at 0 s; whole = λ i. refl }
-
 module _ {I : Type 0} {on : I → ℕ → List TableLine} {at k r : ℕ} {before after : List ℕ} (w : Pushing on before at k after r) where
   pub pushing-on : {next : List ℕ} {to : ℕ} {xs : List TableLine} → ((i : I) → on i k ≡ xs ++ on i (k + 1)) → Pushed after r xs 1 next to → Pushing on before at (k + 1) next to
   pushing-on {xs = xs} e p =
@@ -256,9 +253,6 @@ module _ {I : Type 0} {on : I → ℕ → List TableLine} {at k r : ℕ} {before
         pushed = pushed_then w.pushed p (omega arith);
         whole = λ i. append_assoc w.lines xs (on i (k + 1)) ∙ ap (λ (ys : List TableLine). w.lines ++ ys) (sym (e i)) ∙ w.whole i;
       }
-
-  pub pushing-onto : {most : ℕ} → k ≤ most → Onto before at most after r
-  pushing-onto h = (pushed-fewer h w.pushed).onto
 
   pub pushing-end : {most : ℕ} (i : I) → on i k ≡ [] → k ≤ most → Pushed before at (on i 0) most after r
   pushing-end i e h =
