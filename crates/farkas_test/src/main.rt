@@ -8,11 +8,11 @@
 mod rates;
 mod strict;
 
-ghost use Rattle.std.specs.Prelude.{◌≡◌, ◌+◌, ◌*◌, ◌^◌, ◌≤◌, ◌<◌, pos, nat_abs, length, replicate};
+ghost use Rattle.std.specs.Prelude.{◌≡◌, ◌+◌, ◌*◌, ◌^◌, ◌≤◌, ◌<◌, pos, length, replicate};
 ghost use Rattle.farkas.specs.Words.{NumbersIn};
 ghost use Rattle.farkas.specs.Rows.{row_of};
 ghost use Rattle.farkas.specs.Farkas.{number_of};
-ghost use Rattle.farkas.specs.Sizes.{Within};
+ghost use Rattle.farkas.specs.Sizes.{Bytes, Within};
 
 use farkas::words::signed_word;
 use farkas::{Bound, Mismatch};
@@ -31,48 +31,84 @@ const LOWEST: [u8; 8] = [128, 0, 0, 0, 128, 0, 0, 0];
 // The largest multiplier and the largest k, 2^24 − 1.
 const LARGEST: u32 = 16777215;
 
-// The sums with a row on the unknowns from `shift` on, m times, added by each of so many entries; so many were added before. The bound is
-// told. Sums of 128 entries fit.
-fn entries(
-    sums: &mut [i64],
-    bound: i64,
-    before: u32,
-    count: u32,
-    m: u32,
-    shift: usize,
-    words: &[u8],
+// A row in bytes, of n coefficients and a bound, whose coefficients stand on the unknowns from `shift` on.
+#[derive(Clone, Copy)]
+struct Row<'a> {
+    words: &'a [u8],
     n: usize,
-) -> i64
+    shift: usize,
+    ghost whole: { NumbersIn words.now 0 (n + 1) },
+    ghost bytes: { Bytes words.now },
+}
+
+impl<'a> Row<'a> {
+    fn new(words: &'a [u8], n: usize, shift: usize) -> Row<'a>
+        requires { NumbersIn words.now 0 (n + 1) }
+        ensures { (result.n ≡ n) × (result.shift ≡ shift) }
+    {
+        Row { words, n, shift }
+    }
+
+    // A row of one coefficient.
+    fn on(words: &'a [u8], shift: usize) -> Row<'a>
+        requires { NumbersIn words.now 0 2 }
+        ensures { (result.n ≡ 1) × (result.shift ≡ shift) }
+    {
+        Row::new(words, 1, shift)
+    }
+
+    // The coefficient of an unknown.
+    fn coefficient(self, unknown: usize) -> i64 {
+        if unknown < self.shift || self.n <= unknown - self.shift {
+            return 0;
+        }
+        signed_word(self.words, 4 * (unknown - self.shift))
+    }
+
+    fn bound(self) -> i64 {
+        signed_word(self.words, 4 * self.n)
+    }
+}
+
+// What sums are tested against: k times a row, which must be met strictly or need not.
+#[derive(Clone, Copy)]
+struct Goal<'a> {
+    row: Row<'a>,
+    k: u32,
+    must: bool,
+}
+
+// The sums with a row, m times, added by each of so many entries; so many were added before. The bound is told. Sums of 128 entries fit.
+fn entries(sums: &mut [i64], bound: i64, before: u32, count: u32, m: u32, row: Row) -> i64
     requires within { Within (before * 2 ^ 55) (row_of sums.old bound) }
     requires count_bound { (before + count ≤ 128) × (m < 2 ^ 24) }
-    requires n_in_bounds { (shift + n ≤ length sums.old) × NumbersIn words.now 0 (n + 1) }
+    requires row_in_bounds { row.shift + row.n ≤ length sums.old }
     ensures { Within ((before + count) * 2 ^ 55) (row_of sums.new result) }
 {
     let mut sum = bound;
     for _i in 0..count {
-        sum = farkas::add_row(sums, sum, m, shift, words, 0, n);
+        sum = farkas::add_row(sums, sum, m, row.shift, row.words, 0, row.n);
     }
     sum
 }
 
 // The same where nothing was added before, so that all sums are 0.
-fn first_entries(sums: &mut [i64], count: u32, m: u32, shift: usize, words: &[u8], n: usize) -> i64
+fn first_entries(sums: &mut [i64], count: u32, m: u32, row: Row) -> i64
     requires sums_value { sums.old ≡ replicate (length sums.old) (pos 0) }
     requires count_bound { (count ≤ 128) × (m < 2 ^ 24) }
-    requires n_in_bounds { (shift + n ≤ length sums.old) × NumbersIn words.now 0 (n + 1) }
+    requires row_in_bounds { row.shift + row.n ≤ length sums.old }
     ensures { Within (count * 2 ^ 55) (row_of sums.new result) }
 {
-    entries(sums, 0, 0, count, m, shift, words, n)
+    entries(sums, 0, 0, count, m, row)
 }
 
-// The sums of two entries of rows on x: one m times, and one more.
-fn two_entries(sums: &mut [i64], m: u32, words: &[u8], more: &[u8]) -> i64
-    requires sums_value { (sums.old ≡ replicate (length sums.old) (pos 0)) × ((1 ≤ length sums.old) × (m < 2 ^ 24)) }
-    requires in_bounds { (8 ≤ length words.now) × (length words.now < 2 ^ 20) }
-    requires in_bounds_2 { (8 ≤ length more.now) × (length more.now < 2 ^ 20) }
+// The sums of two entries: of one row m times, and of one more.
+fn two_entries(sums: &mut [i64], m: u32, row: Row, more: Row) -> i64
+    requires sums_value { (sums.old ≡ replicate (length sums.old) (pos 0)) × (m < 2 ^ 24) }
+    requires row_in_bounds { (row.shift + row.n ≤ length sums.old) × (more.shift + more.n ≤ length sums.old) }
 {
-    let bound = first_entries(sums, 1, m, 0, words, 1);
-    entries(sums, bound, 1, 1, 1, 0, more, 1)
+    let bound = first_entries(sums, 1, m, row);
+    entries(sums, bound, 1, 1, 1, more)
 }
 
 // The sums of so many entries, m times each, of a row on the rates of n unknowns. The bound is 0.
@@ -87,64 +123,32 @@ fn entries_on_rates(sums: &mut [i64], count: u32, m: u32, words: &[u8], n: usize
     }
 }
 
-// The size of a number.
-fn size(x: i64) -> u64
-    ensures { result ≡ nat_abs x }
-{
-    if x < 0 {
-        return (-(x + 1)) as u64 + 1;
-    }
-    x as u64
-}
-
-// Writes text to standard output.
-fn print(rt: &impl Print, text: &[u8]) -> io::Result<()> {
-    rt.write_all(text)
-}
-
-// Writes a space and a number.
-fn print_number(rt: &impl Print, x: i64) -> io::Result<()> {
-    if x < 0 {
-        print(rt, b" -")?;
-    } else {
-        print(rt, b" ")?;
-    }
-    rt.print(size(x))
-}
-
-// Writes the sums and the bound.
-fn print_sums(rt: &impl Print, sums: &[i64], bound: i64) -> io::Result<()> {
-    print(rt, b": sums")?;
+// Writes the sums and the bound, marked where they are strict.
+fn print_sums(rt: &impl Print, sums: &[i64], bound: Bound) -> io::Result<()> {
+    print!(rt; ": sums")?;
     for sum in sums {
-        print_number(rt, *sum)?;
+        print!(rt; " {sum}")?;
     }
-    print(rt, b" bound")?;
-    print_number(rt, bound)
+    print!(rt; " bound {}{}", bound.value, mark(bound.strict))
 }
 
-// The coefficient of an unknown in a row that stands on the unknowns from `shift` on.
-fn coefficient(unknown: usize, shift: usize, words: &[u8], n: usize) -> i64
-    requires { NumbersIn words.now 0 (n + 1) }
-{
-    if unknown < shift {
-        return 0;
-    }
-    if unknown - shift < n {
-        return signed_word(words, 4 * (unknown - shift));
-    }
-    0
-}
-
-// Writes the goal: its coefficients at so many unknowns, and its bound.
-fn print_goal(rt: &impl Print, width: usize, shift: usize, words: &[u8], n: usize) -> io::Result<()>
-    requires { NumbersIn words.now 0 (n + 1) }
-{
-    print(rt, b", goal")?;
+// Writes the goal: its coefficients at so many unknowns, and its bound, marked where it must be met strictly; and k.
+fn print_goal(rt: &impl Print, width: usize, goal: Goal) -> io::Result<()> {
+    print!(rt; ", goal")?;
     for i in 0..width {
-        print_number(rt, coefficient(i, shift, words, n))?;
+        print!(rt; " {}", goal.row.coefficient(i))?;
     }
-    print(rt, b" bound")?;
-    print_number(rt, signed_word(words, 4 * n))
+    print!(rt;
+        " bound {}{}, k {}",
+        goal.row.bound(),
+        mark(goal.must),
+        goal.k
+    )
+}
+
+// The mark of strict sums, or of a goal that must be met strictly.
+fn mark(strict: bool) -> &'static str {
+    if strict { " strict" } else { "" }
 }
 
 // The number of what the test finds.
@@ -159,12 +163,6 @@ fn number(found: Result<(), Mismatch>) -> u64
     }
 }
 
-// Writes the number of what the test finds, and ends the line.
-fn print_number_of(rt: &impl Print, found: Result<(), Mismatch>) -> io::Result<()> {
-    print(rt, b": ")?;
-    rt.println(number(found))
-}
-
 // A summed bound without a strict row among the summed.
 fn plain(value: i64) -> Bound {
     Bound {
@@ -173,64 +171,52 @@ fn plain(value: i64) -> Bound {
     }
 }
 
-// Writes the mark of strict sums, or of a goal that must be met strictly.
-fn print_mark(rt: &impl Print, strict: bool) -> io::Result<()> {
-    if strict {
-        print(rt, b" strict")?;
-    }
-    Ok(())
-}
-
-// Tests sums with this k against a goal on the unknowns from `shift` on, strict where it must be, and writes the line.
+// Tests sums against a goal, and writes the line.
 fn try_marked(
     rt: &impl Print,
-    name: &[u8],
+    name: &str,
     sums: &mut [i64],
     bound: Bound,
-    k: u32,
-    shift: usize,
-    words: &[u8],
-    n: usize,
-    must: bool,
+    goal: Goal,
 ) -> io::Result<()>
-    requires { (shift + n ≤ length sums.old) × NumbersIn words.now 0 (n + 1) }
+    requires { goal.row.shift + goal.row.n ≤ length sums.old }
 {
-    print(rt, name)?;
-    print_sums(rt, sums, bound.value)?;
-    print_mark(rt, bound.strict)?;
-    print_goal(rt, sums.len(), shift, words, n)?;
-    print_mark(rt, must)?;
-    print(rt, b", k ")?;
-    rt.print(k)?;
-    print_number_of(rt, farkas::judge(sums, bound, k, shift, words, 0, n, must))
+    print!(rt; "{name}")?;
+    print_sums(rt, sums, bound)?;
+    print_goal(rt, sums.len(), goal)?;
+    let row = goal.row;
+    let found = farkas::judge(
+        sums, bound, goal.k, row.shift, row.words, 0, row.n, goal.must,
+    );
+    println!(rt; ": {}", number(found))
 }
 
 // The same where nothing is strict.
 fn try_sums(
     rt: &impl Print,
-    name: &[u8],
+    name: &str,
     sums: &mut [i64],
     bound: i64,
     k: u32,
-    shift: usize,
-    words: &[u8],
-    n: usize,
+    row: Row,
 ) -> io::Result<()>
-    requires { (shift + n ≤ length sums.old) × NumbersIn words.now 0 (n + 1) }
+    requires { row.shift + row.n ≤ length sums.old }
 {
-    try_marked(rt, name, sums, plain(bound), k, shift, words, n, false)
+    let must = false;
+    try_marked(rt, name, sums, plain(bound), Goal { row, k, must })
 }
 
 // The same where the goal is 0 ≤ 0 and k is 0.
-fn try_zero_marked(rt: &impl Print, name: &[u8], sums: &[i64], bound: Bound) -> io::Result<()> {
-    print(rt, name)?;
-    print_sums(rt, sums, bound.value)?;
-    print_mark(rt, bound.strict)?;
-    print(rt, b", goal 0 bound 0, k 0")?;
-    print_number_of(rt, farkas::judge_zero(sums, bound))
+fn try_zero_marked(rt: &impl Print, name: &str, sums: &[i64], bound: Bound) -> io::Result<()> {
+    print!(rt; "{name}")?;
+    print_sums(rt, sums, bound)?;
+    println!(rt;
+        ", goal 0 bound 0, k 0: {}",
+        number(farkas::judge_zero(sums, bound))
+    )
 }
 
-fn try_zero(rt: &impl Print, name: &[u8], sums: &[i64], bound: i64) -> io::Result<()> {
+fn try_zero(rt: &impl Print, name: &str, sums: &[i64], bound: i64) -> io::Result<()> {
     try_zero_marked(rt, name, sums, plain(bound))
 }
 
@@ -238,45 +224,37 @@ fn try_zero(rt: &impl Print, name: &[u8], sums: &[i64], bound: i64) -> io::Resul
 // the second line shows it, by a test at k 0 with a bound below 0.
 fn start_proof(rt: &impl Print) -> io::Result<()> {
     let mut sums = [0i64; 1];
-    let bound = first_entries(&mut sums, 1, 1, 0, &REGION, 1);
-    try_sums(rt, b"start", &mut sums, bound, 1, 0, &REGION, 1)?;
-    try_zero(rt, b"sums after the start", &sums, -1)
+    let bound = first_entries(&mut sums, 1, 1, Row::on(&REGION, 0));
+    try_sums(rt, "start", &mut sums, bound, 1, Row::on(&REGION, 0))?;
+    try_zero(rt, "sums after the start", &sums, -1)
 }
 
 // C's second proof: k 1, entry 2:1. Hypotheses: the region and the invariant on x, the invariant on x', the two flow rows, −d ≤ 0. Goal:
 // the region on x'.
 fn flow_proof(rt: &impl Print) -> io::Result<()> {
     let mut sums = [0i64; 3];
-    let bound = first_entries(&mut sums, 1, 1, 1, &REGION, 1);
-    try_sums(rt, b"flow", &mut sums, bound, 1, 1, &REGION, 1)?;
-    try_zero(rt, b"sums after the flow", &sums, -1)
+    let bound = first_entries(&mut sums, 1, 1, Row::on(&REGION, 1));
+    try_sums(rt, "flow", &mut sums, bound, 1, Row::on(&REGION, 1))?;
+    try_zero(rt, "sums after the flow", &sums, -1)
 }
 
 // The same with the entry 1:1: the sums are those of the goal, but on x, and the goal stands on x'.
 fn flow_from(rt: &impl Print) -> io::Result<()> {
     let mut sums = [0i64; 3];
-    let bound = first_entries(&mut sums, 1, 1, 0, &REGION, 1);
-    try_sums(
-        rt,
-        b"flow, the sums on x",
-        &mut sums,
-        bound,
-        1,
-        1,
-        &REGION,
-        1,
-    )
+    let bound = first_entries(&mut sums, 1, 1, Row::on(&REGION, 0));
+    let row = Row::on(&REGION, 1);
+    try_sums(rt, "flow, the sums on x", &mut sums, bound, 1, row)
 }
 
 // C's third proof: k 0, entries 0:1 and 2:1. Hypotheses: the region, the invariant, the unsafe row. The goal is 0 ≤ 0. With the first
 // entry alone x is left.
 fn unsafe_proof(rt: &impl Print) -> io::Result<()> {
     let mut sums = [0i64; 1];
-    let bound = two_entries(&mut sums, 1, &REGION, &UNSAFE);
-    try_zero(rt, b"unsafe", &sums, bound)?;
+    let bound = two_entries(&mut sums, 1, Row::on(&REGION, 0), Row::on(&UNSAFE, 0));
+    try_zero(rt, "unsafe", &sums, bound)?;
     let mut one = [0i64; 1];
-    let bound = first_entries(&mut one, 1, 1, 0, &REGION, 1);
-    try_zero(rt, b"unsafe, first entry alone", &one, bound)
+    let bound = first_entries(&mut one, 1, 1, Row::on(&REGION, 0));
+    try_zero(rt, "unsafe, first entry alone", &one, bound)
 }
 
 // No entries with k 0: the sum 0 is not below 0. That the number is 11 is proved, not only tried.
@@ -294,90 +272,75 @@ fn none_refused() {
 fn no_entries(rt: &impl Print) -> io::Result<()> {
     none_refused();
     let mut sums = [0i64; 1];
-    try_zero(rt, b"no entries", &sums, 0)?;
-    try_sums(
-        rt,
-        b"no entries, a row of zeros",
-        &mut sums,
-        0,
-        0,
-        0,
-        &ZEROS,
-        1,
-    )
+    try_zero(rt, "no entries", &sums, 0)?;
+    let row = Row::on(&ZEROS, 0);
+    try_sums(rt, "no entries, a row of zeros", &mut sums, 0, 0, row)
 }
 
 // Three times the region and a row more, against the region with k 3.
-fn try_bound(rt: &impl Print, name: &[u8], more: &[u8]) -> io::Result<()>
-    requires { (8 ≤ length more.now) × (length more.now < 2 ^ 20) }
+fn try_bound(rt: &impl Print, name: &str, more: &[u8]) -> io::Result<()>
+    requires { NumbersIn more.now 0 2 }
 {
     let mut sums = [0i64; 1];
-    let bound = two_entries(&mut sums, 3, &REGION, more);
-    try_sums(rt, name, &mut sums, bound, 3, 0, &REGION, 1)
+    let bound = two_entries(&mut sums, 3, Row::on(&REGION, 0), Row::on(more, 0));
+    try_sums(rt, name, &mut sums, bound, 3, Row::on(&REGION, 0))
 }
 
 // Bounds: that of C's first proof against a region x ≤ 9; and with 0 ≤ 0, 0 ≤ 1 and 0 ≤ −1 added.
 fn bounds(rt: &impl Print) -> io::Result<()> {
     let mut sums = [0i64; 1];
-    let bound = first_entries(&mut sums, 1, 1, 0, &REGION, 1);
-    try_sums(
-        rt,
-        b"region bound 9",
-        &mut sums,
-        bound,
-        1,
-        0,
-        b"\0\0\0\x01\0\0\0\x09",
-        1,
-    )?;
-    try_bound(rt, b"bound equal", &ZEROS)?;
-    try_bound(rt, b"bound one above", b"\0\0\0\0\0\0\0\x01")?;
-    try_bound(rt, b"bound one below", b"\0\0\0\0\xff\xff\xff\xff")
+    let bound = first_entries(&mut sums, 1, 1, Row::on(&REGION, 0));
+    let row = Row::on(b"\0\0\0\x01\0\0\0\x09", 0);
+    try_sums(rt, "region bound 9", &mut sums, bound, 1, row)?;
+    try_bound(rt, "bound equal", &ZEROS)?;
+    try_bound(rt, "bound one above", b"\0\0\0\0\0\0\0\x01")?;
+    try_bound(rt, "bound one below", b"\0\0\0\0\xff\xff\xff\xff")
 }
 
 // A row of 17 coefficients, 1 at the last, twice, against itself with this k.
-fn try_last(rt: &impl Print, name: &[u8], k: u32) -> io::Result<()> {
-    let mut row = [0u8; 72];
-    row[67] = 1;
+fn try_last(rt: &impl Print, name: &str, k: u32) -> io::Result<()> {
+    let mut words = [0u8; 72];
+    words[67] = 1;
+    let row = Row::new(&words, 17, 0);
     let mut sums = [0i64; 17];
-    let bound = first_entries(&mut sums, 1, 2, 0, &row, 17);
-    try_sums(rt, name, &mut sums, bound, k, 0, &row, 17)
+    let bound = first_entries(&mut sums, 1, 2, row);
+    try_sums(rt, name, &mut sums, bound, k, row)
 }
 
 // Coefficients that differ: at the first unknown, where C's first multiplier is 2, and at the last.
 fn coefficients(rt: &impl Print) -> io::Result<()> {
     let mut sums = [0i64; 1];
-    let bound = first_entries(&mut sums, 1, 2, 0, &REGION, 1);
-    try_sums(rt, b"first differs", &mut sums, bound, 1, 0, &REGION, 1)?;
-    try_last(rt, b"last differs", 1)?;
-    try_last(rt, b"last agrees", 2)
+    let bound = first_entries(&mut sums, 1, 2, Row::on(&REGION, 0));
+    try_sums(
+        rt,
+        "first differs",
+        &mut sums,
+        bound,
+        1,
+        Row::on(&REGION, 0),
+    )?;
+    try_last(rt, "last differs", 1)?;
+    try_last(rt, "last agrees", 2)
 }
 
 // So many entries with the largest multiplier of the row with the lowest numbers, −2^31, against that row with the largest k.
-fn try_lowest(rt: &impl Print, name: &[u8], count: u32) -> io::Result<()>
+fn try_lowest(rt: &impl Print, name: &str, count: u32) -> io::Result<()>
     requires { count ≤ 128 }
 {
+    let row = Row::on(&LOWEST, 0);
     let mut sums = [0i64; 1];
-    let bound = first_entries(&mut sums, count, LARGEST, 0, &LOWEST, 1);
-    try_sums(rt, name, &mut sums, bound, LARGEST, 0, &LOWEST, 1)
+    let bound = first_entries(&mut sums, count, LARGEST, row);
+    try_sums(rt, name, &mut sums, bound, LARGEST, row)
 }
 
 // The largest numbers: 128 entries with the largest multiplier, and the largest k. On rates the lowest row has 2^31 on x and on d.
 fn extremes(rt: &impl Print) -> io::Result<()> {
-    try_lowest(rt, b"128 entries", 128)?;
-    try_lowest(rt, b"largest k", 1)?;
+    try_lowest(rt, "128 entries", 128)?;
+    try_lowest(rt, "largest k", 1)?;
     let mut sums = [0i64; 3];
     entries_on_rates(&mut sums, 128, LARGEST, &LOWEST, 1);
-    try_sums(
-        rt,
-        b"128 entries on rates",
-        &mut sums,
-        0,
-        LARGEST,
-        1,
-        &LOWEST,
-        1,
-    )
+    let row = Row::on(&LOWEST, 1);
+    try_sums(rt, "128 entries on rates", &mut sums, 0, LARGEST, row)
 }
 
 fn main(rt: HostRuntime) -> io::Result<()> {

@@ -3,7 +3,7 @@ ghost use Rattle.std.specs.Prelude.{◌≡◌, ◌*◌, ◌^◌, ◌≤◌, pos,
 ghost use Rattle.farkas.specs.Rows.{row_of};
 ghost use Rattle.farkas.specs.Sizes.{Within};
 
-use crate::{entries, entries_on_rates, try_sums};
+use crate::{Row, entries, entries_on_rates, try_sums};
 use std::io;
 
 // −x ≤ −5; and −x ≤ −1.
@@ -17,7 +17,7 @@ fn rising(sums: &mut [i64]) -> i64
     ensures { Within (2 * 2 ^ 55) (row_of sums.new result) }
 {
     entries_on_rates(sums, 1, 1, &FROM_ONE, 1);
-    entries(sums, 0, 1, 1, 1, 0, &FROM_FIVE, 1)
+    entries(sums, 0, 1, 1, 1, Row::on(&FROM_FIVE, 0))
 }
 
 // The same with −d ≤ 0 added.
@@ -31,19 +31,11 @@ fn rising_in_time(sums: &mut [i64]) -> i64
 
 // Where the rates are from 1 on, x from 5 on stays there: the sums show −x' ≤ −5, and without −d ≤ 0 they do not.
 pub(crate) fn over_time(rt: &impl Print) -> io::Result<()> {
+    let row = Row::on(&FROM_FIVE, 1);
     let mut sums = [0i64; 3];
     let bound = rising_in_time(&mut sums);
-    try_sums(rt, b"rising", &mut sums, bound, 1, 1, &FROM_FIVE, 1)?;
+    try_sums(rt, "rising", &mut sums, bound, 1, row)?;
     let mut without = [0i64; 3];
     let bound = rising(&mut without);
-    try_sums(
-        rt,
-        b"rising, time left out",
-        &mut without,
-        bound,
-        1,
-        1,
-        &FROM_FIVE,
-        1,
-    )
+    try_sums(rt, "rising, time left out", &mut without, bound, 1, row)
 }

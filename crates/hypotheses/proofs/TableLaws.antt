@@ -238,28 +238,22 @@ pushed-fewer h p =
     let f = p.onto in
     record { told = p.told; onto = record { stacked = f.stacked; kept = f.kept; least = f.least; few = omega (arith, f.few) } }
 
--- A loop that pushes one segment in a turn: what is there, with what is still to push from number k on, is the whole
-pub record Pushing (on : ℕ → List TableLine) (n : ℕ) (before : List ℕ) (at k : ℕ) (after : List ℕ) (r : ℕ) : Type 0 where
-  pub same : length after ≡ length before
-  pub within : k ≤ n
+-- A loop that pushes at most one segment in a turn: what is there, with what is still to push from number k on, is the whole. Where tests
+-- decide what is pushed, that holds by each of them
+pub record Pushing {I : Type 0} (on : I → ℕ → List TableLine) (before : List ℕ) (at k : ℕ) (after : List ℕ) (r : ℕ) : Type 0 where
   pub lines : List TableLine
   pub pushed : Pushed before at lines k after r
-  pub whole : lines ++ on k ≡ on 0
+  pub whole : (i : I) → lines ++ on i k ≡ on i 0
 
-pub pushing-none : {on : ℕ → List TableLine} {n at : ℕ} {table : List ℕ} → Stacked table at → Pushing on n table at 0 table at
-pushing-none {at = at} {table = table} s = record { same = refl; within = omega arith; lines = []; pushed = pushed_none table at 0 s; whole = refl }
-
-module _ {on : ℕ → List TableLine} {n at k r : ℕ} {before after : List ℕ} (w : Pushing on n before at k after r) where
-  pub pushing-on : {next : List ℕ} {to : ℕ} {xs : List TableLine} → length next ≡ length after → k < n → on k ≡ xs ++ on (k + 1) → Pushed after r xs 1 next to → Pushing on n before at (k + 1) next to
-  pushing-on {xs = xs} same h e p =
+module _ {I : Type 0} {on : I → ℕ → List TableLine} {at k r : ℕ} {before after : List ℕ} (w : Pushing on before at k after r) where
+  pub pushing-on : {next : List ℕ} {to : ℕ} {xs : List TableLine} → ((i : I) → on i k ≡ xs ++ on i (k + 1)) → Pushed after r xs 1 next to → Pushing on before at (k + 1) next to
+  pushing-on {xs = xs} e p =
       record {
-        same = same ∙ w.same;
-        within = omega (arith, h);
         lines = w.lines ++ xs;
         pushed = pushed_then w.pushed p (omega arith);
-        whole = append_assoc w.lines xs (on (k + 1)) ∙ ap (λ (ys : List TableLine). w.lines ++ ys) (sym e) ∙ w.whole;
+        whole = λ i. append_assoc w.lines xs (on i (k + 1)) ∙ ap (λ (ys : List TableLine). w.lines ++ ys) (sym (e i)) ∙ w.whole i;
       }
 
-  pub pushing-end : {most : ℕ} → on k ≡ [] → n ≤ most → Pushed before at (on 0) most after r
-  pushing-end e h =
-      pushed-as (sym (append-nil w.lines) ∙ ap (λ (ys : List TableLine). w.lines ++ ys) (sym e) ∙ w.whole) (pushed-fewer (omega (arith, w.within, h)) w.pushed)
+  pub pushing-end : {most : ℕ} (i : I) → on i k ≡ [] → k ≤ most → Pushed before at (on i 0) most after r
+  pushing-end i e h =
+      pushed-as (sym (append-nil w.lines) ∙ ap (λ (ys : List TableLine). w.lines ++ ys) (sym e) ∙ w.whole i) (pushed-fewer h w.pushed)

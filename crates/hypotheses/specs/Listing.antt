@@ -50,6 +50,10 @@ variable_at test v = variable_line (test v) v
 unfoldable pub variable_lines : (ℕ → Bool) → ℕ → List TableLine
 variable_lines test n = join_all (variable_at test) (count_up 0 n)
 
+-- a closure whose calls at the numbers below n give what a test gives
+abbrev pub TestedBy : {F : Type 0} → (F → ℕ → Bool → Type 0) → F → ℕ → (ℕ → Bool) → Type 0
+TestedBy post f n test = (v : ℕ) (b : Bool) → v < n → post f v b → b ≡ test v
+
 -- of those that keep their value in a jump by these switches, and in a flow in these modes
 abbrev pub staying_lines : List ℕ → List ℕ → List ℕ → List TableLine
 staying_lines model index switches = variable_lines (rests_at model index switches) (entry index 0)

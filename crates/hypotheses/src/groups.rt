@@ -191,7 +191,7 @@ fn region_group(
     let version = version_of(index);
     let hypotheses = lines(table, segments);
     let goals = region_rows(regions, location);
-    let from = regions[2 * (location as usize)] as usize;
+    let from = usize::from(regions[2 * (location as usize)]);
     Group {
         version,
         segments,
@@ -234,7 +234,7 @@ fn start_group(
         table,
         segments,
         0,
-        index[VARIABLES_AT] as usize,
+        usize::from(index[VARIABLES_AT]),
     )
 }
 
@@ -257,7 +257,7 @@ fn flow_group(
         return no_group();
     }
     let segments = flow_table(model, index, second, regions, location, modes, table);
-    let n = index[VARIABLES_AT] as usize;
+    let n = usize::from(index[VARIABLES_AT]);
     region_group(index, regions, location, table, segments, n, n + n + 1)
 }
 
@@ -290,7 +290,7 @@ fn unsafe_group(
         goals: 1,
         from: 0,
         shift: 0,
-        width: index[VARIABLES_AT] as usize,
+        width: usize::from(index[VARIABLES_AT]),
         zero: true,
     }
 }
@@ -311,22 +311,14 @@ pub fn group_at(
     ensures result_after { tasks_of model.now second.now (variables_in index.now) table.new result ≡ group_tasks_for model.now index.now second.now regions.now location g }
     ensures good_group { GoodGroup model.now second.now (variables_in index.now) table.new result }
 {
-    if g == 0 {
-        return start_group(model, index, second, regions, location, modes, table);
+    match g {
+        0 => start_group(model, index, second, regions, location, modes, table),
+        1 => flow_group(model, index, second, regions, location, modes, table),
+        _ => {
+            let u = (g - 2) as usize;
+            unsafe_group(model, index, second, regions, location, modes, u, table)
+        }
     }
-    if g == 1 {
-        return flow_group(model, index, second, regions, location, modes, table);
-    }
-    unsafe_group(
-        model,
-        index,
-        second,
-        regions,
-        location,
-        modes,
-        (g - 2) as usize,
-        table,
-    )
 }
 
 // The proofs after a joint switch from a location, by the region of its target: its table goes on from the location's segments, which
@@ -351,6 +343,6 @@ pub fn jump_group(
     let targets = modes_at(model, index, landing.target);
     let switches = landing.switches;
     let segments = jump_table(model, index, targets, switches, here, table);
-    let n = index[VARIABLES_AT] as usize;
+    let n = usize::from(index[VARIABLES_AT]);
     region_group(index, regions, landing.target, table, segments, n, n + n)
 }

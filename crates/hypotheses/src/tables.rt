@@ -1,11 +1,10 @@
 // Tables of hypotheses, by pushes in the listed order. Hypotheses that stand one after the other are one segment of four numbers: how many
 // hypotheses there are up to its end, its form, its place, and its owner. Forms are those of specs/Tables.antt.
-ghost use Rattle.std.specs.Prelude.{◌≡◌, ◌++◌, ◌+◌, ◌*◌, ◌≤◌, ◌<◌, length};
-ghost use Rattle.models.specs.Index.{entry, components_in, variables_in, GoodIndex};
+ghost use Rattle.std.specs.Prelude.{Bool, ℕ, ◌≡◌, ◌++◌, ◌+◌, ◌*◌, ◌≤◌, ◌<◌, length};
+ghost use Rattle.models.specs.Index.{entry, components_in, GoodIndex};
 ghost use Rattle.models.specs.Counts.{per_component, KnownModes, KnownSwitches};
-ghost use Rattle.papers.specs.Blanks.{Owned, KnownIn, keeps_at, stays_at};
 ghost use Rattle.hypotheses.specs.Tables.{segment, end_of, Stacked, lines_in, Onto};
-ghost use Rattle.hypotheses.specs.Listing.{kept_lines, mode_lines, switch_line, switch_lines, variable_line, variable_lines, staying_lines, still_lines, FewRows, FewJumps, FewJump};
+ghost use Rattle.hypotheses.specs.Listing.{kept_lines, mode_lines, switch_line, switch_lines, variable_line, variable_lines, TestedBy, staying_lines, still_lines, FewRows, FewJumps, FewJump};
 
 use fields::versions::keeps_blanks;
 use models::layout::{COMPONENTS_AT, COUNT_AT, Index, VARIABLES_AT};
@@ -43,7 +42,7 @@ pub fn lines(table: &[u16], at: usize) -> u32
     requires { (96 ≤ length table.now) × (at ≤ 23) }
     ensures { result ≡ end_of table.now at }
 {
-    table[4 * at] as u32
+    u32::from(table[4 * at])
 }
 
 // The rows that two numbers of an index tell: the place of the first, and how many.
@@ -77,10 +76,8 @@ pub fn push_modes(
     ensures result_after { lines_in table.new result ≡ lines_in table.old at ++ (mode_lines form offset index.now 0 (per_component index.now modes)) }
     ensures onto { Onto table.old at 4 table.new result }
 {
-    let components = index[COMPONENTS_AT] as usize;
     let mut to = at;
-    let mut k: usize = 0;
-    while k < components {
+    for k in 0..usize::from(index[COMPONENTS_AT]) {
         let component = k as u16;
         to = push_kept(
             index,
@@ -90,7 +87,6 @@ pub fn push_modes(
             table,
             to,
         );
-        k += 1;
     }
     to
 }
@@ -115,12 +111,9 @@ pub fn push_switches(index: &Index, switches: [u8; 4], table: &mut [u16], at: us
     ensures result_after { lines_in table.new result ≡ lines_in table.old at ++ (switch_lines index.now 0 (per_component index.now switches)) }
     ensures onto { Onto table.old at 4 table.new result }
 {
-    let components = index[COMPONENTS_AT] as usize;
     let mut to = at;
-    let mut k: usize = 0;
-    while k < components {
+    for k in 0..usize::from(index[COMPONENTS_AT]) {
         to = push_switch(index, k, switches[k], table, to);
-        k += 1;
     }
     to
 }
@@ -139,43 +132,17 @@ fn push_variable(kept: bool, v: usize, table: &mut [u16], at: usize) -> usize
     push(table, at, STAYING_FORM, variable, variable, 2)
 }
 
-// The two rows of every variable whose owner stays.
-fn push_owned(index: &Index, switches: [u8; 4], table: &mut [u16], at: usize) -> usize
-    requires owned { Owned index.now }
+// The two rows of every variable, of n, that passes a test.
+fn push_those<F: Fn(usize) -> bool>(n: usize, kept: F, table: &mut [u16], at: usize) -> usize
+    requires n_bound { n ≤ 8 }
+    requires kept_called { (v : ℕ) → v < n → F.pre kept v }
     requires in_bounds { (96 ≤ length table.old) × ((at ≤ 15) × Stacked table.old at) }
-    ensures result_after { lines_in table.new result ≡ lines_in table.old at ++ (variable_lines (stays_at index.now switches) (variables_in index.now)) }
+    ensures result_after { (test : ℕ → Bool) → TestedBy F.post kept n test → lines_in table.new result ≡ lines_in table.old at ++ (variable_lines test n) }
     ensures onto { Onto table.old at 8 table.new result }
 {
-    let n = index[VARIABLES_AT] as usize;
     let mut to = at;
-    let mut v: usize = 0;
-    while v < n {
-        to = push_variable(owner_stays(index, switches, v), v, table, to);
-        v += 1;
-    }
-    to
-}
-
-// The two rows of every variable that keeps its value in a flow in these modes, or in a jump by these switches.
-fn push_variables(
-    model: &[u8],
-    index: &Index,
-    flow: bool,
-    numbers: [u8; 4],
-    table: &mut [u16],
-    at: usize,
-) -> usize
-    requires good_index { GoodIndex model.now index.now × ((length model.now ≤ 32768) × KnownIn flow index.now numbers) }
-    requires in_bounds { (96 ≤ length table.old) × ((at ≤ 15) × Stacked table.old at) }
-    ensures result_after { lines_in table.new result ≡ lines_in table.old at ++ (variable_lines (keeps_at model.now index.now flow numbers) (variables_in index.now)) }
-    ensures onto { Onto table.old at 8 table.new result }
-{
-    let n = index[VARIABLES_AT] as usize;
-    let mut to = at;
-    let mut v: usize = 0;
-    while v < n {
-        to = push_variable(keeps(model, index, flow, numbers, v), v, table, to);
-        v += 1;
+    for v in 0..n {
+        to = push_variable(kept(v), v, table, to);
     }
     to
 }
@@ -193,10 +160,11 @@ pub fn push_staying(
     ensures result_after { lines_in table.new result ≡ lines_in table.old at ++ (staying_lines model.now index.now switches) }
     ensures onto { Onto table.old at 8 table.new result }
 {
+    let n = usize::from(index[VARIABLES_AT]);
     if !keeps_blanks(version_of(index)) {
-        return push_owned(index, switches, table, at);
+        return push_those(n, |v| owner_stays(index, switches, v), table, at);
     }
-    push_variables(model, index, false, switches, table, at)
+    push_those(n, |v| keeps(model, index, false, switches, v), table, at)
 }
 
 // The two rows of every variable that keeps its value in a flow in these modes.
@@ -215,5 +183,6 @@ pub fn push_still(
     if !keeps_blanks(version_of(index)) {
         return at;
     }
-    push_variables(model, index, true, modes, table, at)
+    let n = usize::from(index[VARIABLES_AT]);
+    push_those(n, |v| keeps(model, index, true, modes, v), table, at)
 }

@@ -28,16 +28,6 @@ room-here : (c : In-loop-i) → nat_abs (get_or c.args.sums.now (c.args.to + c.l
 unfolding item
 room-here c = c.requires.count_in_bounds.1.room c.loop-i.i (omega arith)
 
-pub loop-i-init : goal.loop-i-init
-unfolding numbers_at
-loop-i-init c = plus_none c.args.to _ c.args.sums.now
-
-pub multiply_add-requires : goal.multiply_add-requires
-multiply_add-requires c =
-    let i = c.args.to + c.loop-i.i in
-    room-bits (get_or c.loop-i.sums i (pos 0)) c.args.m c.signed_word.result c.ranges.m
-    (rw (as_it_was (goal.at.multiply_add-requires c).At-loop-i) (room-here (goal.at.multiply_add-requires c).In-loop-i)) c.signed_word.ensures.result_bound
-
 pub loop-i-preserved : goal.loop-i-preserved
 loop-i-preserved c =
     let a = c.args in
@@ -62,3 +52,13 @@ returns c =
     let a = c.args in
     let whole : c.loop-i.i ≡ a.count = omega arith in
     c.loop-i.invariant ∙ ap₂ (λ (m : ℤ) (n : ℕ). plus_from a.to m a.sums.now (numbers_at a.words.now a.at n)) (to_z-of_z c.ranges.m) whole
+
+pub loop-i-init : goal.loop-i-init
+unfolding numbers_at
+loop-i-init c = plus_none c.args.to _ c.args.sums.now
+
+pub multiply_add-requires : goal.multiply_add-requires
+multiply_add-requires c =
+    let i = c.args.to + c.loop-i.i in
+    room-bits (get_or c.loop-i.sums i (pos 0)) c.args.m c.signed_word.result c.ranges.m
+    (rw (as_it_was (goal.at.multiply_add-requires c).At-loop-i) (room-here (goal.at.multiply_add-requires c).In-loop-i)) c.signed_word.ensures.result_bound

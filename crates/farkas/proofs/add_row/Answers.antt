@@ -1,7 +1,6 @@
 -- The coefficients are added by `add_numbers`, the bound by one product more. Assumes nothing.
 use mathlib.Core.Path.{◌≡◌, refl, sym, ap, ap₂, ◌∙◌}
-use Prim.Native.Nat.{◌+◌, ◌^◌, ◌≤◌}
-use native.Mathlib.Nat.{mul-le-mul_left}
+use Prim.Native.Nat.{◌+◌, ◌≤◌}
 use native.Mathlib.Omega.{arith}
 use lib.IntN.{ℤ, pos, nat_abs, ◌+ℤ◌, ◌*ℤ◌}
 use lib.ListN.{length}
@@ -11,7 +10,7 @@ use mir.Facts.{to_z-of_z}
 use Rattle.farkas.specs.Rows.{row_of, onward}
 use Rattle.farkas.specs.Words.{numbers_at, row_in}
 use Rattle.farkas.specs.Sums.{plus_from}
-use Rattle.farkas.proofs.SumLaws.{plus-onward, numbers-length, room-all, add-plain}
+use Rattle.farkas.proofs.SumLaws.{plus-onward, numbers-length, add-plain}
 use Rattle.farkas.proofs.add_row.Goals.{After-from-by}
 use Rattle.farkas.proofs.add_row.Goals as goal
 
@@ -21,14 +20,6 @@ often c = to_z-of_z {w = w64} {z = c.from-by.result} (record { sfits = c.from-by
 
 size : (c : After-from-by) → nat_abs (to_z w64 (of_z w64 c.from-by.result)) ≡ c.args.m
 size c = ap nat_abs (often c)
-
-pub add_numbers-requires : goal.add_numbers-requires
-add_numbers-requires c = record { count_in_bounds = (c.requires.count_in_bounds.0, rw (size (goal.at.add_numbers-requires c).After-from-by) (room-all c.args.shift c.args.count c.requires.count_in_bounds.1)); numbers_in = (omega arith, c.requires.numbers_in.1) }
-
-pub multiply_add-requires : goal.multiply_add-requires
-multiply_add-requires c =
-    let small : nat_abs (to_z w64 (of_z w64 c.signed_word.result)) ≤ 2 ^ 31 = rw (to_z-of_z {z = c.signed_word.result} (record { sfits = c.signed_word.type_inv })) c.signed_word.ensures.result_bound in
-    rw (to_z-of_z c.ranges.bound, size (goal.at.multiply_add-requires c).After-from-by) (omega (arith, c.requires.count_in_bounds.1.bound, mul-le-mul_left c.args.m small))
 
 pub returns : goal.returns
 unfolding onward row_in

@@ -6,7 +6,7 @@ use mathlib.Core.Bool.{Bool, not, ◌&&◌}
 use Rattle.farkas.specs.Rows.{compared}
 use mir.Facts.{to_z-of_z}
 use Rattle.farkas.specs.Farkas.{bound_passes}
-use Rattle.farkas.proofs.Bits.{times-room, times}
+use Rattle.farkas.proofs.Bits.{times}
 use Rattle.farkas.proofs.bound_passes.Goals.{After-compare-2, then-must, else-must}
 use Rattle.farkas.proofs.bound_passes.Goals as goal
 
@@ -14,13 +14,6 @@ above : (k : ℕ) (sum : ℤ) (strict : Bool) (goal : ℤ) (must : Bool) → (k 
 unfolding bound_passes
 above zero sum strict goal must h = absurd (h refl)
 above (suc k) sum strict goal must h = refl
-
-pub returns-then-k-eq0 : goal.returns-then-k-eq0
-unfolding bound_passes
-returns-then-k-eq0 c = c.compare.ensures ∙ rw (to_z-of_z c.ranges.sum, c.if-k-eq0.true)
-
-pub multiply_add-bound-requires : goal.multiply_add-bound-requires
-multiply_add-bound-requires c = times-room c.args.k c.from.result c.args.goal c.from.ensures c.ranges.k c.ranges.goal c.requires
 
 -- whether the sum must be below
 below : (c : After-compare-2) → c.if-must.compare ≡ (c.args.must && not c.args.strict)
@@ -33,3 +26,7 @@ returns c =
     let e : r ≡ pos a.k *ℤ a.goal = c.multiply_add-bound.ensures ∙ times a.k c.from.result a.goal c.from.ensures c.ranges.k c.ranges.goal in
     c.compare-2.ensures
     ∙ rw (to_z-of_z c.ranges.sum, to_z-of_z {z = r} (record { sfits = c.multiply_add-bound.type_inv }), e, below c, above a.k a.sum a.strict a.goal a.must c.if-k-eq0.false)
+
+pub returns-then-k-eq0 : goal.returns-then-k-eq0
+unfolding bound_passes
+returns-then-k-eq0 c = c.compare.ensures ∙ rw (to_z-of_z c.ranges.sum, c.if-k-eq0.true)

@@ -15,13 +15,6 @@ use Rattle.farkas.specs.Farkas.{coefficients_agree, bound_passes, sums_test, num
 use Rattle.farkas.proofs.judge.Goals.{After-bound_passes}
 use Rattle.farkas.proofs.judge.Goals as goal
 
-pub returns-then-not-agree-clause-result_value : goal.returns-then-not-agree-clause-result_value
-unfolding sums_test number_of onward row_in
-returns-then-not-agree-clause-result_value c = rw (sym c.agree.ensures.value ∙ c.if-not-agree.true)
-
-pub bound_passes-requires : goal.bound_passes-requires
-bound_passes-requires c = rw (to_z-of_z {z = c.signed_word-goal.result} (record { sfits = c.signed_word-goal.type_inv })) c.signed_word-goal.ensures.result_bound
-
 agreed : (c : After-bound_passes) → coefficients_agree c.args.k c.args.sums.now (replicate c.args.shift (pos 0) ++ numbers_at c.args.words.now c.args.at c.args.count) ≡ true
 agreed c = sym c.agree.ensures.value ∙ c.if-not-agree.false
 
@@ -34,6 +27,10 @@ tested c =
     let a = c.args in
     c.bound_passes.ensures
     ∙ ap₂ (λ sum goal. bound_passes a.k sum a.bound.strict goal a.must) (to_z-of_z (value-fits c)) (to_z-of_z {w = w64} {z = k.result} (record { sfits = k.type_inv }) ∙ k.ensures.value)
+
+pub returns-then-not-agree-clause-result_value : goal.returns-then-not-agree-clause-result_value
+unfolding sums_test number_of onward row_in
+returns-then-not-agree-clause-result_value c = rw (sym c.agree.ensures.value ∙ c.if-not-agree.true)
 
 pub returns-then-not-bound_passes-clause-result_value : goal.returns-then-not-bound_passes-clause-result_value
 unfolding sums_test number_of onward row_in

@@ -16,10 +16,6 @@ use Rattle.farkas.proofs.judge_zero.Goals as goal
 agreed : (c : After-all_zero) → coefficients_agree 0 c.args.sums.now [] ≡ c.all_zero.result
 agreed c = rest-zero 0 c.args.sums.now ∙ sym c.all_zero.ensures
 
-pub returns-then-not-all_zero-clause-result_value : goal.returns-then-not-all_zero-clause-result_value
-unfolding sums_test number_of zero_row
-returns-then-not-all_zero-clause-result_value c = rw (agreed (goal.at.returns-then-not-all_zero-clause-result_value c).After-all_zero ∙ c.if-not-all_zero.true)
-
 value-fits : (c : After-bound_passes) → SFits w64 c.args.bound.value
 value-fits c = search rules
 
@@ -28,6 +24,10 @@ tested c = sym (c.bound_passes.ensures ∙ ap (λ z. bound_passes 0 z c.args.bou
 
 passed : (c : After-bound_passes) → coefficients_agree 0 c.args.sums.now [] ≡ true
 passed c = agreed (goal.at.After-bound_passes c).After-all_zero ∙ c.if-not-all_zero.false
+
+pub returns-then-not-all_zero-clause-result_value : goal.returns-then-not-all_zero-clause-result_value
+unfolding sums_test number_of zero_row
+returns-then-not-all_zero-clause-result_value c = rw (agreed (goal.at.returns-then-not-all_zero-clause-result_value c).After-all_zero ∙ c.if-not-all_zero.true)
 
 pub returns-then-not-bound_passes-clause-result_value : goal.returns-then-not-bound_passes-clause-result_value
 unfolding sums_test number_of zero_row

@@ -9,7 +9,7 @@ use lib.IntN.{ℤ, pos, ◌*ℤ◌}
 use lib.ListN.{get_or, set}
 use mir.Syntax.{w64}
 use mir.Val.{of_z}
-use Rattle.farkas.proofs.Bits.{same_bits, times-room, times}
+use Rattle.farkas.proofs.Bits.{same_bits, times}
 use Rattle.farkas.specs.Words.{signed_at}
 use Rattle.farkas.specs.Sums.{cleared}
 use Rattle.farkas.proofs.SumTest.{cleared-none, cleared-read, cleared-store, goal-agrees, goal-differs}
@@ -28,21 +28,6 @@ computed c =
     let g = c.signed_word.result in
     c.multiply_add.ensures ∙ times c.args.k c.from-by.result g c.from-by.ensures c.ranges.k (record { sfits = c.signed_word.type_inv }) ∙ ap (λ (z : ℤ). pos c.args.k *ℤ z) c.signed_word.ensures.value
 
-pub loop-i-init : goal.loop-i-init
-loop-i-init c = (cleared-none c.args.from c.args.sums.now, below_none _)
-
-pub multiply_add-requires : goal.multiply_add-requires
-multiply_add-requires c =
-    times-room c.args.k c.from-by.result c.signed_word.result c.from-by.ensures c.ranges.k (record { sfits = c.signed_word.type_inv }) c.signed_word.ensures.result_bound
-
-pub returns-then-sums-from-clause-value : goal.returns-then-sums-from-clause-value
-returns-then-sums-from-clause-value c =
-    let a = c.args in
-    let at = goal.at.returns-then-sums-from-clause-value c in
-    sym
-    (goal-differs a.k a.sums.now a.from a.words.now a.at a.count (omega arith) c.loop-i.i (omega arith)
-    (λ e. c.if-sums-from.true (ap (of_z w64) (as_it_was at.At-loop-i ∙ e ∙ sym (computed at.After-multiply_add)))))
-
 pub loop-i-preserved : goal.loop-i-preserved
 loop-i-preserved c =
     let a = c.args in
@@ -59,3 +44,14 @@ returns c =
     let a = c.args in
     let l = c.loop-i in
     let whole : l.i ≡ a.count = omega arith in record { value = sym (goal-agrees a.k a.sums.now a.from a.words.now a.at a.count (omega arith) (λ j h. l.invariant.1 j (omega arith))); sums_after = λ e. l.invariant.0 ∙ ap (λ (n : ℕ). cleared a.from n a.sums.now) whole }
+
+pub loop-i-init : goal.loop-i-init
+loop-i-init c = (cleared-none c.args.from c.args.sums.now, below_none _)
+
+pub returns-then-sums-from-clause-value : goal.returns-then-sums-from-clause-value
+returns-then-sums-from-clause-value c =
+    let a = c.args in
+    let at = goal.at.returns-then-sums-from-clause-value c in
+    sym
+    (goal-differs a.k a.sums.now a.from a.words.now a.at a.count (omega arith) c.loop-i.i (omega arith)
+    (λ e. c.if-sums-from.true (ap (of_z w64) (as_it_was at.At-loop-i ∙ e ∙ sym (computed at.After-multiply_add)))))

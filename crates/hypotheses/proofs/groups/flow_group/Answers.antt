@@ -1,10 +1,10 @@
 -- Nothing where the region has no rows, else the region's rows on x'. Assumes nothing.
-use mathlib.Core.Path.{sym, ◌∙◌}
-use Prim.Native.Nat.{◌≤◌}
+use mathlib.Core.Path.{sym, ap, ◌∙◌}
+use Prim.Native.Nat.{ℕ, ◌+◌, ◌≤◌}
 use native.Mathlib.Omega.{arith}
-use borrow.Author.Rules.{rules}
 use lib.ListN.{length}
 use Rattle.models.specs.Index.{entry}
+use Rattle.hypotheses.specs.Listing.{region_group}
 use Rattle.hypotheses.proofs.TableLaws.{pushed, lines_start}
 use Rattle.hypotheses.proofs.GoodLines.{flow-fine}
 use Rattle.hypotheses.proofs.GroupLaws.{same-group, flow-tasks, no-rows-flow, empty-good, region-good}
@@ -16,38 +16,15 @@ long : (s : Start) → entry s.args.index.now 1 ≤ length s.args.modes
 unfolding entry
 long s = omega (arith, s.requires.good_paper.good.few, s.well_formed.1.1.1.1.1.0.1.0.1)
 
-pub region_rows-requires : goal.region_rows-requires
-region_rows-requires c = (search rules, omega (arith, c.requires.stands.0.below, c.requires.good_paper.few))
-
-pub returns-then-region_rows-eq0 : goal.returns-then-region_rows-eq0
-returns-then-region_rows-eq0 c = let p = c.requires in let both = same-group _ _ _ _ c.no_group.ensures (no-rows-flow _ _ _ _ _ _ p.stands.0.below (sym c.region_rows.ensures ∙ c.if-region_rows-eq0.true)) (empty-good _ _ _ _ p.good_paper.good.most p.stands.1.1) in record { result_after = both.0; good_group = both.1 }
-
-pub flow_table-segments-requires : goal.flow_table-segments-requires
-flow_table-segments-requires c = record { good_paper = c.requires.good_paper; location_bound = (c.requires.stands.0.below, c.requires.stands.0.known); in_bounds = c.requires.stands.1 }
-
-pub overflow_cast-n : goal.overflow_cast-n
-unfolding entry
-overflow_cast-n c = omega (arith, c.requires.good_paper.good.most)
-
-pub overflow_add-n : goal.overflow_add-n
-unfolding entry
-overflow_add-n c = omega (arith, c.requires.good_paper.good.most)
-
-pub overflow_add-n-2 : goal.overflow_add-n-2
-unfolding entry
-overflow_add-n-2 c = omega (arith, c.requires.good_paper.good.most)
-
-pub region_group-requires : goal.region_group-requires
-region_group-requires c =
-    let k = c.flow_table-segments in record { in_bounds = (search rules, omega (arith, c.requires.stands.0.below, c.requires.good_paper.few)); in_bounds_2 = (omega (arith, k.auto.table, c.requires.stands.1.0), omega (arith, k.ensures.onto.few)) }
-
-pub shape_of-table : goal.shape_of-table
-shape_of-table c = c.flow_table-segments.auto.table
-
 pub returns : goal.returns
 unfolding entry
 returns c =
     let p = c.requires in
     let k = c.flow_table-segments in
-    let lines = lines_start (pushed (k.ensures.result_after, k.ensures.onto)) in let both = same-group _ _ _ _ c.region_group.ensures (flow-tasks _ _ _ _ c.args.modes _ (long (goal.at.returns c).Start) p.stands.0 _ k.result _ p.good_paper.good lines)
+    let lines = lines_start (pushed (k.ensures.result_after, k.ensures.onto)) in
+    let told = c.region_group.ensures ∙ ap (λ (n : ℕ). region_group (entry c.args.index.now 11) c.args.regions.now c.args.location k.new.table k.result n (n + n + 1)) c.from-n.ensures in
+    let both = same-group _ _ _ _ told (flow-tasks _ _ _ _ c.args.modes _ (long (goal.at.returns c).Start) p.stands.0 _ k.result _ p.good_paper.good lines)
     (region-good _ _ _ _ _ _ k.result _ _ _ p.good_paper p.stands.0.below k.ensures.onto.stacked (omega (arith, k.ensures.onto.few)) lines (flow-fine _ _ _ _ _ _ (long (goal.at.returns c).Start) p.stands.0.known p.good_paper p.stands.0.below) (omega arith) (omega (arith, p.good_paper.good.most))) in record { result_after = both.0; good_group = both.1 }
+
+pub returns-then-region_rows-eq0 : goal.returns-then-region_rows-eq0
+returns-then-region_rows-eq0 c = let p = c.requires in let both = same-group _ _ _ _ c.no_group.ensures (no-rows-flow _ _ _ _ _ _ p.stands.0.below (sym c.region_rows.ensures ∙ c.if-region_rows-eq0.true)) (empty-good _ _ _ _ p.good_paper.good.most p.stands.1.1) in record { result_after = both.0; good_group = both.1 }

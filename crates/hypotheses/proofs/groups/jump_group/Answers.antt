@@ -1,7 +1,7 @@
 -- On the lines of the source the landing's, and the rows of the target's region to prove. Assumes nothing.
 use mathlib.Core.Path.{◌≡◌, sym, ap, ◌∙◌, subst}
 use mathlib.Core.List.{List, [], ◌++◌, append-nil}
-use Prim.Native.Nat.{◌+◌, ◌≤◌}
+use Prim.Native.Nat.{ℕ, ◌+◌, ◌≤◌}
 use native.Mathlib.Omega.{arith}
 use borrow.Author.Rules.{rules}
 use lib.ListN.{length}
@@ -17,33 +17,11 @@ use Rattle.hypotheses.specs.Tables.{TableLine, lines_in}
 use Rattle.hypotheses.specs.Listing.{tasks_of, GoodGroup, region_group, here_lines, landing_lines, jump_lines}
 use Rattle.hypotheses.proofs.GoodLines.{jump-fine}
 use Rattle.hypotheses.proofs.GroupLaws.{jump-tasks, region-good}
-use borrow.Author.Rules.{rules}
-use borrow.Author.Rules.{rules}
 use Rattle.hypotheses.proofs.groups.jump_group.Goals.{Start}
 use Rattle.hypotheses.proofs.groups.jump_group.Goals as goal
 
 switches-length : (c : Start) → length c.args.landing.switches ≡ 4
 switches-length c = search rules
-
-pub jump_table-segments-requires : goal.jump_table-segments-requires
-jump_table-segments-requires c =
-    let told = c.modes_at-targets in
-    let there = stands_at_lem c.args.model.now c.args.index.now c.args.landing.target told.result _ c.requires.good_paper.good c.requires.target_bound.0 told.ensures in record { good_index = (c.requires.good_paper.good, (c.requires.good_paper.short, (there.known, c.requires.target_bound.1))); in_bounds = (c.requires.in_bounds.0, (c.requires.in_bounds.1.few, c.requires.in_bounds.1.stacked)) }
-
-pub overflow_cast-n : goal.overflow_cast-n
-unfolding entry
-overflow_cast-n c = omega (arith, c.requires.good_paper.good.most)
-
-pub overflow_add-n : goal.overflow_add-n
-unfolding entry
-overflow_add-n c = omega (arith, c.requires.good_paper.good.most)
-
-pub region_group-requires : goal.region_group-requires
-region_group-requires c =
-    let k = c.jump_table-segments in record { in_bounds = (search rules, omega (arith, c.requires.target_bound.0, c.requires.good_paper.few)); in_bounds_2 = (omega (arith, k.auto.table, c.requires.in_bounds.0), omega (arith, k.ensures.onto.few, c.requires.in_bounds.1.few)) }
-
-pub shape_of-table : goal.shape_of-table
-shape_of-table c = c.jump_table-segments.auto.table
 
 pub returns : goal.returns
 unfolding entry jump_lines
@@ -69,4 +47,9 @@ returns c =
     let lines : lines_in table k.result ≡ jump_lines model index regions location (per_component index modes) (per_component index told.result) switches =
     k.ensures.result_after ∙ ap (λ (ls : List TableLine). ls ++ landing_lines model index (per_component index told.result) switches) (here.told ∙ ap (here_lines index regions location) (sym stands.here)) in
     let fine = jump-fine model index second regions modes location long stands.known c.requires.good_paper here.below told.result switches wide there.known broad c.requires.target_bound.1 in
-    let same : c.region_group.result ≡ region_group (entry index 11) regions to table k.result n (n + n) = c.region_group.ensures in record { result_after = ap (tasks_of model second n table) same ∙ jump-tasks model index second regions modes location long stands table k.result (n + n) to told.result switches wide there broad c.requires.target_bound.1 c.requires.good_paper.good lines; good_group = subst (λ (g : Group). GoodGroup model second n table g) (sym same) (region-good model index second regions table to k.result n (n + n) _ c.requires.good_paper c.requires.target_bound.0 k.ensures.onto.stacked (omega (arith, k.ensures.onto.few, here.few)) lines fine (omega arith) (omega (arith, c.requires.good_paper.good.most))); kept = k.ensures.onto.kept }
+    let same : c.region_group.result ≡ region_group (entry index 11) regions to table k.result n (n + n) = c.region_group.ensures ∙ ap (λ (m : ℕ). region_group (entry index 11) regions to table k.result m (m + m)) c.from-n.ensures in record { result_after = ap (tasks_of model second n table) same ∙ jump-tasks model index second regions modes location long stands table k.result (n + n) to told.result switches wide there broad c.requires.target_bound.1 c.requires.good_paper.good lines; good_group = subst (λ (g : Group). GoodGroup model second n table g) (sym same) (region-good model index second regions table to k.result n (n + n) _ c.requires.good_paper c.requires.target_bound.0 k.ensures.onto.stacked (omega (arith, k.ensures.onto.few, here.few)) lines fine (omega arith) (omega (arith, c.requires.good_paper.good.most))); kept = k.ensures.onto.kept }
+
+pub jump_table-segments-requires : goal.jump_table-segments-requires
+jump_table-segments-requires c =
+    let told = c.modes_at-targets in
+    let there = stands_at_lem c.args.model.now c.args.index.now c.args.landing.target told.result _ c.requires.good_paper.good c.requires.target_bound.0 told.ensures in record { good_index = (c.requires.good_paper.good, (c.requires.good_paper.short, (there.known, c.requires.target_bound.1))); in_bounds = (c.requires.in_bounds.0, (c.requires.in_bounds.1.few, c.requires.in_bounds.1.stacked)) }

@@ -3,10 +3,10 @@ use mathlib.Core.Bool.{not}
 use mathlib.Core.Path.{sym, ◌∙◌, ap}
 use Prim.Native.Nat.{◌≤◌}
 use native.Mathlib.Omega.{arith}
-use borrow.Author.Rules.{rules}
 use lib.ListN.{length}
 use Rattle.models.specs.Index.{entry}
 use Rattle.rules.proofs.ListFacts.{test-passed, test-failed}
+use Rattle.hypotheses.specs.Listing.{region_group}
 use Rattle.hypotheses.proofs.TableLaws.{pushed, lines_start}
 use Rattle.hypotheses.proofs.GoodLines.{start_fine}
 use Rattle.hypotheses.proofs.GroupLaws.{same-group, start-tasks, start_none, no-rows-start, empty-good, region-good}
@@ -18,38 +18,20 @@ long : (s : Start) → entry s.args.index.now 1 ≤ length s.args.modes
 unfolding entry
 long s = omega (arith, s.requires.good_paper.good.few, s.well_formed.1.1.1.1.1.0.1.0.1)
 
-pub region_rows-requires : goal.region_rows-requires
-region_rows-requires c = (search rules, omega (arith, c.requires.stands.0.below, c.requires.good_paper.few))
-
-pub returns-then-region_rows-eq0 : goal.returns-then-region_rows-eq0
-returns-then-region_rows-eq0 c = let p = c.requires in let both = same-group _ _ _ _ c.no_group.ensures (no-rows-start _ _ _ _ _ _ p.stands.0.below (sym c.region_rows.ensures ∙ c.if-region_rows-eq0.true)) (empty-good _ _ _ _ p.good_paper.good.most p.stands.1.1) in record { result_after = both.0; good_group = both.1 }
-
-pub all_start-requires : goal.all_start-requires
-all_start-requires c = (c.requires.good_paper.good, c.requires.stands.0.known)
-
-pub returns-then-not-all_start : goal.returns-then-not-all_start
-returns-then-not-all_start c =
-    let all = c.all_start in let both = same-group _ _ _ _ c.no_group-then-not-all_start.ensures (start_none _ _ _ _ c.args.modes _ (long (goal.at.returns-then-not-all_start c).Start) c.requires.stands.0 _ (sym (test-failed all.result (ap not c.if-not-all_start.true) all.ensures))) (empty-good _ _ _ _ c.requires.good_paper.good.most c.requires.stands.1.1) in record { result_after = both.0; good_group = both.1 }
-
-pub start_table-segments-requires : goal.start_table-segments-requires
-start_table-segments-requires c = record { good_index = (c.requires.good_paper.good, c.requires.stands.0.known); in_bounds = c.requires.stands.1 }
-
-pub overflow_cast-index : goal.overflow_cast-index
-unfolding entry
-overflow_cast-index c = omega (arith, c.requires.good_paper.good.most)
-
-pub region_group-requires : goal.region_group-requires
-region_group-requires c =
-    let k = c.start_table-segments in record { in_bounds = (search rules, omega (arith, c.requires.stands.0.below, c.requires.good_paper.few)); in_bounds_2 = (omega (arith, k.auto.table, c.requires.stands.1.0), omega (arith, k.ensures.onto.few)) }
-
-pub shape_of-table : goal.shape_of-table
-shape_of-table c = c.start_table-segments.auto.table
-
 pub returns : goal.returns
 unfolding entry
 returns c =
     let p = c.requires in
     let k = c.start_table-segments in
     let lines = lines_start (pushed (k.ensures.result_after, k.ensures.onto)) in
-    let all = c.all_start in let both = same-group _ _ _ _ c.region_group.ensures (start-tasks _ _ _ _ c.args.modes _ (long (goal.at.returns c).Start) p.stands.0 _ k.result _ lines (sym (test-passed all.result (ap not c.if-not-all_start.false) all.ensures)))
+    let all = c.all_start in
+    let told = c.region_group.ensures ∙ ap (region_group (entry c.args.index.now 11) c.args.regions.now c.args.location k.new.table k.result 0) c.from.ensures in
+    let both = same-group _ _ _ _ told (start-tasks _ _ _ _ c.args.modes _ (long (goal.at.returns c).Start) p.stands.0 _ k.result _ lines (sym (test-passed all.result (ap not c.if-not-all_start.false) all.ensures)))
     (region-good _ _ _ _ _ _ k.result _ _ _ p.good_paper p.stands.0.below k.ensures.onto.stacked (omega (arith, k.ensures.onto.few)) lines (start_fine _ _ c.args.second.now c.args.regions.now _ c.args.location (long (goal.at.returns c).Start) p.stands.0.known p.good_paper) (omega arith) (omega (arith, p.good_paper.good.most))) in record { result_after = both.0; good_group = both.1 }
+
+pub returns-then-region_rows-eq0 : goal.returns-then-region_rows-eq0
+returns-then-region_rows-eq0 c = let p = c.requires in let both = same-group _ _ _ _ c.no_group.ensures (no-rows-start _ _ _ _ _ _ p.stands.0.below (sym c.region_rows.ensures ∙ c.if-region_rows-eq0.true)) (empty-good _ _ _ _ p.good_paper.good.most p.stands.1.1) in record { result_after = both.0; good_group = both.1 }
+
+pub returns-then-not-all_start : goal.returns-then-not-all_start
+returns-then-not-all_start c =
+    let all = c.all_start in let both = same-group _ _ _ _ c.no_group-then-not-all_start.ensures (start_none _ _ _ _ c.args.modes _ (long (goal.at.returns-then-not-all_start c).Start) c.requires.stands.0 _ (sym (test-failed all.result (ap not c.if-not-all_start.true) all.ensures))) (empty-good _ _ _ _ c.requires.good_paper.good.most c.requires.stands.1.1) in record { result_after = both.0; good_group = both.1 }

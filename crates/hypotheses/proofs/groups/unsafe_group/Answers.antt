@@ -18,26 +18,6 @@ long : (s : Start) → entry s.args.index.now 1 ≤ length s.args.modes
 unfolding entry
 long s = omega (arith, s.requires.good_paper.good.few, s.well_formed.1.1.1.1.1.0.1.0.1)
 
-pub modes_fit-requires : goal.modes_fit-requires
-modes_fit-requires c = (c.requires.good_paper.good, c.requires.stands.1.0)
-
-pub returns-then-not-modes_fit : goal.returns-then-not-modes_fit
-returns-then-not-modes_fit c =
-    let fits = c.modes_fit in let both = same-group _ _ _ _ c.no_group.ensures (unsafe-none _ _ _ _ c.args.modes _ (long (goal.at.returns-then-not-modes_fit c).Start) c.requires.stands.0 _ c.args.u c.requires.stands.1.0 (sym (test-failed fits.result (ap not c.if-not-modes_fit.true) fits.ensures))) (empty-good _ _ _ _ c.requires.good_paper.good.most c.requires.stands.1.1.1) in record { result_after = both.0; good_group = both.1 }
-
-pub unsafe_table-segments-requires : goal.unsafe_table-segments-requires
-unsafe_table-segments-requires c = record { good_paper = c.requires.good_paper; location_bound = (c.requires.stands.0.below, c.requires.stands.0.known); u_bound = c.requires.stands.1 }
-
-pub lines-hypotheses-requires : goal.lines-hypotheses-requires
-lines-hypotheses-requires c = let k = c.unsafe_table-segments in (omega (arith, k.auto.table, c.requires.stands.1.1.0), omega (arith, k.ensures.onto.few))
-
-pub overflow_cast-result : goal.overflow_cast-result
-unfolding entry
-overflow_cast-result c = omega (arith, c.requires.good_paper.good.most)
-
-pub shape_of-table : goal.shape_of-table
-shape_of-table c = c.unsafe_table-segments.auto.table
-
 pub returns : goal.returns
 unfolding entry unsafe_group
 returns c =
@@ -47,6 +27,10 @@ returns c =
     let fits = c.modes_fit in
     let fine = unsafe-fine c.args.model.now c.args.index.now c.args.second.now c.args.regions.now c.args.modes c.args.location (long (goal.at.returns c).Start) p.stands.0.known p.good_paper p.stands.0.below c.args.u p.stands.1.0 in
     record {
-      result_after = rw (c.lines-hypotheses.ensures, c.version_of-version.ensures) (unsafe-tasks _ _ _ _ c.args.modes _ (long (goal.at.returns c).Start) p.stands.0 _ k.result _ c.args.u p.stands.1.0 lines (sym (test-passed fits.result (ap not c.if-not-modes_fit.false) fits.ensures)));
-      good_group = rw (c.lines-hypotheses.ensures, c.version_of-version.ensures) (unsafe-good _ c.args.index.now _ _ k.result _ _ k.ensures.onto.stacked (omega (arith, k.ensures.onto.few)) lines fine (omega arith) (omega (arith, p.good_paper.good.most)));
+      result_after = rw (c.lines-hypotheses.ensures, c.version_of-version.ensures, c.from.ensures) (unsafe-tasks _ _ _ _ c.args.modes _ (long (goal.at.returns c).Start) p.stands.0 _ k.result _ c.args.u p.stands.1.0 lines (sym (test-passed fits.result (ap not c.if-not-modes_fit.false) fits.ensures)));
+      good_group = rw (c.lines-hypotheses.ensures, c.version_of-version.ensures, c.from.ensures) (unsafe-good _ c.args.index.now _ _ k.result _ _ k.ensures.onto.stacked (omega (arith, k.ensures.onto.few)) lines fine (omega arith) (omega (arith, p.good_paper.good.most)));
     }
+
+pub returns-then-not-modes_fit : goal.returns-then-not-modes_fit
+returns-then-not-modes_fit c =
+    let fits = c.modes_fit in let both = same-group _ _ _ _ c.no_group.ensures (unsafe-none _ _ _ _ c.args.modes _ (long (goal.at.returns-then-not-modes_fit c).Start) c.requires.stands.0 _ c.args.u c.requires.stands.1.0 (sym (test-failed fits.result (ap not c.if-not-modes_fit.true) fits.ensures))) (empty-good _ _ _ _ c.requires.good_paper.good.most c.requires.stands.1.1.1) in record { result_after = both.0; good_group = both.1 }

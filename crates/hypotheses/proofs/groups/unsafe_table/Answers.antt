@@ -9,13 +9,13 @@ use Rattle.hypotheses.proofs.TableLaws.{pushed, pushed_then, as-promised}
 use borrow.Author.Rules.{rules}
 use Rattle.hypotheses.proofs.groups.unsafe_table.Goals as goal
 
+pub returns : goal.returns
+unfolding unsafe_lines unsafe_place
+returns c = let both = as-promised (pushed_then (pushed (c.push_here-here.ensures.result_after, c.push_here-here.ensures.onto)) (pushed (c.push_kept.ensures.result_after, c.push_kept.ensures.onto)) (omega arith)) in record { result_after = both.0; onto = both.1 }
+
 pub push_kept-requires : goal.push_kept-requires
 unfolding unsafe_place
 push_kept-requires c =
     let k = c.push_here-here in
     let long : 1004 ≤ length c.args.index.now = search rules in
     let few = (c.requires.good_paper.good.unsafe c.args.u c.requires.u_bound.0).few in record { kept_in_bounds = (omega (arith, c.requires.u_bound.0, c.requires.good_paper.good.conditions, long), omega (arith, few)); in_bounds = (omega (arith, k.auto.table, c.requires.u_bound.1.0), (omega (arith, k.ensures.onto.few), k.ensures.onto.stacked)) }
-
-pub returns : goal.returns
-unfolding unsafe_lines unsafe_place
-returns c = let both = as-promised (pushed_then (pushed (c.push_here-here.ensures.result_after, c.push_here-here.ensures.onto)) (pushed (c.push_kept.ensures.result_after, c.push_kept.ensures.onto)) (omega arith)) in record { result_after = both.0; onto = both.1 }
