@@ -8,7 +8,7 @@ use Rattle.typed.specs.declared.signs.Sign.{Sign}
 use Rattle.typed.specs.declared.signs.Sign.TheVariants.{Close, Plus, Minus, Times, Less, Equal}
 use Rattle.typed.specs.declared.scan.Phase.TheVariants.{Awaiting, Counting, Complete, Half}
 use Rattle.typed.specs.Text.{Expression, term, sum, difference, Term, factor, product, Factor, number, variable, bracket, negative, blanks, digits, spell, spell_term, spell_factor, Comparison, spell_row}
-use Rattle.typed.specs.Scan.{State, dead, live, step, run, accepted, start}
+use Rattle.typed.specs.Scan.{State, live, step, run, accepted, start}
 
 pub run-append : (s : State) (xs ys : List Sign) → run s (xs ++ ys) ≡ run (run s xs) ys
 unfolding run

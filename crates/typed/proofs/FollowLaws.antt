@@ -59,15 +59,15 @@ module _ (end : ℕ) where
       (is : (j : ℕ) → whole (suc j) ≡ rest j (join (first j)))
       (l : q ≤ place) (m : place < end) (n : s ≤ 3 * (end - (place + 1)) + 2)
       {right : Reading} (f : Follows s (place + 1 + 1) end first right)
-      where
-    before : (j : ℕ) → 3 * (end - q) + 1 ≤ j → whole (suc j) ≡ rest j (join right)
-    before j h = is j ∙ ap (λ v. rest j (join v)) (sym (f.same j (omega arith)))
+    where
+      before : (j : ℕ) → 3 * (end - q) + 1 ≤ j → whole (suc j) ≡ rest j (join right)
+      before j h = is j ∙ ap (λ v. rest j (join v)) (sym (f.same j (omega arith)))
 
-    -- the operand or the operator is refused
-    pub operator-refused : (p : ℕ) {r : Reading} → join right ≡ refused p → ((j : ℕ) → rest j (refused p) ≡ refused p) → r ≡ refused p → Follows (3 * (end - q) + 1) q end whole r
-    operator-refused p e stays g = turn (3 * (end - q) + 1) q whole (λ j h. before j h ∙ ap (rest j) e ∙ stays j ∙ sym g) (refused-lies g)
+      -- the operand or the operator is refused
+      pub operator-refused : (p : ℕ) {r : Reading} → join right ≡ refused p → ((j : ℕ) → rest j (refused p) ≡ refused p) → r ≡ refused p → Follows (3 * (end - q) + 1) q end whole r
+      operator-refused p e stays g = turn (3 * (end - q) + 1) q whole (λ j h. before j h ∙ ap (rest j) e ∙ stays j ∙ sym g) (refused-lies g)
 
-    pub operator : (z : ℕ) (y : Form) {r : Reading} → join right ≡ reaches z y → (place + 1 + 1 ≤ z) × (z ≤ end) → Follows (3 * (end - z) + 1) z end (λ k. rest k (reaches z y)) r → Follows (3 * (end - q) + 1) q end whole r
-    operator z y e b g =
-        turn (3 * (end - q) + 1) q whole (λ j h. before j h ∙ ap (rest j) e ∙ sym (g.same j (omega arith)))
-        (λ p x h. let i = g.place p x h in (omega arith, i.1))
+      pub operator : (z : ℕ) (y : Form) {r : Reading} → join right ≡ reaches z y → (place + 1 + 1 ≤ z) × (z ≤ end) → Follows (3 * (end - z) + 1) z end (λ k. rest k (reaches z y)) r → Follows (3 * (end - q) + 1) q end whole r
+      operator z y e b g =
+          turn (3 * (end - q) + 1) q whole (λ j h. before j h ∙ ap (rest j) e ∙ sym (g.same j (omega arith)))
+          (λ p x h. let i = g.place p x h in (omega arith, i.1))

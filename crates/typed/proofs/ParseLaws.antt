@@ -10,7 +10,7 @@ use Rattle.typed.specs.declared.signs.Sign.{Sign}
 use Rattle.typed.specs.declared.signs.Sign.TheVariants.{Blank, Digit, Letter, Open, Close, Plus, Minus, Times, Less, Equal, Other}
 use Rattle.typed.specs.declared.scan.Phase.TheVariants.{Awaiting, Counting, Complete, Half}
 use Rattle.typed.specs.Text.{Expression, term, sum, difference, Term, factor, product, Factor, number, variable, bracket, negative, blanks, digits, spell, spell_term, spell_factor, Comparison, spell_row}
-use Rattle.typed.specs.Scan.{State, dead, live, closed, compared, run, ended, accepted, start}
+use Rattle.typed.specs.Scan.{dead, live, closed, compared, run, ended, accepted, start}
 use Rattle.typed.proofs.ScanLaws.{dead-run}
 use Rattle.typed.proofs.AcceptLaws.{Operator, is-plus, is-minus, is-times}
 

@@ -13,7 +13,7 @@ use Rattle.std.specs.Prelude.{Some, None}
 use Rattle.typed.specs.declared.scan.Live.{Live}
 use Rattle.typed.specs.Signs.{signs, sign_at}
 use Rattle.typed.proofs.SignLaws.{signs-from}
-use Rattle.typed.specs.Scan.{State, dead, live, keeps_rules, breaks_at, Scanned, scanned, step_by, step, run, accepted, passes, passes_by, start, depth_of, closed, compared, after_factor, in_number, before_factor, after_less}
+use Rattle.typed.specs.Scan.{State, dead, keeps_rules, breaks_at, Scanned, scanned, step_by, step, run, accepted, passes, passes_by, start, depth_of, closed, compared, after_factor, in_number, before_factor, after_less}
 
 -- the scan from a place and a state on
 unfoldable pub scan_on : ℕ → State → List Sign → Scanned

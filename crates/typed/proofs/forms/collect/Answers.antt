@@ -1,9 +1,9 @@
 -- Both sides are joined, with their numbers exchanged. Assumes nothing.
 use borrow.Author.Rules.{rules}
-use mathlib.Core.Path.{ap, ◌∙◌}
-use lib.IntN.{ℤ, negsuc, ◌+ℤ◌, ◌*ℤ◌}
+use mathlib.Core.Path.{◌∙◌}
+use lib.IntN.{negsuc, ◌+ℤ◌, ◌*ℤ◌}
 use mir.Syntax.{w32}
-use mir.Val.{SFits, to_z, of_z}
+use mir.Val.{SFits}
 use mir.Facts.{to_z-of_z}
 use Rattle.typed.specs.Forms.{plus, fit, next, combined, joined, collected, collected_at}
 use Rattle.typed.proofs.forms.collect.Goals.{Start}

@@ -18,7 +18,7 @@ use Rattle.typed.specs.declared.forms.Worked.{Worked}
 use Rattle.typed.specs.declared.forms.Form.{Form}
 use Rattle.typed.specs.Signs.{sign_at}
 use Rattle.typed.specs.Turns.{sense_of}
-use Rattle.typed.specs.Forms.{Reading, reaches, refused, next, zero_form, joined, multiplied}
+use Rattle.typed.specs.Forms.{Reading, refused, next, zero_form, joined, multiplied}
 use Rattle.typed.specs.Working.{skip, closed_at, expression_at, sums_at, term_at, products_at, factor_at}
 use Rattle.typed.specs.Following.{Follows}
 use Rattle.typed.proofs.FollowLaws as follow
@@ -344,8 +344,8 @@ sums-sums-requires t c =
     let l = far a.text.now a.left.next p c.skip-place.ensures in
     let i = there a.text.now p s.result s.ensures s.result refl (sum-stands s.result c.in-Plus.is) in
     let b =
-        sums-end a.n a.text.now a.left p s.result c.skip-place.ensures s.ensures c.in-Plus.is c.term.ensures c.in_ok-both-in-Plus.both
-        (sense-joined p a.left.form s.result c.sense.result c.in_ok-right-in-Plus.right c.in_ok-right-in-Plus.was c.join.ensures (record { sfits = c.sense.type_inv }) c.sense.ensures ∙ c.in_ok-both-in-Plus.was) in
+    sums-end a.n a.text.now a.left p s.result c.skip-place.ensures s.ensures c.in-Plus.is c.term.ensures c.in_ok-both-in-Plus.both
+    (sense-joined p a.left.form s.result c.sense.result c.in_ok-right-in-Plus.right c.in_ok-right-in-Plus.was c.join.ensures (record { sfits = c.sense.type_inv }) c.sense.ensures ∙ c.in_ok-both-in-Plus.was) in
     (omega arith, (c.requires.0, b.1))
 
 pub sums-returns-in_ok-both-in-Plus : goal.sums-returns-in_ok-both-in-Plus
