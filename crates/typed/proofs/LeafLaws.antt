@@ -16,7 +16,7 @@ use Rattle.std.specs.Prelude.{Ok}
 use Rattle.typed.specs.declared.forms.Worked.{Worked}
 use Rattle.typed.specs.Signs.{signs, sign_at}
 use Rattle.typed.specs.Turns.{by_close}
-use Rattle.typed.specs.Forms.{zero_form, constant, single, combined, fit, reaches, refused, next, varies, product, variable_at, number_at}
+use Rattle.typed.specs.Forms.{zero_form, constant, combined, fit, reaches, refused, next, varies, product, number_at}
 use Rattle.typed.specs.Working.{skip, capped, decimal, digit_count, digits_at, whole_at, closed_at}
 use Rattle.farkas.proofs.Order.{compare}
 use Rattle.typed.proofs.ReadLaws.{capped_small, capped-large}
@@ -63,15 +63,6 @@ module _ (text : List ℕ) (p : ℕ) (d : Digits) (e : d ≡ digits_at text p) w
       (λ l. absurd (omega (arith, value-is, capped_small v l)))
       (λ g. sym (ap (λ t. cond t (reaches (p + digit_count (signs (drop p text))) (constant (pos v))) (refused p)) (le-ltb v (2 ^ 31) g)))
       (compare v (2 ^ 31))
-
--- a letter
-pub letter-known : (n p v : ℕ) → v < n → variable_at n p v ≡ reaches (p + 1) (single v)
-unfolding variable_at
-letter-known n p v h = ap (λ t. cond t (reaches (p + 1) (single v)) (refused p)) (lt-ltb v n h)
-
-pub letter-beyond : (n p v : ℕ) → n ≤ v → variable_at n p v ≡ refused p
-unfolding variable_at
-letter-beyond n p v h = ap (λ t. cond t (reaches (p + 1) (single v)) (refused p)) (le-ltb v n h)
 
 -- the end of a bracket
 module _ (text : List ℕ) (w : Worked) (place : ℕ) (s : Sign) (f : place ≡ skip text w.next) (g : s ≡ sign_at text place) where

@@ -1,12 +1,9 @@
 -- The place after the blanks from here on is the place after all of them. Assumes nothing.
-use mathlib.Core.Path.{◌≡◌, refl, sym, ◌∙◌}
+use mathlib.Core.Path.{◌≡◌, sym, ◌∙◌}
 use native.Mathlib.Omega.{arith}
 use Rattle.typed.specs.Signs.{sign_at}
 use Rattle.typed.proofs.ReadLaws.{skip-more, skip_stop, skip-end}
 use Rattle.typed.proofs.reading.skip.Goals as goal
-
-pub loop-place-init : goal.loop-place-init
-loop-place-init c = record { rest = refl; end = omega arith }
 
 pub loop-place-preserved : goal.loop-place-preserved
 unfolding sign_at
