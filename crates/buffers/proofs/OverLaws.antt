@@ -1,13 +1,15 @@
 -- Writing over a buffer: one writing after the other, one byte, what lies past the end, and where all fits. Assumes nothing.
 use mathlib.Core.Path.{◌≡◌, refl, sym, ap, ◌∙◌}
 use mathlib.Core.List.{List, [], ◌∷◌, ◌++◌}
-use Prim.Native.Nat.{ℕ, zero, suc, ◌+◌, ◌≤◌, ◌<◌}
+use Prim.Native.Nat.{ℕ, zero, suc, ◌+◌, ◌/◌, ◌%◌, ◌≤◌, ◌<◌}
 use native.Mathlib.Nat.{zero-add, suc-add}
 use native.Mathlib.Omega.{arith}
 use native.Mathlib.Numerals.{add-one}
 use lib.ListN.{length, get_or, take, drop, set, length-take}
 use lib.Seq.{take-suc}
-use Rattle.buffers.specs.Over.{over}
+use Rattle.std.specs.Int.{w32, to_be_bytes}
+use Rattle.std.proofs.Math.Nat.{div-div-eq-div-mul}
+use Rattle.buffers.specs.Over.{over, word}
 
 pub over_nothing : (xs : List ℕ) (at : ℕ) → over xs at [] ≡ xs
 unfolding over
@@ -74,3 +76,10 @@ over-front [] [] bytes = refl
 over-front [] (f ∷ front) bytes = refl
 over-front (x ∷ xs) [] bytes = over_nothing (over (x ∷ xs) zero bytes) zero
 over-front (x ∷ xs) (f ∷ front) bytes = ap (λ r. f ∷ r) (over-front xs front bytes)
+
+-- the four bytes of a number as the library has them
+pub word-bytes : (v : ℕ) → to_be_bytes w32 v ≡ word v
+unfolding word
+word-bytes v =
+    ap (λ a. (a % 256) ∷ (v / 65536 % 256) ∷ (v / 256 % 256) ∷ (v % 256) ∷ []) (sym (ap (λ a. a / 256) (div-div-eq-div-mul v 256 256) ∙ div-div-eq-div-mul v 65536 256))
+    ∙ ap (λ b. (v / 256 / 256 / 256 % 256) ∷ (b % 256) ∷ (v / 256 % 256) ∷ (v % 256) ∷ []) (sym (div-div-eq-div-mul v 256 256))

@@ -6,6 +6,7 @@ ghost use Rattle.std.specs.Prelude.{◌≡◌, [], ◌∷◌, ◌+◌, ◌<◌, 
 ghost use Rattle.buffers.specs.Over.{over, word, half};
 
 // One byte, where there is room for it. The place after it.
+// By index: after `get_mut` of a slice only its length is known, and not what it holds.
 pub fn put_byte(out: &mut [u8], at: usize, b: u8) -> usize
     requires { at < 2 ^ 62 }
     ensures { (result ≡ at + 1) × (out.new ≡ over out.old at (b ∷ [])) }
@@ -22,12 +23,10 @@ pub fn put_bytes(out: &mut [u8], at: usize, bytes: &[u8]) -> usize
     requires { at + length bytes.now < 2 ^ 62 }
     ensures { (result ≡ at + length bytes.now) × (out.new ≡ over out.old at bytes.now) }
 {
-    let mut i: usize = 0;
-    while i < bytes.len() {
-        put_byte(out, at + i, bytes[i]);
-        i += 1;
+    for (i, byte) in bytes.iter().enumerate() {
+        put_byte(out, at + i, *byte);
     }
-    at + i
+    at + bytes.len()
 }
 
 // Two bytes, the higher first. The place after them.
@@ -35,10 +34,8 @@ pub fn put_half(out: &mut [u8], at: usize, v: u32) -> usize
     requires { at < 2 ^ 61 }
     ensures { (result ≡ at + 2) × (out.new ≡ over out.old at (half v)) }
 {
-    let high = (v / 256 % 256) as u8;
-    let low = (v % 256) as u8;
-    let second = put_byte(out, at, high);
-    put_byte(out, second, low)
+    let [_, _, high, low] = v.to_be_bytes();
+    put_bytes(out, at, &[high, low])
 }
 
 // Four bytes, the highest first. The place after them.
@@ -46,12 +43,5 @@ pub fn put_word(out: &mut [u8], at: usize, v: u32) -> usize
     requires { at < 2 ^ 61 }
     ensures { (result ≡ at + 4) × (out.new ≡ over out.old at (word v)) }
 {
-    let a = (v / 256 / 256 / 256 % 256) as u8;
-    let b = (v / 256 / 256 % 256) as u8;
-    let c = (v / 256 % 256) as u8;
-    let d = (v % 256) as u8;
-    let second = put_byte(out, at, a);
-    let third = put_byte(out, second, b);
-    let fourth = put_byte(out, third, c);
-    put_byte(out, fourth, d)
+    put_bytes(out, at, &v.to_be_bytes())
 }

@@ -7,79 +7,53 @@
 // number of the answer, the place, the eight coefficients and the bound.
 #![tactic(auto)]
 
-ghost use Rattle.std.specs.Prelude.{◌≡◌, ◌^◌, ◌<◌, nat_abs};
+ghost use Rattle.std.specs.Prelude.{◌^◌, ◌<◌};
 
 use fair_copies::copies::fair_copy;
 use formats::Limits;
 use inputs::read_full;
 use rules::Answer;
 use std::io;
-use typed::TypedRow;
 use typed::row::read_row;
+use typed::{TypedRow, Unread};
 
-// The size of a number.
-fn size(x: i32) -> u64
-    ensures { result ≡ nat_abs x }
-{
-    if x < 0 {
-        return (-(x as i64)) as u64;
+// Writes the coefficients and the bound of a row.
+fn write_numbers(rt: &impl Print, row: TypedRow) -> io::Result<()> {
+    for x in row.coefficients {
+        print!(rt; " {x}")?;
     }
-    x as u64
+    print!(rt; " {}", row.bound)
 }
 
-// Writes a number after a space.
-fn write_signed(rt: &impl Print, x: i32) -> io::Result<()> {
-    if x < 0 {
-        rt.write_all(b" -")?;
-    } else {
-        rt.write_all(b" ")?;
+// Writes the answer on a typed row: a refused text has zeros for the row.
+fn write_row(rt: &impl Print, read: Result<TypedRow, Unread>) -> io::Result<()> {
+    match read {
+        Ok(row) => {
+            print!(rt; "0 0")?;
+            write_numbers(rt, row)?;
+        }
+        Err(unread) => {
+            print!(rt; "{} {}", unread.number(), unread.place())?;
+            let coefficients = [0; 8];
+            let none = TypedRow {
+                coefficients,
+                bound: 0,
+            };
+            write_numbers(rt, none)?;
+        }
     }
-    rt.print(size(x))
-}
-
-// Writes eight numbers.
-fn write_numbers(rt: &impl Print, numbers: [i32; 8]) -> io::Result<()> {
-    for x in numbers {
-        write_signed(rt, x)?;
-    }
-    Ok(())
-}
-
-// Writes the answer on a typed row.
-fn write_row(rt: &impl Print, row: TypedRow) -> io::Result<()> {
-    let number = row.number;
-    let place = row.place;
-    print!(rt; "{number} {place}")?;
-    let coefficients = row.coefficients;
-    write_numbers(rt, coefficients)?;
-    write_signed(rt, row.bound)?;
     rt.write_all(b"\n")
-}
-
-// Writes a number after a separator.
-fn write_number(rt: &impl Print, before: &[u8], n: u32) -> io::Result<()> {
-    rt.write_all(before)?;
-    rt.print(n)
 }
 
 // Writes the answer on a fair copy.
 fn write_answer(rt: &impl Print, answer: Answer) -> io::Result<()> {
-    write_number(rt, b": ", answer.number)?;
-    write_number(rt, b" ", answer.sheet)?;
-    write_number(rt, b" ", answer.place)?;
-    write_number(rt, b" ", answer.done)?;
-    write_number(rt, b" ", answer.score)
+    print!(rt; ": {} {} {} {} {}", answer.number, answer.sheet, answer.place, answer.done, answer.score)
 }
 
-// Writes a byte as two digits to the base 16.
-fn write_byte(rt: &impl Print, byte: u8) -> io::Result<()> {
-    print!(rt; "{byte:02x}")
-}
-
-// Writes bytes one after the other.
+// Writes bytes one after the other, each as two digits to the base 16.
 fn write_bytes(rt: &impl Print, bytes: &[u8]) -> io::Result<()> {
     for byte in bytes {
-        write_byte(rt, *byte)?;
+        print!(rt; "{byte:02x}")?;
     }
     Ok(())
 }
@@ -89,7 +63,7 @@ fn summed(sum: u64, byte: u8) -> u64
     requires { sum < 2 ^ 32 }
     ensures { result < 2 ^ 32 }
 {
-    (sum * 257 + byte as u64) % 4294967291
+    (sum * 257 + u64::from(byte)) % 4294967291
 }
 
 // The checksum of bytes: the number that they are to the base 257, modulo the greatest prime below 2^32.
@@ -103,7 +77,7 @@ fn checksum(bytes: &[u8]) -> u64 {
 
 // Writes a buffer and ends the line: nothing of an empty one, the bytes of one of at most 1024, else a checksum.
 fn write_buffer(rt: &impl Print, bytes: &[u8]) -> io::Result<()> {
-    if bytes.len() == 0 {
+    if bytes.is_empty() {
         return rt.write_all(b"\n");
     }
     if bytes.len() <= 1024 {
@@ -117,28 +91,22 @@ fn write_buffer(rt: &impl Print, bytes: &[u8]) -> io::Result<()> {
 }
 
 // The byte at a place, 0 past the end.
-fn byte_at(all: &[u8], at: usize) -> usize
-    ensures { result < 256 }
-{
-    if at < all.len() {
-        return all[at] as usize;
-    }
-    0
+fn byte_at(all: &[u8], at: usize) -> u8 {
+    all.get(at).copied().unwrap_or(0)
 }
 
 // The number in the two bytes at a place.
-fn two_bytes(all: &[u8], at: usize) -> usize
+fn two_bytes(all: &[u8], at: usize) -> u16
     requires { at < 2 ^ 20 }
-    ensures { result < 65536 }
 {
-    byte_at(all, at) * 256 + byte_at(all, at + 1)
+    u16::from_be_bytes([byte_at(all, at), byte_at(all, at + 1)])
 }
 
 // The number in the four bytes at a place.
 fn four_bytes(all: &[u8], at: usize) -> u32
     requires { at < 2 ^ 19 }
 {
-    (two_bytes(all, at) as u32) * 65536 + two_bytes(all, at + 2) as u32
+    u32::from(two_bytes(all, at)) * 65536 + u32::from(two_bytes(all, at + 2))
 }
 
 // Writes the answer on a fair copy into a buffer, and the buffer.
@@ -148,11 +116,10 @@ fn copy(rt: &impl Print, model: &[u8], buffer: &mut [u8], limits: Limits) -> io:
 }
 
 // The same for a fresh buffer of a length.
-fn copy_into(rt: &impl Print, model: &[u8], room: usize, limits: Limits) -> io::Result<()>
-    requires { room < 65536 }
-{
+fn copy_into(rt: &impl Print, model: &[u8], room: u16, limits: Limits) -> io::Result<()> {
     let mut fresh = [165u8; 65536];
-    copy(rt, model, &mut fresh[..room], limits)
+    let size = usize::from(room);
+    copy(rt, model, &mut fresh[..size], limits)
 }
 
 // Answers the fair copy that is asked for at a place, and gives the place after it.
@@ -160,9 +127,9 @@ fn copy_at(rt: &impl Print, all: &[u8], at: usize) -> io::Result<usize>
     requires { at < 2 ^ 18 }
 {
     let label = at + 2;
-    let head = label + byte_at(all, at + 1);
+    let head = label + usize::from(byte_at(all, at + 1));
     let model = head + 12;
-    let end = model + two_bytes(all, head + 10);
+    let end = model + usize::from(two_bytes(all, head + 10));
     if all.len() < end {
         return Ok(at);
     }
@@ -180,11 +147,11 @@ fn row_at(rt: &impl Print, all: &[u8], at: usize) -> io::Result<usize>
     requires { at < 2 ^ 18 }
 {
     let text = at + 3;
-    let end = text + two_bytes(all, at + 1);
+    let end = text + usize::from(two_bytes(all, at + 1));
     if all.len() < end {
         return Ok(at);
     }
-    write_row(rt, read_row(&all[text..end], byte_at(all, at) as u32))?;
+    write_row(rt, read_row(&all[text..end], u32::from(byte_at(all, at))))?;
     Ok(end)
 }
 
@@ -193,7 +160,7 @@ fn call(rt: &impl Print, all: &[u8], at: usize) -> io::Result<usize> {
     if 262144 <= at {
         return Ok(at);
     }
-    if byte_at(all, at) == 70 {
+    if byte_at(all, at) == b'F' {
         return copy_at(rt, all, at);
     }
     row_at(rt, all, at)

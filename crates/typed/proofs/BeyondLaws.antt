@@ -1,6 +1,6 @@
 -- "The row is returned, coefficients from n on 0": only the first n letters are worked out, and sums and products of forms in them are
 -- forms in them. Assumes nothing.
-use mathlib.Core.Path.{◌≡◌, refl, ap, ◌∙◌}
+use mathlib.Core.Path.{◌≡◌, refl, ap, ◌∙◌, subst}
 use mathlib.Core.Logic.{⊎_elim}
 use mathlib.Core.Bool.{Bool, true, false, cond, ◌&&◌}
 use mathlib.Core.List.{List, [], ◌∷◌}
@@ -12,16 +12,13 @@ use lib.ListN.{length, get_or, replicate, get_or-replicate, get_or-eq_default}
 use lib.Seq.{get_or-set_other}
 use borrow.Author.Tests.{ltb-true}
 use Rattle.farkas.specs.Lists.{every}
-use Rattle.typed.specs.declared.TypedRow.{TypedRow}
 use Rattle.typed.specs.declared.forms.Form.{Form}
-use Rattle.typed.specs.declared.forms.Reached.{Reached}
-use Rattle.typed.specs.declared.forms.Reached.TheVariants.{At, Fault}
-use Rattle.typed.specs.declared.forms.Worked.{Worked}
+use Rattle.std.specs.Prelude.{Ok, Err, ⊤}
 use Rattle.typed.specs.Text.{Expression, term, sum, difference, Term, factor, product, Factor, number, variable, bracket, negative, Comparison}
-use Rattle.typed.specs.Forms.{s32, single, plus, reaches, refused, fit, onwards, next, zero_form, combined, collected, joined, varies, multiplied, variable_at, number_at, collected_at}
+use Rattle.typed.specs.Forms.{s32, single, plus, Reading, reaches, refused, fit, next, zero_form, combined, collected, joined, varies, multiplied, variable_at, number_at, collected_at}
 use Rattle.typed.specs.Forms as forms
 use Rattle.typed.specs.Values.{decimal_of, work_expression, work_term, work_factor, work_row}
-use Rattle.typed.specs.Typed.{Typed, count-refused, length-refused, text-refused, value-refused, accepted, typed_row}
+use Rattle.typed.specs.Typed.{Answered, coefficients_of, Typed, count-refused, length-refused, text-refused, value-refused, accepted, typed_row}
 use Rattle.farkas.proofs.Order.{compare}
 use Rattle.typed.proofs.TypedLaws.{typed-is}
 
@@ -41,8 +38,9 @@ plus-zero m (x ∷ xs) (y ∷ ys) zero e f = ap (λ z. z +ℤ m *ℤ y) e ∙ ap
 plus-zero m (x ∷ xs) (y ∷ ys) (suc i) e f = plus-zero m xs ys i e f
 
 module _ (n : ℕ) where
-  abbrev In : Worked → Type 0
-  In w = Only n w.form.coefficients
+  abbrev In : Reading → Type 0
+  In (Ok w) = Only n w.form.coefficients
+  In (Err e) = ⊤
 
   none : Only n (replicate 8 (pos 0))
   none = record { beyond = λ i h. zeros i }
@@ -55,7 +53,7 @@ module _ (n : ℕ) where
 
   chosen-in : (b : Bool) (p q : ℕ) (x : Form) → Only n x.coefficients → In (cond b (reaches q x) (refused p))
   chosen-in true p q x h = h
-  chosen-in false p q x h = none
+  chosen-in false p q x h = tt
 
   fit-in : (p q : ℕ) (x : Form) → Only n x.coefficients → In (fit p q x)
   unfolding fit
@@ -70,29 +68,26 @@ module _ (n : ℕ) where
   product-in p q a b h k = go (varies a) (varies b)
     where
       go : (s t : Bool) → In (cond s (cond t (refused p) (fit p q (combined zero_form b.number a))) (fit p q (combined zero_form a.number b)))
-      go true true = none
+      go true true = tt
       go true false = combined-in p q zero_form b.number a none h
       go false t = combined-in p q zero_form a.number b none k
 
-  next-in : (w : Worked) (f : ℕ → Form → Worked) → In w → ((q : ℕ) → In (f q w.form)) → In (next w f)
-  unfolding next onwards
-  next-in w f h k = go w.reached
-    where
-      go : (u : Reached) → In (onwards w f u)
-      go (At q) = k q
-      go (Fault p) = h
+  next-in : (w : Reading) (f : ℕ → Form → Reading) → In w → ((q : ℕ) (x : Form) → Only n x.coefficients → In (f q x)) → In (next w f)
+  unfolding next
+  next-in (Ok w) f h k = k w.next w.form h
+  next-in (Err e) f h k = tt
 
-  joined_in : (p : ℕ) (a : Form) (m : ℤ) (w : Worked) → Only n a.coefficients → In w → In (joined p a m w)
+  joined_in : (p : ℕ) (a : Form) (m : ℤ) (w : Reading) → Only n a.coefficients → In w → In (joined p a m w)
   unfolding joined
-  joined_in p a m w h k = next-in w (λ q b. fit p q (combined a m b)) k (λ q. combined-in p q a m w.form h k)
+  joined_in p a m w h k = next-in w (λ q b. fit p q (combined a m b)) k (λ q b i. combined-in p q a m b h i)
 
-  multiplied-in : (p : ℕ) (a : Form) (w : Worked) → Only n a.coefficients → In w → In (multiplied p a w)
+  multiplied-in : (p : ℕ) (a : Form) (w : Reading) → Only n a.coefficients → In w → In (multiplied p a w)
   unfolding multiplied
-  multiplied-in p a w h k = next-in w (λ q b. forms.product p q a b) k (λ q. product-in p q a w.form h k)
+  multiplied-in p a w h k = next-in w (λ q b. forms.product p q a b) k (λ q b i. product-in p q a b h i)
 
-  collected-in : (p : ℕ) (a : Form) (w : Worked) → Only n a.coefficients → In w → In (collected_at p a w)
+  collected-in : (p : ℕ) (a : Form) (w : Reading) → Only n a.coefficients → In w → In (collected_at p a w)
   unfolding collected_at collected
-  collected-in p a w h k = next-in w (λ q b. fit p q (collected a b)) k (λ q. fit-in p q (collected a w.form) (both (negsuc 0) h k))
+  collected-in p a w h k = next-in w (λ q b. fit p q (collected a b)) k (λ q b i. fit-in p q (collected a b) (both (negsuc 0) h i))
 
   letter-in : (p v : ℕ) → In (variable_at n p v)
   unfolding variable_at
@@ -100,7 +95,7 @@ module _ (n : ℕ) where
     where
       go : (b : Bool) → ltb v n ≡ b → In (cond b (reaches (p + 1) (single v)) (refused p))
       go true e = one v (ltb-true v n e)
-      go false e = none
+      go false e = tt
 
   mutual
     unfolding work_expression number_at
@@ -108,37 +103,37 @@ module _ (n : ℕ) where
     expression-in : (e : Expression) (p : ℕ) → In (work_expression n p e)
     expression-in (term t) p = term_in t p
     expression-in (sum e i j t) p =
-        next-in (work_expression n p e) (λ q x. joined (q + i) x (pos 1) (work_term n (q + i + 1 + j) t)) (expression-in e p) λ q.
-        joined_in (q + i) (work_expression n p e).form (pos 1) (work_term n (q + i + 1 + j) t) (expression-in e p) (term_in t (q + i + 1 + j))
+        next-in (work_expression n p e) (λ q x. joined (q + i) x (pos 1) (work_term n (q + i + 1 + j) t)) (expression-in e p) λ q x h.
+        joined_in (q + i) x (pos 1) (work_term n (q + i + 1 + j) t) h (term_in t (q + i + 1 + j))
     expression-in (difference e i j t) p =
-        next-in (work_expression n p e) (λ q x. joined (q + i) x (negsuc 0) (work_term n (q + i + 1 + j) t)) (expression-in e p) λ q.
-        joined_in (q + i) (work_expression n p e).form (negsuc 0) (work_term n (q + i + 1 + j) t) (expression-in e p) (term_in t (q + i + 1 + j))
+        next-in (work_expression n p e) (λ q x. joined (q + i) x (negsuc 0) (work_term n (q + i + 1 + j) t)) (expression-in e p) λ q x h.
+        joined_in (q + i) x (negsuc 0) (work_term n (q + i + 1 + j) t) h (term_in t (q + i + 1 + j))
 
     term_in : (t : Term) (p : ℕ) → In (work_term n p t)
     term_in (factor f) p = factor-in f p
     term_in (product t i j f) p =
-        next-in (work_term n p t) (λ q x. multiplied (q + i) x (work_factor n (q + i + 1 + j) f)) (term_in t p) λ q.
-        multiplied-in (q + i) (work_term n p t).form (work_factor n (q + i + 1 + j) f) (term_in t p) (factor-in f (q + i + 1 + j))
+        next-in (work_term n p t) (λ q x. multiplied (q + i) x (work_factor n (q + i + 1 + j) f)) (term_in t p) λ q x h.
+        multiplied-in (q + i) x (work_factor n (q + i + 1 + j) f) h (factor-in f (q + i + 1 + j))
 
     factor-in : (f : Factor) (p : ℕ) → In (work_factor n p f)
     factor-in (number d ds) p = chosen-in (ltb (decimal_of d ds) (2 ^ 31)) p (p + suc (length ds)) _ none
     factor-in (variable v) p = letter-in p v
-    factor-in (bracket i e j) p = next-in (work_expression n (p + 1 + i) e) (λ q x. reaches (q + j + 1) x) (expression-in e (p + 1 + i)) (λ q. expression-in e (p + 1 + i))
+    factor-in (bracket i e j) p = next-in (work_expression n (p + 1 + i) e) (λ q x. reaches (q + j + 1) x) (expression-in e (p + 1 + i)) (λ q x h. h)
     factor-in (negative i f) p = joined_in p zero_form (negsuc 0) (work_factor n (p + 1 + i) f) none (factor-in f (p + 1 + i))
 
   row_in : (c : Comparison) → In (work_row n c)
   unfolding work_row
   row_in c =
-      next-in (work_expression n c.before c.left) _ (expression-in c.left c.before) λ q.
-      collected-in (q + c.between) (work_expression n c.before c.left).form _ (expression-in c.left c.before) (expression-in c.right (q + c.between + 2 + c.beyond))
+      next-in (work_expression n c.before c.left) _ (expression-in c.left c.before) λ q x h.
+      collected-in (q + c.between) x _ h (expression-in c.right (q + c.between + 2 + c.beyond))
 
-  typed-only : {text : List ℕ} {a : TypedRow} → Typed n text a → Only n a.coefficients
+  typed-only : {text : List ℕ} {a : Answered} → Typed n text a → Only n (coefficients_of a)
   typed-only (count-refused h) = none
   typed-only (length-refused l m h) = none
   typed-only (text-refused l m s p b) = none
   typed-only (value-refused l m s c e p r) = none
-  typed-only (accepted l m s c e q r) = row_in c
+  typed-only (accepted l m s c e q x r) = subst In r (row_in c)
 
 -- in every answer, accepted or refused
-pub beyond-zero : (n : ℕ) (text : List ℕ) (i : ℕ) → n ≤ i → get_or (typed_row n text).coefficients i (pos 0) ≡ pos 0
+pub beyond-zero : (n : ℕ) (text : List ℕ) (i : ℕ) → n ≤ i → get_or (coefficients_of (typed_row n text)) i (pos 0) ≡ pos 0
 beyond-zero n text i h = (typed-only n (typed-is n text)).beyond i h

@@ -10,7 +10,7 @@ use lib.ListN.{length, get_or, drop, drop_of_length-le}
 use lib.Seq.{drop-cons}
 use borrow.Author.Tests.{lt-leb}
 use Rattle.farkas.specs.Lists.{every}
-use Rattle.typed.specs.declared.forms.Entry.TheVariants.{Fits, Outside}
+use Rattle.std.specs.Prelude.{Some, None}
 use Rattle.typed.specs.declared.forms.Form.{Form}
 use Rattle.typed.specs.Forms.{plus, s32, entry_of, fit, reaches, refused, is_zero}
 
@@ -44,19 +44,19 @@ unfolding every
 passes-all f xs i h = ap (every f) (drop_of_length-le xs h)
 
 -- what an entry says of its number
-tested : (b : Bool) (z v : ℤ) → cond b (Fits z) Outside ≡ Fits v → (b ≡ true) × (z ≡ v)
+tested : (b : Bool) (z v : ℤ) → cond b (Some z) None ≡ Some v → (b ≡ true) × (z ≡ v)
 tested true z v e = (refl, cc)
 tested false z v e = absurd (let u : ◌≡◌ {A = ℕ} 0 1 = cc in omega arith)
 
-pub entry-fits : (z v : ℤ) → entry_of z ≡ Fits v → (s32 z ≡ true) × (z ≡ v)
+pub entry-fits : (z v : ℤ) → entry_of z ≡ Some v → (s32 z ≡ true) × (z ≡ v)
 unfolding entry_of
 entry-fits z v e = tested (s32 z) z v e
 
-failed : (b : Bool) (z : ℤ) → cond b (Fits z) Outside ≡ Outside → b ≡ false
+failed : (b : Bool) (z : ℤ) → cond b (Some z) None ≡ None → b ≡ false
 failed true z e = absurd (let u : ◌≡◌ {A = ℕ} 0 1 = cc in omega arith)
 failed false z e = refl
 
-pub entry-outside : (z : ℤ) → entry_of z ≡ Outside → s32 z ≡ false
+pub entry-outside : (z : ℤ) → entry_of z ≡ None → s32 z ≡ false
 unfolding entry_of
 entry-outside z e = failed (s32 z) z e
 

@@ -9,22 +9,17 @@ use lib.ListN.{length, length-append}
 use Rattle.typed.specs.declared.signs.Sign.{Sign}
 use Rattle.typed.specs.declared.signs.Sign.TheVariants.{Close, Plus, Minus, Times}
 use Rattle.typed.specs.declared.forms.Form.{Form}
-use Rattle.typed.specs.declared.forms.Reached.{Reached}
-use Rattle.typed.specs.declared.forms.Reached.TheVariants.{At, Fault}
-use Rattle.typed.specs.declared.forms.Worked.{Worked}
+use Rattle.std.specs.Prelude.{Ok, Err}
 use Rattle.typed.specs.Text.{Expression, term, sum, difference, Term, factor, product, Factor, number, variable, bracket, negative, blanks, digits, spell, spell_term, spell_factor, Comparison, spell_row}
-use Rattle.typed.specs.Forms.{reaches, onwards, next, zero_form, joined, multiplied, number_at}
+use Rattle.typed.specs.Forms.{Reading, reaches, next, zero_form, joined, multiplied, number_at}
 use Rattle.typed.specs.Values.{decimal_of, work_expression, work_term, work_factor}
-use Rattle.typed.proofs.PlaceLaws.{same, chosen, next_place, joined-place, multiplied-place, variable-place}
+use Rattle.typed.proofs.PlaceLaws.{same, chosen, passed, joined-place, multiplied-place, variable-place}
 use Rattle.typed.proofs.StandLaws.{length-blanks}
 
-pub next-same : (w : Worked) (f g : ℕ → Form → Worked) → ((q : ℕ) → w.reached ≡ At q → f q w.form ≡ g q w.form) → next w f ≡ next w g
-unfolding next onwards
-next-same w f g h = go w.reached refl
-  where
-    go : (u : Reached) → w.reached ≡ u → onwards w f u ≡ onwards w g u
-    go (At q) e = h q e
-    go (Fault p) e = refl
+pub next-same : (w : Reading) (f g : ℕ → Form → Reading) → ((q : ℕ) (x : Form) → w ≡ reaches q x → f q x ≡ g q x) → next w f ≡ next w g
+unfolding next
+next-same (Ok w) f g h = h w.next w.form refl
+next-same (Err e) f g h = refl
 
 -- a tree's value ends where its spelling does
 pub digits-length : (ds : List ℕ) → length (digits ds) ≡ length ds
@@ -35,9 +30,9 @@ digits-length (d ∷ ds) = ap suc (digits-length ds)
 pub operand-length : (xs ys : List Sign) (i j : ℕ) (s : Sign) → length (xs ++ (blanks i ++ (s ∷ (blanks j ++ ys)))) ≡ length xs + i + 1 + j + length ys
 operand-length xs ys i j s = simp (length-append, length-blanks) (omega (arith, length-blanks i, length-blanks j))
 
-number-end : (p d : ℕ) (ds : List ℕ) (q : ℕ) → (number_at p (p + suc (length ds)) (decimal_of d ds)).reached ≡ At q → p + suc (length ds) ≡ q
+number-end : (p d : ℕ) (ds : List ℕ) (q : ℕ) (y : Form) → number_at p (p + suc (length ds)) (decimal_of d ds) ≡ reaches q y → p + suc (length ds) ≡ q
 unfolding number_at
-number-end p d ds q h = chosen (ltb (decimal_of d ds) (2 ^ 31)) p (p + suc (length ds)) q _ h
+number-end p d ds q y h = chosen (ltb (decimal_of d ds) (2 ^ 31)) p (p + suc (length ds)) q _ y h
 
 pub bracket-length : (xs : List Sign) (i j : ℕ) → length (blanks i ++ (xs ++ (blanks j ++ (Close ∷ [])))) ≡ i + length xs + j + 1
 bracket-length xs i j = simp length-append (omega (arith, length-blanks i, length-blanks j))
@@ -45,36 +40,40 @@ bracket-length xs i j = simp length-append (omega (arith, length-blanks i, lengt
 mutual
   unfolding work_expression spell
 
-  pub expression-end : (e : Expression) (n p q : ℕ) → (work_expression n p e).reached ≡ At q → q ≡ p + length (spell e)
-  expression-end (term t) n p q h = term-end t n p q h
-  expression-end (sum e i j t) n p q h =
-      let a = next_place (work_expression n p e) (λ q x. joined (q + i) x (pos 1) (work_term n (q + i + 1 + j) t)) q h in
-      let b = expression-end e n p a.0 a.1 in
-      let c = term-end t n (a.0 + i + 1 + j) q (joined-place (a.0 + i) _ (pos 1) _ q a.2) in
+  pub expression-end : (e : Expression) (n p q : ℕ) (y : Form) → work_expression n p e ≡ reaches q y → q ≡ p + length (spell e)
+  expression-end (term t) n p q y h = term-end t n p q y h
+  expression-end (sum e i j t) n p q y h =
+      let a = passed (work_expression n p e) (λ q x. joined (q + i) x (pos 1) (work_term n (q + i + 1 + j) t)) q y h in
+      let b = expression-end e n p a.at a.form a.was in
+      let o = joined-place (a.at + i) _ (pos 1) _ q y a.then in
+      let c = term-end t n (a.at + i + 1 + j) q o.form o.is in
       omega (arith, operand-length (spell e) (spell_term t) i j Plus)
-  expression-end (difference e i j t) n p q h =
-      let a = next_place (work_expression n p e) (λ q x. joined (q + i) x (negsuc 0) (work_term n (q + i + 1 + j) t)) q h in
-      let b = expression-end e n p a.0 a.1 in
-      let c = term-end t n (a.0 + i + 1 + j) q (joined-place (a.0 + i) _ (negsuc 0) _ q a.2) in
+  expression-end (difference e i j t) n p q y h =
+      let a = passed (work_expression n p e) (λ q x. joined (q + i) x (negsuc 0) (work_term n (q + i + 1 + j) t)) q y h in
+      let b = expression-end e n p a.at a.form a.was in
+      let o = joined-place (a.at + i) _ (negsuc 0) _ q y a.then in
+      let c = term-end t n (a.at + i + 1 + j) q o.form o.is in
       omega (arith, operand-length (spell e) (spell_term t) i j Minus)
 
-  pub term-end : (t : Term) (n p q : ℕ) → (work_term n p t).reached ≡ At q → q ≡ p + length (spell_term t)
-  term-end (factor f) n p q h = factor-end f n p q h
-  term-end (product t i j f) n p q h =
-      let a = next_place (work_term n p t) (λ q x. multiplied (q + i) x (work_factor n (q + i + 1 + j) f)) q h in
-      let b = term-end t n p a.0 a.1 in
-      let c = factor-end f n (a.0 + i + 1 + j) q (multiplied-place (a.0 + i) _ _ q a.2) in
+  pub term-end : (t : Term) (n p q : ℕ) (y : Form) → work_term n p t ≡ reaches q y → q ≡ p + length (spell_term t)
+  term-end (factor f) n p q y h = factor-end f n p q y h
+  term-end (product t i j f) n p q y h =
+      let a = passed (work_term n p t) (λ q x. multiplied (q + i) x (work_factor n (q + i + 1 + j) f)) q y h in
+      let b = term-end t n p a.at a.form a.was in
+      let o = multiplied-place (a.at + i) _ _ q y a.then in
+      let c = factor-end f n (a.at + i + 1 + j) q o.form o.is in
       omega (arith, operand-length (spell_term t) (spell_factor f) i j Times)
 
-  pub factor-end : (f : Factor) (n p q : ℕ) → (work_factor n p f).reached ≡ At q → q ≡ p + length (spell_factor f)
-  factor-end (number d ds) n p q h = omega (arith, number-end p d ds q h, digits-length ds)
-  factor-end (variable v) n p q h = variable-place n p v q h
-  factor-end (bracket i e j) n p q h =
-      let a = next_place (work_expression n (p + 1 + i) e) (λ q x. reaches (q + j + 1) x) q h in
-      let b = expression-end e n (p + 1 + i) a.0 a.1 in
-      omega (arith, same a.2, bracket-length (spell e) i j)
-  factor-end (negative i f) n p q h =
-      let c = factor-end f n (p + 1 + i) q (joined-place p zero_form (negsuc 0) _ q h) in
+  pub factor-end : (f : Factor) (n p q : ℕ) (y : Form) → work_factor n p f ≡ reaches q y → q ≡ p + length (spell_factor f)
+  factor-end (number d ds) n p q y h = omega (arith, number-end p d ds q y h, digits-length ds)
+  factor-end (variable v) n p q y h = variable-place n p v q y h
+  factor-end (bracket i e j) n p q y h =
+      let a = passed (work_expression n (p + 1 + i) e) (λ q x. reaches (q + j + 1) x) q y h in
+      let b = expression-end e n (p + 1 + i) a.at a.form a.was in
+      omega (arith, same a.then, bracket-length (spell e) i j)
+  factor-end (negative i f) n p q y h =
+      let o = joined-place p zero_form (negsuc 0) _ q y h in
+      let c = factor-end f n (p + 1 + i) q o.form o.is in
       omega (arith, length-append (blanks i) (spell_factor f), length-blanks i)
 
 -- how many operators a sum or a product has, and how many steps its parts may take

@@ -5,13 +5,13 @@ use Prim.Native.Nat.{ℕ, ◌+◌}
 use lib.IntN.{ℤ, pos, negsuc}
 use lib.ListN.{replicate}
 use Rattle.farkas.specs.Lists.{every}
-use Rattle.typed.specs.declared.TypedRow.{TypedRow}
+use Rattle.std.specs.Prelude.{Ok}
 use Rattle.typed.specs.Signs.{sign_of, signs, sign_at}
 use Rattle.typed.specs.Turns.{by_sum, sense_of, by_product, by_close, by_factor}
 use Rattle.typed.specs.Scan.{run, passes_by, passes, start, scanned}
-use Rattle.typed.specs.Forms.{plus, combined, s32, fit, onwards, next, is_zero, varies, joined, product, multiplied, variable_at, number_at, collected, collected_at}
+use Rattle.typed.specs.Forms.{plus, combined, s32, fit, next, is_zero, varies, joined, product, multiplied, variable_at, number_at, collected, collected_at}
 use Rattle.typed.specs.Working.{lead_by, lead, skip, on_digit, digit_count, decimal, whole_at, closed_at, expression_at, sums_at, term_at, products_at, factor_at, row_in, enough, row_at}
-use Rattle.typed.specs.Typed.{count_refused, length_refused, text_refused, value_refused, reached_row, worked_row, scanned_row, short_row, counted_row, typed_row}
+use Rattle.typed.specs.Typed.{Answered, count_refused, length_refused, text_refused, value_refused, worked_row, scanned_row, short_row, counted_row, typed_row}
 
 -- bytes
 abbrev Text : Type 0
@@ -64,8 +64,8 @@ abbrev outside : Text
 outside = digits (2 ∷ 1 ∷ 4 ∷ 7 ∷ 4 ∷ 8 ∷ 3 ∷ 6 ∷ 4 ∷ 8 ∷ [])
 
 -- a row in two variables
-abbrev row : ℤ → ℤ → ℤ → TypedRow
-row x y bound = record { number = 0; place = 0; coefficients = x ∷ y ∷ replicate 6 (pos 0); bound = bound }
+abbrev row : ℤ → ℤ → ℤ → Answered
+row x y bound = Ok (record { coefficients = x ∷ y ∷ replicate 6 (pos 0); bound = bound })
 
 -- n outside 1 to 8 before all else; then the length, whatever the text holds. 255 opening brackets are only cut short
 pub tested-first :
@@ -138,7 +138,7 @@ pub valueless :
     ∷ value_refused 0
     ∷ text_refused 3
     ∷ [])
-unfolding every sign_of signs sign_at by_sum sense_of by_product by_close by_factor run passes_by passes start scanned plus combined s32 fit onwards next is_zero varies joined product multiplied variable_at number_at collected collected_at lead_by lead skip on_digit digit_count decimal whole_at closed_at expression_at sums_at term_at products_at factor_at row_in enough row_at reached_row worked_row scanned_row short_row counted_row typed_row
+unfolding every sign_of signs sign_at by_sum sense_of by_product by_close by_factor run passes_by passes start scanned plus combined s32 fit next is_zero varies joined product multiplied variable_at number_at collected collected_at lead_by lead skip on_digit digit_count decimal whole_at closed_at expression_at sums_at term_at products_at factor_at row_in enough row_at worked_row scanned_row short_row counted_row typed_row
 valueless = refl
 
 -- rows: `(a-a)*b<=1`, `a<=-2147483647-1`, `2*a - b <= 5` and `-a + 2*b <= -11`, as rows are shown, and ` - -a+3<=2*(b_1)`
@@ -155,5 +155,5 @@ pub accepted :
     ∷ row (negsuc 0) (pos 2) (negsuc 10)
     ∷ row (pos 1) (negsuc 1) (negsuc 4)
     ∷ [])
-unfolding every sign_of signs sign_at by_sum sense_of by_product by_close by_factor run passes_by passes start scanned plus combined s32 fit onwards next is_zero varies joined product multiplied variable_at number_at collected collected_at lead_by lead skip on_digit digit_count decimal whole_at closed_at expression_at sums_at term_at products_at factor_at row_in enough row_at reached_row worked_row scanned_row short_row counted_row typed_row
+unfolding every sign_of signs sign_at by_sum sense_of by_product by_close by_factor run passes_by passes start scanned plus combined s32 fit next is_zero varies joined product multiplied variable_at number_at collected collected_at lead_by lead skip on_digit digit_count decimal whole_at closed_at expression_at sums_at term_at products_at factor_at row_in enough row_at worked_row scanned_row short_row counted_row typed_row
 accepted = refl

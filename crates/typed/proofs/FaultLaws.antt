@@ -1,5 +1,5 @@
 -- What is refused as 17 stands in the spelling of the tree that is worked out. Assumes nothing.
-use mathlib.Core.Path.{◌≡◌, refl}
+use mathlib.Core.Path.{◌≡◌, refl, sym}
 use mathlib.Core.Bool.{Bool, true, false, cond, ◌&&◌}
 use Prim.Native.Nat.{ℕ, suc, ◌+◌, ◌^◌, ◌≤◌, ◌<◌}
 use native.Mathlib.Omega.{arith}
@@ -9,22 +9,21 @@ use lib.ListN.{length, length-append}
 use Rattle.farkas.specs.Lists.{every}
 use Rattle.typed.specs.declared.signs.Sign.TheVariants.{Plus, Minus, Times}
 use Rattle.typed.specs.declared.forms.Form.{Form}
-use Rattle.typed.specs.declared.forms.Reached.{Reached}
-use Rattle.typed.specs.declared.forms.Reached.TheVariants.{At, Fault}
-use Rattle.typed.specs.declared.forms.Worked.{Worked}
+use Rattle.std.specs.Prelude.{Ok, Err}
 use Rattle.typed.specs.Text.{Expression, term, sum, difference, Term, factor, product, Factor, number, variable, bracket, negative, blanks, spell, spell_term, spell_factor, Comparison, spell_row}
-use Rattle.typed.specs.Forms.{s32, reaches, refused, fit, onwards, next, zero_form, combined, collected, joined, varies, multiplied, variable_at, number_at, collected_at}
+use Rattle.typed.specs.Forms.{Reading, s32, reaches, refused, fit, next, zero_form, combined, collected, joined, varies, multiplied, variable_at, number_at, collected_at}
 use Rattle.typed.specs.Forms as forms
 use Rattle.typed.specs.Values.{decimal_of, work_expression, work_term, work_factor, work_row}
 use Rattle.typed.specs.Following.{FaultBelow}
+use Rattle.typed.proofs.PlaceLaws.{no, same_fault}
 use Rattle.typed.proofs.StandLaws.{length-blanks}
 use Rattle.typed.proofs.EndLaws.{operand-length, bracket-length, expression-end, term-end, row-length}
 
 -- a result that was tested is refused at its own place
 module _ (end : ℕ) where
   chosen-below : (b : Bool) (p q : ℕ) (x : Form) → p < end → FaultBelow end (cond b (reaches q x) (refused p))
-  chosen-below true p q x h = record { place = λ r e. absurd (let z : ◌≡◌ {A = ℕ} 0 1 = cc in omega arith) }
-  chosen-below false p q x h = record { place = λ r e. let z : p ≡ r = cc in omega arith }
+  chosen-below true p q x h = record { place = λ r e. no (sym e) }
+  chosen-below false p q x h = record { place = λ r e. let z : p ≡ r = same_fault e in omega arith }
 
   fit-below : (p q : ℕ) (x : Form) → p < end → FaultBelow end (fit p q x)
   unfolding fit
@@ -39,25 +38,22 @@ module _ (end : ℕ) where
       go true false = fit-below p q (combined zero_form b.number a) h
       go false t = fit-below p q (combined zero_form a.number b) h
 
-  next-below : (w : Worked) (f : ℕ → Form → Worked) → FaultBelow end w → ((q : ℕ) → w.reached ≡ At q → FaultBelow end (f q w.form)) → FaultBelow end (next w f)
-  unfolding next onwards
-  next-below w f h k = go w.reached refl
-    where
-      go : (u : Reached) → w.reached ≡ u → FaultBelow end (onwards w f u)
-      go (At q) e = k q e
-      go (Fault p) e = h
+  next-below : (w : Reading) (f : ℕ → Form → Reading) → FaultBelow end w → ((q : ℕ) (x : Form) → w ≡ reaches q x → FaultBelow end (f q x)) → FaultBelow end (next w f)
+  unfolding next
+  next-below (Ok w) f h k = k w.next w.form refl
+  next-below (Err e) f h k = h
 
-  joined-below : (p : ℕ) (a : Form) (m : ℤ) (w : Worked) → p < end → FaultBelow end w → FaultBelow end (joined p a m w)
+  joined-below : (p : ℕ) (a : Form) (m : ℤ) (w : Reading) → p < end → FaultBelow end w → FaultBelow end (joined p a m w)
   unfolding joined
-  joined-below p a m w h k = next-below w (λ q b. fit p q (combined a m b)) k (λ q e. fit-below p q (combined a m w.form) h)
+  joined-below p a m w h k = next-below w (λ q b. fit p q (combined a m b)) k (λ q b e. fit-below p q (combined a m b) h)
 
-  multiplied-below : (p : ℕ) (a : Form) (w : Worked) → p < end → FaultBelow end w → FaultBelow end (multiplied p a w)
+  multiplied-below : (p : ℕ) (a : Form) (w : Reading) → p < end → FaultBelow end w → FaultBelow end (multiplied p a w)
   unfolding multiplied
-  multiplied-below p a w h k = next-below w (λ q b. forms.product p q a b) k (λ q e. product-below p q a w.form h)
+  multiplied-below p a w h k = next-below w (λ q b. forms.product p q a b) k (λ q b e. product-below p q a b h)
 
-  collected-below : (p : ℕ) (a : Form) (w : Worked) → p < end → FaultBelow end w → FaultBelow end (collected_at p a w)
+  collected-below : (p : ℕ) (a : Form) (w : Reading) → p < end → FaultBelow end w → FaultBelow end (collected_at p a w)
   unfolding collected_at
-  collected-below p a w h k = next-below w (λ q b. fit p q (collected a b)) k (λ q e. fit-below p q (collected a w.form) h)
+  collected-below p a w h k = next-below w (λ q b. fit p q (collected a b)) k (λ q b e. fit-below p q (collected a b) h)
 
   mutual
     unfolding work_expression spell variable_at number_at
@@ -66,28 +62,28 @@ module _ (end : ℕ) where
     expression-below (term t) n p h = term-below t n p h
     expression-below (sum e i j t) n p h =
         let l = operand-length (spell e) (spell_term t) i j Plus in
-        next-below (work_expression n p e) (λ q x. joined (q + i) x (pos 1) (work_term n (q + i + 1 + j) t)) (expression-below e n p (omega arith)) λ q r.
-        let b = expression-end e n p q r in
-        joined-below (q + i) (work_expression n p e).form (pos 1) (work_term n (q + i + 1 + j) t) (omega arith) (term-below t n (q + i + 1 + j) (omega arith))
+        next-below (work_expression n p e) (λ q x. joined (q + i) x (pos 1) (work_term n (q + i + 1 + j) t)) (expression-below e n p (omega arith)) λ q x r.
+        let b = expression-end e n p q x r in
+        joined-below (q + i) x (pos 1) (work_term n (q + i + 1 + j) t) (omega arith) (term-below t n (q + i + 1 + j) (omega arith))
     expression-below (difference e i j t) n p h =
         let l = operand-length (spell e) (spell_term t) i j Minus in
-        next-below (work_expression n p e) (λ q x. joined (q + i) x (negsuc 0) (work_term n (q + i + 1 + j) t)) (expression-below e n p (omega arith)) λ q r.
-        let b = expression-end e n p q r in
-        joined-below (q + i) (work_expression n p e).form (negsuc 0) (work_term n (q + i + 1 + j) t) (omega arith) (term-below t n (q + i + 1 + j) (omega arith))
+        next-below (work_expression n p e) (λ q x. joined (q + i) x (negsuc 0) (work_term n (q + i + 1 + j) t)) (expression-below e n p (omega arith)) λ q x r.
+        let b = expression-end e n p q x r in
+        joined-below (q + i) x (negsuc 0) (work_term n (q + i + 1 + j) t) (omega arith) (term-below t n (q + i + 1 + j) (omega arith))
 
     term-below : (t : Term) (n p : ℕ) → p + length (spell_term t) ≤ end → FaultBelow end (work_term n p t)
     term-below (factor f) n p h = factor-below f n p h
     term-below (product t i j f) n p h =
         let l = operand-length (spell_term t) (spell_factor f) i j Times in
-        next-below (work_term n p t) (λ q x. multiplied (q + i) x (work_factor n (q + i + 1 + j) f)) (term-below t n p (omega arith)) λ q r.
-        let b = term-end t n p q r in
-        multiplied-below (q + i) (work_term n p t).form (work_factor n (q + i + 1 + j) f) (omega arith) (factor-below f n (q + i + 1 + j) (omega arith))
+        next-below (work_term n p t) (λ q x. multiplied (q + i) x (work_factor n (q + i + 1 + j) f)) (term-below t n p (omega arith)) λ q x r.
+        let b = term-end t n p q x r in
+        multiplied-below (q + i) x (work_factor n (q + i + 1 + j) f) (omega arith) (factor-below f n (q + i + 1 + j) (omega arith))
 
     factor-below : (f : Factor) (n p : ℕ) → p + length (spell_factor f) ≤ end → FaultBelow end (work_factor n p f)
     factor-below (number d ds) n p h = chosen-below (ltb (decimal_of d ds) (2 ^ 31)) p (p + suc (length ds)) _ (omega arith)
     factor-below (variable v) n p h = chosen-below (ltb v n) p (p + 1) _ (omega arith)
     factor-below (bracket i e j) n p h =
-        next-below (work_expression n (p + 1 + i) e) (λ q x. reaches (q + j + 1) x) (expression-below e n (p + 1 + i) (omega (arith, bracket-length (spell e) i j))) λ q r.
+        next-below (work_expression n (p + 1 + i) e) (λ q x. reaches (q + j + 1) x) (expression-below e n (p + 1 + i) (omega (arith, bracket-length (spell e) i j))) λ q x r.
         chosen-below true p (q + j + 1) _ (omega arith)
     factor-below (negative i f) n p h =
         joined-below p zero_form (negsuc 0) (work_factor n (p + 1 + i) f) (omega arith) (factor-below f n (p + 1 + i) (omega (arith, length-append (blanks i) (spell_factor f), length-blanks i)))
@@ -98,6 +94,6 @@ module _ (end : ℕ) where
       let l = c.left in
       let o = c.right in
       let whole = row-length c in
-      next-below (work_expression n c.before l) _ (expression-below l n c.before (omega arith)) λ q r.
-      let b = expression-end l n c.before q r in
-      collected-below (q + c.between) (work_expression n c.before l).form (work_expression n (q + c.between + 2 + c.beyond) o) (omega arith) (expression-below o n (q + c.between + 2 + c.beyond) (omega arith))
+      next-below (work_expression n c.before l) _ (expression-below l n c.before (omega arith)) λ q x r.
+      let b = expression-end l n c.before q x r in
+      collected-below (q + c.between) x (work_expression n (q + c.between + 2 + c.beyond) o) (omega arith) (expression-below o n (q + c.between + 2 + c.beyond) (omega arith))

@@ -1,88 +1,73 @@
 -- How what the readers promise is put together: an operand and what follows it, an operator with its right operand and what follows
--- that, and the four kinds of factor. Assumes nothing.
-use mathlib.Core.Path.{◌≡◌, refl, sym, ap, ◌∙◌, subst}
+-- that, and a turn that ends. Assumes nothing.
+use mathlib.Core.Path.{◌≡◌, sym, ap, ◌∙◌}
 use Prim.Native.Nat.{ℕ, zero, suc, ◌+◌, ◌*◌, ◌-◌, ◌≤◌, ◌<◌}
 use native.Mathlib.Omega.{arith}
-use Rattle.typed.specs.declared.forms.Reached.{Reached}
-use Rattle.typed.specs.declared.forms.Reached.TheVariants.{At, Fault}
-use Rattle.typed.specs.declared.forms.Worked.{Worked}
-use Rattle.typed.specs.Following.{Follows, start_of, rest_of}
+use Rattle.typed.specs.declared.forms.Form.{Form}
+use Rattle.typed.specs.Forms.{Reading, reaches, refused}
+use Rattle.typed.specs.Following.{Follows}
+use Rattle.typed.proofs.PlaceLaws.{no}
+
+-- a reading ends between two places
+abbrev pub Lies : ℕ → ℕ → Reading → Type 0
+Lies least end r = (q : ℕ) (x : Form) → r ≡ reaches q x → (least ≤ q) × (q ≤ end)
+
+-- what was refused ends nowhere
+pub refused-lies : {least end p : ℕ} {r : Reading} → r ≡ refused p → Lies least end r
+refused-lies e = λ q x f. no (sym e ∙ f)
 
 -- the end of a text
 module _ (end : ℕ) where
-  -- what was read lies before what follows it
-  rest-of : (u : Reached) (least : ℕ) → ((q : ℕ) → u ≡ At q → (least ≤ q) × (q ≤ end)) → rest_of end u ≤ 3 * (end - least) + 1
-  unfolding rest_of
-  rest-of (At q) least h = let b = h q refl in omega arith
-  rest-of (Fault p) least h = omega arith
+  -- a turn whose result is known at every number of steps
+  pub turn : (steps least : ℕ) (whole : ℕ → Reading) {r : Reading} → ((j : ℕ) → steps ≤ j → whole (suc j) ≡ r) → Lies least end r → Follows steps least end whole r
+  turn steps least whole {r} is h = record {
+    same = λ k. elim k as (λ k. steps < k → r ≡ whole k) [ zero ↦ λ g. absurd (omega arith) | suc j ↦ λ g. sym (is j (omega arith)) ];
+    place = h;
+  }
 
-  pub rest_below : (w : Worked) (least : ℕ) → ((q : ℕ) → w.reached ≡ At q → (least ≤ q) × (q ≤ end)) → rest_of end w.reached ≤ 3 * (end - least) + 1
-  rest_below w = rest-of w.reached
-
-  start-of : (u : Reached) (least r : ℕ) → ((q : ℕ) → u ≡ At q → (least ≤ q) × (q ≤ end)) → start_of end u ≤ r → r ≤ end → least ≤ r
-  unfolding start_of
-  start-of (At q) least r h a b = let i = h q refl in omega arith
-  start-of (Fault p) least r h a b = absurd (omega arith)
-
-  start-least : (w : Worked) (least r : ℕ) → ((q : ℕ) → w.reached ≡ At q → (least ≤ q) × (q ≤ end)) → start_of end w.reached ≤ r → r ≤ end → least ≤ r
-  start-least w = start-of w.reached
+  -- an operand that is refused
+  pub operand-refused :
+      (at s steps p : ℕ) (first : ℕ → Reading) (rest : ℕ → Reading → Reading) (whole : ℕ → Reading) {left r : Reading}
+      → ((j : ℕ) → whole (suc j) ≡ rest j (first j))
+      → ((j : ℕ) → rest j (refused p) ≡ refused p)
+      → s < steps
+      → Follows s (at + 1) end first left
+      → left ≡ refused p
+      → r ≡ refused p
+      → Follows steps (at + 1) end whole r
+  operand-refused at s steps p first rest whole is stays l f e g =
+      turn steps (at + 1) whole (λ j h. is j ∙ ap (rest j) (sym (f.same j (omega arith)) ∙ e) ∙ stays j ∙ sym g) (refused-lies g)
 
   -- an operand, and what follows it
   pub operand :
-      (at s steps : ℕ) (first : ℕ → Worked) (rest : ℕ → Worked → Worked) (whole : ℕ → Worked) {left r : Worked}
+      (at s steps q : ℕ) (x : Form) (first : ℕ → Reading) (rest : ℕ → Reading → Reading) (whole : ℕ → Reading) {left r : Reading}
       → ((j : ℕ) → whole (suc j) ≡ rest j (first j))
       → s < steps
       → 3 * (end - (at + 1)) + 1 < steps
       → Follows s (at + 1) end first left
-      → Follows (rest_of end left.reached) (start_of end left.reached) end (λ k. rest k left) r
+      → left ≡ reaches q x
+      → Follows (3 * (end - q) + 1) q end (λ k. rest k (reaches q x)) r
       → Follows steps (at + 1) end whole r
-  operand at s steps first rest whole {left} {r} is l m f g = record {
-    same = λ k. elim k as (λ k. steps < k → r ≡ whole k) [ zero ↦ λ h. absurd (omega arith) | suc j ↦ λ h. g.same j (omega (arith, rest_below left (at + 1) f.place)) ∙ ap (rest j) (f.same j (omega arith)) ∙ sym (is j) ];
-    place = λ q e. let b = g.place q e in (start-least left (at + 1) q f.place b.0 b.1, b.1);
-  }
-
-  pub rest_at : (w : Worked) (q : ℕ) → w.reached ≡ At q → rest_of end w.reached ≡ 3 * (end - q) + 1
-  unfolding rest_of
-  rest_at w q e = ap (rest_of end) e
-
-  pub start-at : (w : Worked) (q : ℕ) → w.reached ≡ At q → start_of end w.reached ≡ q
-  unfolding start_of
-  start-at w q e = ap (start_of end) e
+  operand at s steps q x first rest whole is l m f e g =
+      let b = f.place q x e in
+      turn steps (at + 1) whole (λ j h. is j ∙ ap (rest j) (sym (f.same j (omega arith)) ∙ e) ∙ sym (g.same j (omega arith)))
+      (λ p y h. let i = g.place p y h in (omega arith, i.1))
 
   -- an operator at a place, its right operand, and what follows that
-  pub operator :
-      (q place s : ℕ) (first : ℕ → Worked) (join : Worked → Worked) (rest : ℕ → Worked → Worked) (whole : ℕ → Worked) {right both r : Worked}
-      → ((j : ℕ) → whole (suc j) ≡ rest j (join (first j)))
-      → ((w : Worked) (p : ℕ) → (join w).reached ≡ At p → w.reached ≡ At p)
-      → q ≤ place
-      → place < end
-      → s ≤ 3 * (end - (place + 1)) + 2
-      → Follows s (place + 1 + 1) end first right
-      → both ≡ join right
-      → Follows (rest_of end both.reached) (start_of end both.reached) end (λ k. rest k both) r
-      → Follows (3 * (end - q) + 1) q end whole r
-  operator q place s first join rest whole {right} {both} {r} is ends l m n f e g =
-      let lies : (p : ℕ) → both.reached ≡ At p → (place + 1 + 1 ≤ p) × (p ≤ end) = λ p h. f.place p (ends right p (ap (λ w. w.reached) (sym e) ∙ h)) in
-      record {
-        same = λ k. elim k as (λ k. 3 * (end - q) + 1 < k → r ≡ whole k) [ zero ↦ λ h. absurd (omega arith) | suc j ↦ λ h. g.same j (omega (arith, rest_below both (place + 1 + 1) lies)) ∙ ap (rest j) (e ∙ ap join (f.same j (omega arith))) ∙ sym (is j) ];
-        place = λ p h. let b = g.place p h in (omega (arith, start-least both (place + 1 + 1) p lies b.0 b.1), b.1);
-      }
+  module _
+      (q place s : ℕ) (first : ℕ → Reading) (join : Reading → Reading) (rest : ℕ → Reading → Reading) (whole : ℕ → Reading)
+      (is : (j : ℕ) → whole (suc j) ≡ rest j (join (first j)))
+      (l : q ≤ place) (m : place < end) (n : s ≤ 3 * (end - (place + 1)) + 2)
+      {right : Reading} (f : Follows s (place + 1 + 1) end first right)
+    where
+      before : (j : ℕ) → 3 * (end - q) + 1 ≤ j → whole (suc j) ≡ rest j (join right)
+      before j h = is j ∙ ap (λ v. rest j (join v)) (sym (f.same j (omega arith)))
 
-  -- nothing follows
-  pub ends : (u : Reached) (whole : ℕ → Worked) {r : Worked} → r.reached ≡ u → ((q : ℕ) → r.reached ≡ At q → q ≤ end) → ((j : ℕ) → whole (suc j) ≡ r) → Follows (rest_of end u) (start_of end u) end whole r
-  unfolding rest_of start_of
-  ends u whole {r} e h is = record {
-    same = λ k. elim k as (λ k. rest_of end u < k → r ≡ whole k) [ zero ↦ λ g. absurd (omega arith) | suc j ↦ λ g. sym (is j) ];
-    place = λ q f. (subst (λ v. start_of end v ≤ q) (sym f ∙ e) (omega arith), h q f);
-  }
+      -- the operand or the operator is refused
+      pub operator-refused : (p : ℕ) {r : Reading} → join right ≡ refused p → ((j : ℕ) → rest j (refused p) ≡ refused p) → r ≡ refused p → Follows (3 * (end - q) + 1) q end whole r
+      operator-refused p e stays g = turn (3 * (end - q) + 1) q whole (λ j h. before j h ∙ ap (rest j) e ∙ stays j ∙ sym g) (refused-lies g)
 
-  -- a factor
-  pub factor :
-      (at : ℕ) (whole : ℕ → Worked) {r : Worked}
-      → ((j : ℕ) → 3 * (end - at) < j → whole (suc j) ≡ r)
-      → ((q : ℕ) → r.reached ≡ At q → (at + 1 ≤ q) × (q ≤ end))
-      → Follows (3 * (end - at) + 1) (at + 1) end whole r
-  factor at whole {r} is h = record {
-    same = λ k. elim k as (λ k. 3 * (end - at) + 1 < k → r ≡ whole k) [ zero ↦ λ g. absurd (omega arith) | suc j ↦ λ g. sym (is j (omega arith)) ];
-    place = h;
-  }
+      pub operator : (z : ℕ) (y : Form) {r : Reading} → join right ≡ reaches z y → (place + 1 + 1 ≤ z) × (z ≤ end) → Follows (3 * (end - z) + 1) z end (λ k. rest k (reaches z y)) r → Follows (3 * (end - q) + 1) q end whole r
+      operator z y e b g =
+          turn (3 * (end - q) + 1) q whole (λ j h. before j h ∙ ap (rest j) e ∙ sym (g.same j (omega arith)))
+          (λ p x h. let i = g.place p x h in (omega arith, i.1))

@@ -12,15 +12,15 @@ use Rattle.typed.specs.declared.signs.Sign.{Sign}
 use Rattle.typed.specs.declared.signs.Sign.TheVariants.{Close}
 use Rattle.typed.specs.declared.forms.Form.{Form}
 use Rattle.typed.specs.declared.reading.Digits.{Digits}
-use Rattle.typed.specs.declared.forms.Reached.TheVariants.{At}
+use Rattle.std.specs.Prelude.{Ok}
 use Rattle.typed.specs.declared.forms.Worked.{Worked}
 use Rattle.typed.specs.Signs.{signs, sign_at}
 use Rattle.typed.specs.Turns.{by_close}
-use Rattle.typed.specs.Forms.{zero_form, constant, single, combined, fit, reaches, refused, varies, product, variable_at, number_at}
+use Rattle.typed.specs.Forms.{zero_form, constant, combined, fit, reaches, refused, next, varies, product, number_at}
 use Rattle.typed.specs.Working.{skip, capped, decimal, digit_count, digits_at, whole_at, closed_at}
 use Rattle.farkas.proofs.Order.{compare}
 use Rattle.typed.proofs.ReadLaws.{capped_small, capped-large}
-use Rattle.typed.proofs.TurnLaws.{next-at, no-close}
+use Rattle.typed.proofs.TurnLaws.{no-close}
 
 -- a product, by which of its factors vary
 module _ (p q : ℕ) (a b : Form) where
@@ -64,27 +64,17 @@ module _ (text : List ℕ) (p : ℕ) (d : Digits) (e : d ≡ digits_at text p) w
       (λ g. sym (ap (λ t. cond t (reaches (p + digit_count (signs (drop p text))) (constant (pos v))) (refused p)) (le-ltb v (2 ^ 31) g)))
       (compare v (2 ^ 31))
 
--- a letter
-pub letter-known : (n p v : ℕ) → v < n → variable_at n p v ≡ reaches (p + 1) (single v)
-unfolding variable_at
-letter-known n p v h = ap (λ t. cond t (reaches (p + 1) (single v)) (refused p)) (lt-ltb v n h)
-
-pub letter-beyond : (n p v : ℕ) → n ≤ v → variable_at n p v ≡ refused p
-unfolding variable_at
-letter-beyond n p v h = ap (λ t. cond t (reaches (p + 1) (single v)) (refused p)) (le-ltb v n h)
-
 -- the end of a bracket
-module _ (text : List ℕ) (w : Worked) (q place : ℕ) (s : Sign) (e : w.reached ≡ At q) (f : place ≡ skip text q) (g : s ≡ sign_at text place) where
-  close-turn : closed_at text w ≡ by_close s (reaches (place + 1) w.form) (refused place)
-  unfolding closed_at
+module _ (text : List ℕ) (w : Worked) (place : ℕ) (s : Sign) (f : place ≡ skip text w.next) (g : s ≡ sign_at text place) where
+  close-turn : closed_at text (Ok w) ≡ by_close s (reaches (place + 1) w.form) (refused place)
+  unfolding closed_at next
   close-turn =
-      next-at w _ q e
-      ∙ ap (λ p. by_close (sign_at text p) (reaches (p + 1) w.form) (refused p)) (sym f)
+      ap (λ p. by_close (sign_at text p) (reaches (p + 1) w.form) (refused p)) (sym f)
       ∙ ap (λ x. by_close x (reaches (place + 1) w.form) (refused place)) (sym g)
 
-  pub bracket-closed : s ≡ Close → closed_at text w ≡ reaches (place + 1) w.form
+  pub bracket-closed : s ≡ Close → closed_at text (Ok w) ≡ reaches (place + 1) w.form
   unfolding by_close
   bracket-closed h = close-turn ∙ ap (λ x. by_close x (reaches (place + 1) w.form) (refused place)) h
 
-  pub bracket-open : (s ≡ Close → ⊥) → closed_at text w ≡ refused place
+  pub bracket-open : (s ≡ Close → ⊥) → closed_at text (Ok w) ≡ refused place
   bracket-open h = close-turn ∙ no-close s _ (refused place) h

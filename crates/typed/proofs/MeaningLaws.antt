@@ -16,18 +16,17 @@ use Rattle.farkas.specs.Lists.{every}
 use Rattle.farkas.specs.Rows.{item, dot}
 use Rattle.farkas.proofs.Integers.{split, by_parts}
 use Rattle.typed.specs.declared.TypedRow.{TypedRow}
+use Rattle.typed.specs.declared.Unread.{Unread}
 use Rattle.typed.specs.declared.forms.Form.{Form}
-use Rattle.typed.specs.declared.forms.Reached.TheVariants.{At}
-use Rattle.typed.specs.declared.forms.Worked.{Worked}
+use Rattle.std.specs.Prelude.{Ok, Err, is_err}
 use Rattle.typed.specs.Text.{Expression, term, sum, difference, Term, factor, product, Factor, number, variable, bracket, negative, Comparison, Spells}
-use Rattle.typed.specs.Forms.{s32, constant, single, plus, reaches, refused, fit, next, zero_form, combined, collected, joined, is_zero, varies, multiplied, variable_at, number_at, collected_at}
+use Rattle.typed.specs.Forms.{s32, constant, single, plus, Reading, reaches, refused, fit, next, zero_form, combined, collected, joined, is_zero, varies, multiplied, variable_at, number_at, collected_at}
 use Rattle.typed.specs.Forms as forms
 use Rattle.typed.specs.Values.{decimal_of, work_expression, work_term, work_factor, work_row}
-use Rattle.typed.specs.Typed.{row_of, Typed, count-refused, length-refused, text-refused, value-refused, accepted, typed_row}
+use Rattle.typed.specs.Typed.{Answered, Typed, count-refused, length-refused, text-refused, value-refused, accepted, typed_row}
 use Rattle.typed.specs.Meaning.{value_of, term_value, factor_value, Says, Holds}
 use Rattle.typed.proofs.CombineLaws.{plus-length}
-use Rattle.typed.proofs.PlaceLaws.{no, next_place}
-use Rattle.typed.proofs.TurnLaws.{next-at}
+use Rattle.typed.proofs.PlaceLaws.{no, same_form, passed}
 use Rattle.typed.proofs.RowLaws.{row-works}
 use Rattle.typed.proofs.TypedLaws.{typed-is}
 
@@ -143,87 +142,89 @@ module _ (xs : List ℤ) where
       yes false e = sym e
 
   -- a result that was tested and fits is the result
-  chosen-worth : (b : Bool) (p q r : ℕ) (x : Form) {z : ℤ} → (cond b (reaches q x) (refused p)).reached ≡ At r → Worth x z → Worth (cond b (reaches q x) (refused p)).form z
-  chosen-worth true p q r x e h = h
-  chosen-worth false p q r x e h = no e
+  chosen-worth : (b : Bool) (p q r : ℕ) (x y : Form) {z : ℤ} → cond b (reaches q x) (refused p) ≡ reaches r y → Worth x z → Worth y z
+  chosen-worth true p q r x y {z} e h = subst (λ f. Worth f z) (same_form e) h
+  chosen-worth false p q r x y e h = no e
 
-  fit-worth : (p q r : ℕ) (x : Form) {z : ℤ} → (fit p q x).reached ≡ At r → Worth x z → Worth (fit p q x).form z
+  fit-worth : (p q r : ℕ) (x y : Form) {z : ℤ} → fit p q x ≡ reaches r y → Worth x z → Worth y z
   unfolding fit
-  fit-worth p q r x e h = chosen-worth (every s32 x.coefficients && s32 x.number) p q r x e h
+  fit-worth p q r x y e h = chosen-worth (every s32 x.coefficients && s32 x.number) p q r x y e h
 
-  scaled-worth : (p q r : ℕ) (b : Form) {x y z : ℤ} → (fit p q (combined zero_form x b)).reached ≡ At r → x ≡ y → Worth b z → Worth (fit p q (combined zero_form x b)).form (y *ℤ z)
-  scaled-worth p q r b {x} {y} {z} e f h =
-      subst (Worth (fit p q (combined zero_form x b)).form) (zero-plus (x *ℤ z) ∙ ap (λ w. w *ℤ z) f) (fit-worth p q r (combined zero_form x b) e (combined-worth zero_form x b (constant-worth (pos 0)) h))
+  scaled-worth : (p q r : ℕ) (b f : Form) {x y z : ℤ} → fit p q (combined zero_form x b) ≡ reaches r f → x ≡ y → Worth b z → Worth f (y *ℤ z)
+  scaled-worth p q r b f {x} {y} {z} e i h =
+      subst (Worth f) (zero-plus (x *ℤ z) ∙ ap (λ w. w *ℤ z) i) (fit-worth p q r (combined zero_form x b) f e (combined-worth zero_form x b (constant-worth (pos 0)) h))
 
-  abbrev by-factors : ℕ → ℕ → Form → Form → Bool → Bool → Worked
+  abbrev by-factors : ℕ → ℕ → Form → Form → Bool → Bool → Reading
   by-factors p q a b s t = cond s (cond t (refused p) (fit p q (combined zero_form b.number a))) (fit p q (combined zero_form a.number b))
 
-  product-worth : (p q r : ℕ) (a b : Form) {y z : ℤ} → (forms.product p q a b).reached ≡ At r → Worth a y → Worth b z → Worth (forms.product p q a b).form (y *ℤ z)
+  product-worth : (p q r : ℕ) (a b x : Form) {y z : ℤ} → forms.product p q a b ≡ reaches r x → Worth a y → Worth b z → Worth x (y *ℤ z)
   unfolding forms.product
-  product-worth p q r a b {y} {z} e h k = go (varies a) refl (varies b) refl e
+  product-worth p q r a b x {y} {z} e h k = go (varies a) refl (varies b) refl e
     where
-      go : (s : Bool) → varies a ≡ s → (t : Bool) → varies b ≡ t → (by-factors p q a b s t).reached ≡ At r → Worth (by-factors p q a b s t).form (y *ℤ z)
+      go : (s : Bool) → varies a ≡ s → (t : Bool) → varies b ≡ t → by-factors p q a b s t ≡ reaches r x → Worth x (y *ℤ z)
       go true f true g e = no e
-      go true f false g e = subst (Worth (fit p q (combined zero_form b.number a)).form) (*ℤ_comm z y) (scaled-worth p q r a e (still-worth b g k) h)
-      go false f t g e = scaled-worth p q r b e (still-worth a f h) k
+      go true f false g e = subst (Worth x) (*ℤ_comm z y) (scaled-worth p q r a x e (still-worth b g k) h)
+      go false f t g e = scaled-worth p q r b x e (still-worth a f h) k
 
   -- what is worked out next
   next-worth :
-      (w : Worked) (f : ℕ → Form → Worked) (r : ℕ) {z : ℤ}
-      → (next w f).reached ≡ At r
-      → ((q : ℕ) → w.reached ≡ At q → (f q w.form).reached ≡ At r → Worth (f q w.form).form z)
-      → Worth (next w f).form z
-  next-worth w f r {z} e h =
-      let n = next_place w f r e in
-      subst (λ v. Worth v.form z) (sym (next-at w f n.0 n.1)) (h n.0 n.1 n.2)
+      (w : Reading) (f : ℕ → Form → Reading) (r : ℕ) (y : Form) {z : ℤ}
+      → next w f ≡ reaches r y
+      → ((q : ℕ) (x : Form) → w ≡ reaches q x → f q x ≡ reaches r y → Worth y z)
+      → Worth y z
+  next-worth w f r y e h =
+      let n = passed w f r y e in
+      h n.at n.form n.was n.then
 
-  joined-worth : (p : ℕ) (a : Form) (m : ℤ) (w : Worked) (r : ℕ) {y z : ℤ} → (joined p a m w).reached ≡ At r → Worth a y → ((q : ℕ) → w.reached ≡ At q → Worth w.form z) → Worth (joined p a m w).form (y +ℤ m *ℤ z)
+  joined-worth : (p : ℕ) (a : Form) (m : ℤ) (w : Reading) (r : ℕ) (x : Form) {y z : ℤ} → joined p a m w ≡ reaches r x → Worth a y → ((q : ℕ) (b : Form) → w ≡ reaches q b → Worth b z) → Worth x (y +ℤ m *ℤ z)
   unfolding joined
-  joined-worth p a m w r e h k =
-      next-worth w (λ q b. fit p q (combined a m b)) r e (λ q f g. fit-worth p q r (combined a m w.form) g (combined-worth a m w.form h (k q f)))
+  joined-worth p a m w r x e h k =
+      next-worth w (λ q b. fit p q (combined a m b)) r x e (λ q b f g. fit-worth p q r (combined a m b) x g (combined-worth a m b h (k q b f)))
 
-  multiplied-worth : (p : ℕ) (a : Form) (w : Worked) (r : ℕ) {y z : ℤ} → (multiplied p a w).reached ≡ At r → Worth a y → ((q : ℕ) → w.reached ≡ At q → Worth w.form z) → Worth (multiplied p a w).form (y *ℤ z)
+  multiplied-worth : (p : ℕ) (a : Form) (w : Reading) (r : ℕ) (x : Form) {y z : ℤ} → multiplied p a w ≡ reaches r x → Worth a y → ((q : ℕ) (b : Form) → w ≡ reaches q b → Worth b z) → Worth x (y *ℤ z)
   unfolding multiplied
-  multiplied-worth p a w r e h k =
-      next-worth w (λ q b. forms.product p q a b) r e (λ q f g. product-worth p q r a w.form g h (k q f))
+  multiplied-worth p a w r x e h k =
+      next-worth w (λ q b. forms.product p q a b) r x e (λ q b f g. product-worth p q r a b x g h (k q b f))
 
   -- every tree in the first n ≤ 8 variables
   module _ (n : ℕ) (few : n ≤ 8) where
-    letter-worth : (p v q : ℕ) → (variable_at n p v).reached ≡ At q → Worth (variable_at n p v).form (item xs v)
+    letter-worth : (p v q : ℕ) (x : Form) → variable_at n p v ≡ reaches q x → Worth x (item xs v)
     unfolding variable_at
-    letter-worth p v q e = go (ltb v n) refl e
+    letter-worth p v q x e = go (ltb v n) refl e
       where
-        go : (b : Bool) → ltb v n ≡ b → (cond b (reaches (p + 1) (single v)) (refused p)).reached ≡ At q → Worth (cond b (reaches (p + 1) (single v)) (refused p)).form (item xs v)
-        go true f g = single-worth v (omega (arith, ltb-true v n f))
+        go : (b : Bool) → ltb v n ≡ b → cond b (reaches (p + 1) (single v)) (refused p) ≡ reaches q x → Worth x (item xs v)
+        go true f g = subst (λ y. Worth y (item xs v)) (same_form g) (single-worth v (omega (arith, ltb-true v n f)))
         go false f g = no g
 
     mutual
       unfolding work_expression value_of number_at
 
-      expression-worth : (e : Expression) (p q : ℕ) → (work_expression n p e).reached ≡ At q → Worth (work_expression n p e).form (value_of xs e)
-      expression-worth (term t) p q h = term-worth t p q h
-      expression-worth (sum e i j t) p q h =
-          next-worth (work_expression n p e) _ q h λ o f g.
-          subst (Worth (joined (o + i) (work_expression n p e).form (pos 1) (work_term n (o + i + 1 + j) t)).form) (added (value_of xs e) (term_value xs t))
-          (joined-worth (o + i) (work_expression n p e).form (pos 1) (work_term n (o + i + 1 + j) t) q g (expression-worth e p o f) (λ s l. term-worth t (o + i + 1 + j) s l))
-      expression-worth (difference e i j t) p q h =
-          next-worth (work_expression n p e) _ q h λ o f g.
-          subst (Worth (joined (o + i) (work_expression n p e).form (negsuc 0) (work_term n (o + i + 1 + j) t)).form) (taken (value_of xs e) (term_value xs t))
-          (joined-worth (o + i) (work_expression n p e).form (negsuc 0) (work_term n (o + i + 1 + j) t) q g (expression-worth e p o f) (λ s l. term-worth t (o + i + 1 + j) s l))
+      expression-worth : (e : Expression) (p q : ℕ) (x : Form) → work_expression n p e ≡ reaches q x → Worth x (value_of xs e)
+      expression-worth (term t) p q x h = term-worth t p q x h
+      expression-worth (sum e i j t) p q x h =
+          next-worth (work_expression n p e) _ q x h λ o a f g.
+          subst (Worth x) (added (value_of xs e) (term_value xs t))
+          (joined-worth (o + i) a (pos 1) (work_term n (o + i + 1 + j) t) q x g (expression-worth e p o a f) (λ s b l. term-worth t (o + i + 1 + j) s b l))
+      expression-worth (difference e i j t) p q x h =
+          next-worth (work_expression n p e) _ q x h λ o a f g.
+          subst (Worth x) (taken (value_of xs e) (term_value xs t))
+          (joined-worth (o + i) a (negsuc 0) (work_term n (o + i + 1 + j) t) q x g (expression-worth e p o a f) (λ s b l. term-worth t (o + i + 1 + j) s b l))
 
-      term-worth : (t : Term) (p q : ℕ) → (work_term n p t).reached ≡ At q → Worth (work_term n p t).form (term_value xs t)
-      term-worth (factor f) p q h = factor-worth f p q h
-      term-worth (product t i j f) p q h =
-          next-worth (work_term n p t) _ q h λ o k g.
-          multiplied-worth (o + i) (work_term n p t).form (work_factor n (o + i + 1 + j) f) q g (term-worth t p o k) (λ s l. factor-worth f (o + i + 1 + j) s l)
+      term-worth : (t : Term) (p q : ℕ) (x : Form) → work_term n p t ≡ reaches q x → Worth x (term_value xs t)
+      term-worth (factor f) p q x h = factor-worth f p q x h
+      term-worth (product t i j f) p q x h =
+          next-worth (work_term n p t) _ q x h λ o a k g.
+          multiplied-worth (o + i) a (work_factor n (o + i + 1 + j) f) q x g (term-worth t p o a k) (λ s b l. factor-worth f (o + i + 1 + j) s b l)
 
-      factor-worth : (f : Factor) (p q : ℕ) → (work_factor n p f).reached ≡ At q → Worth (work_factor n p f).form (factor_value xs f)
-      factor-worth (number d ds) p q h = chosen-worth (ltb (decimal_of d ds) (2 ^ 31)) p (p + suc (length ds)) q _ h (constant-worth (pos (decimal_of d ds)))
-      factor-worth (variable v) p q h = letter-worth p v q h
-      factor-worth (bracket i e j) p q h = next-worth (work_expression n (p + 1 + i) e) _ q h (λ o k g. expression-worth e (p + 1 + i) o k)
-      factor-worth (negative i f) p q h =
-          subst (Worth (joined p zero_form (negsuc 0) (work_factor n (p + 1 + i) f)).form) (taken (pos 0) (factor_value xs f) ∙ zero-plus (neg_ℤ (factor_value xs f)))
-          (joined-worth p zero_form (negsuc 0) (work_factor n (p + 1 + i) f) q h (constant-worth (pos 0)) (λ s l. factor-worth f (p + 1 + i) s l))
+      factor-worth : (f : Factor) (p q : ℕ) (x : Form) → work_factor n p f ≡ reaches q x → Worth x (factor_value xs f)
+      factor-worth (number d ds) p q x h = chosen-worth (ltb (decimal_of d ds) (2 ^ 31)) p (p + suc (length ds)) q _ x h (constant-worth (pos (decimal_of d ds)))
+      factor-worth (variable v) p q x h = letter-worth p v q x h
+      factor-worth (bracket i e j) p q x h =
+          next-worth (work_expression n (p + 1 + i) e) _ q x h λ o a k g.
+          subst (λ y. Worth y (value_of xs e)) (same_form g) (expression-worth e (p + 1 + i) o a k)
+      factor-worth (negative i f) p q x h =
+          subst (Worth x) (taken (pos 0) (factor_value xs f) ∙ zero-plus (neg_ℤ (factor_value xs f)))
+          (joined-worth p zero_form (negsuc 0) (work_factor n (p + 1 + i) f) q x h (constant-worth (pos 0)) (λ s b l. factor-worth f (p + 1 + i) s b l))
 
     -- both sides, and the collecting
     collected-holds : (a b : Form) {y z : ℤ} → Worth a y → Worth b z → (dot (collected a b).coefficients xs ≤ℤ (collected a b).number) ↔ (y ≤ℤ z)
@@ -236,36 +237,41 @@ module _ (xs : List ℤ) where
           λ l. subst (λ w. w ≤ℤ (b.number +ℤ negsuc 0 *ℤ a.number)) (sym parted) (moved_back d e a.number b.number (subst (λ w. (d +ℤ a.number) ≤ℤ w) (sym k.is) (subst (λ w. w ≤ℤ z) (sym h.is) l))),
         )
 
-    chosen_is : (b : Bool) (p q r : ℕ) (x : Form) → (cond b (reaches q x) (refused p)).reached ≡ At r → (cond b (reaches q x) (refused p)).form ≡ x
-    chosen_is true p q r x e = refl
-    chosen_is false p q r x e = no e
+    chosen_is : (b : Bool) (p q r : ℕ) (x y : Form) → cond b (reaches q x) (refused p) ≡ reaches r y → x ≡ y
+    chosen_is true p q r x y e = same_form e
+    chosen_is false p q r x y e = no e
 
-    fit_is : (p q r : ℕ) (x : Form) → (fit p q x).reached ≡ At r → (fit p q x).form ≡ x
+    fit_is : (p q r : ℕ) (x y : Form) → fit p q x ≡ reaches r y → x ≡ y
     unfolding fit
-    fit_is p q r x e = chosen_is (every s32 x.coefficients && s32 x.number) p q r x e
+    fit_is p q r x y e = chosen_is (every s32 x.coefficients && s32 x.number) p q r x y e
 
-    pub row-means : (c : Comparison) (q : ℕ) → (work_row n c).reached ≡ At q → Holds (row_of (work_row n c).form) xs ↔ Says c xs
+    pub row-means : (c : Comparison) (q : ℕ) (x : Form) → work_row n c ≡ reaches q x → (dot x.coefficients xs ≤ℤ x.number) ↔ Says c xs
     unfolding work_row collected_at
-    row-means c q h =
-        let l = work_expression n c.before c.left in
-        let m = next_place l _ q h in
-        let w = work_expression n (m.0 + c.between + 2 + c.beyond) c.right in
-        let o = next_place w _ q m.2 in
-        let is : (work_row n c).form ≡ collected l.form w.form =
-        ap (λ v. v.form) (next-at l _ m.0 m.1 ∙ next-at w _ o.0 o.1) ∙ fit_is (m.0 + c.between) o.0 q (collected l.form w.form) o.2 in
-        subst (λ x. (dot x.coefficients xs ≤ℤ x.number) ↔ Says c xs) (sym is)
-        (collected-holds l.form w.form (expression-worth c.left c.before m.0 m.1) (expression-worth c.right (m.0 + c.between + 2 + c.beyond) o.0 o.1))
+    row-means c q x h =
+        let l = passed (work_expression n c.before c.left) _ q x h in
+        let w = work_expression n (l.at + c.between + 2 + c.beyond) c.right in
+        let o = passed w _ q x l.then in
+        subst (λ y. (dot y.coefficients xs ≤ℤ y.number) ↔ Says c xs) (fit_is (l.at + c.between) o.at q (collected l.form o.form) x o.then)
+        (collected-holds l.form o.form (expression-worth c.left c.before l.at l.form l.was) (expression-worth c.right (l.at + c.between + 2 + c.beyond) o.at o.form o.was))
+
+-- a refusal is no row
+no-row : {A : Type 0} {e : Unread} {r : TypedRow} → ◌≡◌ {A = Answered} (Err e) (Ok r) → A
+no-row f = absurd (subst (λ a. T (is_err a)) f tt)
+
+abbrev row_in : TypedRow → Answered → TypedRow
+row_in d (Ok r) = r
+row_in d (Err e) = d
 
 -- of every answer that is no refusal
-typed-means : {n : ℕ} {text : List ℕ} {a : TypedRow} → Typed n text a → a.number ≡ 0 → (c : Comparison) → Spells text c → (xs : List ℤ) → Holds a xs ↔ Says c xs
-typed-means (count-refused h) z c f xs = absurd (omega arith)
-typed-means (length-refused l m h) z c f xs = absurd (omega arith)
-typed-means (text-refused l m s p b) z c f xs = absurd (omega arith)
-typed-means (value-refused l m s d e p r) z c f xs = absurd (omega arith)
-typed-means {n} {text} (accepted l m s d e q r) z c f xs =
-    let same : work_row n d ≡ work_row n c = sym (row-works n text d e) ∙ row-works n text c f in
-    subst (λ w. Holds (row_of w.form) xs ↔ Says c xs) (sym same) (row-means xs n m c q (ap (λ w. w.reached) (sym same) ∙ r))
+typed-means : {n : ℕ} {text : List ℕ} {a : Answered} → Typed n text a → (r : TypedRow) → a ≡ Ok r → (c : Comparison) → Spells text c → (xs : List ℤ) → Holds r xs ↔ Says c xs
+typed-means (count-refused h) r z c f xs = no-row z
+typed-means (length-refused l m h) r z c f xs = no-row z
+typed-means (text-refused l m s p b) r z c f xs = no-row z
+typed-means (value-refused l m s d e p g) r z c f xs = no-row z
+typed-means {n} {text} (accepted l m s d e q x g) r z c f xs =
+    let same : work_row n c ≡ reaches q x = sym (row-works n text c f) ∙ row-works n text d e ∙ g in
+    subst (λ y. Holds y xs ↔ Says c xs) (ap (row_in r) z) (row-means xs n m c q x same)
 
 -- an accepted row holds where the comparison that the text spells holds, and nowhere else
-pub row-holds : (n : ℕ) (text : List ℕ) (c : Comparison) → Spells text c → (typed_row n text).number ≡ 0 → (xs : List ℤ) → Holds (typed_row n text) xs ↔ Says c xs
-row-holds n text c e z xs = typed-means (typed-is n text) z c e xs
+pub row-holds : (n : ℕ) (text : List ℕ) (c : Comparison) → Spells text c → (r : TypedRow) → typed_row n text ≡ Ok r → (xs : List ℤ) → Holds r xs ↔ Says c xs
+row-holds n text c e r z xs = typed-means (typed-is n text) r z c e xs

@@ -12,13 +12,11 @@ use lib.Seq.{take-take}
 use Rattle.typed.specs.declared.signs.Sign.{Sign}
 use Rattle.typed.specs.declared.scan.Phase.{Phase}
 use Rattle.typed.specs.declared.scan.Phase.TheVariants.{Awaiting, Counting, Complete, Half}
-use Rattle.typed.specs.declared.scan.State.{State}
-use Rattle.typed.specs.declared.scan.State.TheVariants.{Dead, Live}
-use Rattle.typed.specs.declared.scan.Scanned.{Scanned}
-use Rattle.typed.specs.declared.scan.Scanned.TheVariants.{Keeps, Fails}
+use Rattle.std.specs.Prelude.{Some, None, Ok, Err}
+use Rattle.typed.specs.declared.scan.Live.{Live}
 use Rattle.typed.specs.Signs.{sign_of, signs}
 use Rattle.typed.specs.Text.{Valid, Mendable, Breaks}
-use Rattle.typed.specs.Scan.{step, run, accepted, passes, passes_by, start, scanned}
+use Rattle.typed.specs.Scan.{State, dead, live, Scanned, keeps_rules, breaks_at, step, run, accepted, passes, passes_by, start, scanned}
 use Rattle.typed.proofs.SignLaws.{signs-length}
 use Rattle.farkas.proofs.Order.{compare}
 use Rattle.typed.proofs.AcceptLaws.{run-append, Ended, in-number, after-all, spelled-accepted}
@@ -39,19 +37,19 @@ closes-all {r = true} zero in-number = tt
 closes-all {r = false} zero in-number = tt
 closes-all {r = true} zero after-all = tt
 closes-all {r = false} zero after-all = tt
-closes-all {r = r} (suc d) in-number = closes-all {r = r} {s = Live Complete d r} d after-all
-closes-all {r = r} (suc d) after-all = closes-all {r = r} {s = Live Complete d r} d after-all
+closes-all {r = r} (suc d) in-number = closes-all {r = r} {s = live Complete d r} d after-all
+closes-all {r = r} (suc d) after-all = closes-all {r = r} {s = live Complete d r} d after-all
 
 -- a state that is not dead has an ending
 pub record Ending (s : State) : Type 0 where
   pub ending : List ℕ
   pub mends : T (accepted (run s (signs ending)))
 
-live-ends : (p : Phase) (d : ℕ) (r : Bool) → Ending (Live p d r)
+live-ends : (p : Phase) (d : ℕ) (r : Bool) → Ending (live p d r)
 unfolding signs sign_of run
-live-ends Awaiting d r = record { ending = 48 ∷ closing d (other-side r); mends = closes-all {r = r} {s = Live Counting d r} d in-number }
-live-ends Counting d r = record { ending = closing d (other-side r); mends = closes-all {r = r} {s = Live Counting d r} d in-number }
-live-ends Complete d r = record { ending = closing d (other-side r); mends = closes-all {r = r} {s = Live Complete d r} d after-all }
+live-ends Awaiting d r = record { ending = 48 ∷ closing d (other-side r); mends = closes-all {r = r} {s = live Counting d r} d in-number }
+live-ends Counting d r = record { ending = closing d (other-side r); mends = closes-all {r = r} {s = live Counting d r} d in-number }
+live-ends Complete d r = record { ending = closing d (other-side r); mends = closes-all {r = r} {s = live Complete d r} d after-all }
 live-ends Half d r = record { ending = 61 ∷ 48 ∷ []; mends = tt }
 
 signs-append : (xs ys : List ℕ) → signs (xs ++ ys) ≡ signs xs ++ signs ys
@@ -72,82 +70,84 @@ pub accepted-valid : (text : List ℕ) → T (accepted (run start (signs text)))
 accepted-valid text h = let w = accepted-spelled (signs text) h in record { row = w.row; spelled = w.spelled }
 
 -- a text whose signs pass can be mended, and one whose signs do not cannot
-pub live-mendable : (text : List ℕ) (p : Phase) (d : ℕ) (r : Bool) → run start (signs text) ≡ Live p d r → Mendable text
+pub live-mendable : (text : List ℕ) (p : Phase) (d : ℕ) (r : Bool) → run start (signs text) ≡ live p d r → Mendable text
 live-mendable text p d r e =
     let w = live-ends p d r in
-    let whole : run start (signs (text ++ w.ending)) ≡ run (Live p d r) (signs w.ending) = ap (run start) (signs-append text w.ending) ∙ run-append start (signs text) (signs w.ending) ∙ ap (λ s. run s (signs w.ending)) e in
+    let whole : run start (signs (text ++ w.ending)) ≡ run (live p d r) (signs w.ending) = ap (run start) (signs-append text w.ending) ∙ run-append start (signs text) (signs w.ending) ∙ ap (λ s. run s (signs w.ending)) e in
     record { ending = w.ending; mended = accepted-valid (text ++ w.ending) (subst (λ s. T (accepted s)) (sym whole) w.mends) }
 
-pub dead-not-mendable : (text : List ℕ) → run start (signs text) ≡ Dead → Mendable text → ⊥
+pub dead-not-mendable : (text : List ℕ) → run start (signs text) ≡ dead → Mendable text → ⊥
 dead-not-mendable text e m =
-    let whole : run start (signs (text ++ m.ending)) ≡ run Dead (signs m.ending) = ap (run start) (signs-append text m.ending) ∙ run-append start (signs text) (signs m.ending) ∙ ap (λ s. run s (signs m.ending)) e in
+    let whole : run start (signs (text ++ m.ending)) ≡ run dead (signs m.ending) = ap (run start) (signs-append text m.ending) ∙ run-append start (signs text) (signs m.ending) ∙ ap (λ s. run s (signs m.ending)) e in
     dead_not (signs m.ending) (subst (λ s. T (accepted s)) whole (valid-accepted (text ++ m.ending) m.mended))
 
 -- where the signs stop passing
 pub record Alive (s : State) : Type 0 where
-  pub phase : Phase
-  pub depth : ℕ
-  pub right : Bool
-  pub is : s ≡ Live phase depth right
+  pub at : Live
+  pub is : s ≡ Some at
 
 pub record Stops (s : State) (xs : List Sign) (n : ℕ) : Type 0 where
   pub within : n ≤ length xs
-  pub live : Alive (run s (take n xs))
-  pub dies : n < length xs → run s (take (suc n) xs) ≡ Dead
+  pub alive : Alive (run s (take n xs))
+  pub dies : n < length xs → run s (take (suc n) xs) ≡ dead
 
-stops : (p : Phase) (d : ℕ) (r : Bool) (xs : List Sign) → Stops (Live p d r) xs (passes (Live p d r) xs)
+stops : (l : Live) (xs : List Sign) → Stops (Some l) xs (passes (Some l) xs)
 unfolding passes passes_by run
-stops p d r [] = record { within = omega arith; live = record { phase = p; depth = d; right = r; is = refl }; dies = λ h. absurd (omega arith) }
-stops p d r (x ∷ xs) = go (step (Live p d r) x) refl (λ p' d' r'. stops p' d' r' xs)
+stops l [] = record { within = omega arith; alive = record { at = l; is = refl }; dies = λ h. absurd (omega arith) }
+stops l (x ∷ xs) = go (step (Some l) x) refl (λ m. stops m xs)
   where
-    go : (s : State) → step (Live p d r) x ≡ s → ((p' : Phase) (d' : ℕ) (r' : Bool) → Stops (Live p' d' r') xs (passes (Live p' d' r') xs)) → Stops (Live p d r) (x ∷ xs) (passes_by s (passes s xs))
-    go Dead e k = record { within = omega arith; live = record { phase = p; depth = d; right = r; is = refl }; dies = λ h. e }
-    go (Live p' d' r') e k = record {
-      within = omega (arith, (k p' d' r').within);
-      live = subst (λ s. Alive (run s (take (passes (Live p' d' r') xs) xs))) (sym e) (k p' d' r').live;
-      dies = λ h. subst (λ s. run s (take (suc (passes (Live p' d' r') xs)) xs) ≡ Dead) (sym e) ((k p' d' r').dies (omega arith));
+    go : (s : State) → step (Some l) x ≡ s → ((m : Live) → Stops (Some m) xs (passes (Some m) xs)) → Stops (Some l) (x ∷ xs) (passes_by s (passes s xs))
+    go None e k = record { within = omega arith; alive = record { at = l; is = refl }; dies = λ h. e }
+    go (Some m) e k = record {
+      within = omega (arith, (k m).within);
+      alive = subst (λ s. Alive (run s (take (passes (Some m) xs) xs))) (sym e) (k m).alive;
+      dies = λ h. subst (λ s. run s (take (suc (passes (Some m) xs)) xs) ≡ dead) (sym e) ((k m).dies (omega arith));
     }
 
 -- the place of 16
 pub scan-breaks : (text : List ℕ) → (T (accepted (run start (signs text))) → ⊥) → Breaks text (passes start (signs text))
 unfolding start
 scan-breaks text h =
-    let n = passes (Live Awaiting zero false) (signs text) in
-    let w = stops Awaiting zero false (signs text) in
+    let n = passes (live Awaiting zero false) (signs text) in
+    let w = stops (record { phase = Awaiting; depth = zero; right = false }) (signs text) in
     record {
       invalid = λ v. h (valid-accepted text v);
       within = omega (arith, w.within, signs-length text);
-      mendable = live-mendable (take n text) w.live.phase w.live.depth w.live.right (ap (run (Live Awaiting zero false)) (signs-take n text) ∙ w.live.is);
-      first = λ l. dead-not-mendable (take (suc n) text) (ap (run (Live Awaiting zero false)) (signs-take (suc n) text) ∙ w.dies (omega (arith, signs-length text)));
+      mendable = live-mendable (take n text) w.alive.at.phase w.alive.at.depth w.alive.at.right (ap (run (live Awaiting zero false)) (signs-take n text) ∙ w.alive.is);
+      first = λ l. dead-not-mendable (take (suc n) text) (ap (run (live Awaiting zero false)) (signs-take (suc n) text) ∙ w.dies (omega (arith, signs-length text)));
     }
 
 -- the same of what the scan answers
 module _ (text : List ℕ) where
-  kept : (b : Bool) (p : ℕ) → cond b Keeps (Fails p) ≡ Keeps → T b
+  abbrev broken_at : Scanned → ℕ
+  broken_at (Ok u) = zero
+  broken_at (Err b) = b.place
+
+  kept : (b : Bool) (p : ℕ) → cond b keeps_rules (breaks_at p) ≡ keeps_rules → T b
   kept true p e = tt
   kept false p e = absurd (let z : ◌≡◌ {A = ℕ} 0 1 = cc in omega arith)
 
-  failed : (b : Bool) (p q : ℕ) → cond b Keeps (Fails p) ≡ Fails q → (T b → ⊥) × (p ≡ q)
+  failed : (b : Bool) (p q : ℕ) → cond b keeps_rules (breaks_at p) ≡ breaks_at q → (T b → ⊥) × (p ≡ q)
   failed true p q e = absurd (let z : ◌≡◌ {A = ℕ} 0 1 = cc in omega arith)
-  failed false p q e = ((λ t. t), cc)
+  failed false p q e = ((λ t. t), ap broken_at e)
 
-  pub keeps-valid : scanned text ≡ Keeps → Valid text
+  pub keeps-valid : scanned text ≡ keeps_rules → Valid text
   unfolding scanned
   keeps-valid e = accepted-valid text (kept (accepted (run start (signs text))) (passes start (signs text)) e)
 
-  pub fails-breaks : (p : ℕ) → scanned text ≡ Fails p → Breaks text p
+  pub fails-breaks : (p : ℕ) → scanned text ≡ breaks_at p → Breaks text p
   unfolding scanned
   fails-breaks p e =
       let f = failed (accepted (run start (signs text))) (passes start (signs text)) p e in
       subst (Breaks text) f.1 (scan-breaks text f.0)
 
   -- a text that keeps the rules breaks them nowhere, and one that breaks them does so at one place
-  pub valid-keeps : Valid text → scanned text ≡ Keeps
+  pub valid-keeps : Valid text → scanned text ≡ keeps_rules
   valid-keeps v = go (scanned text) refl
     where
-      go : (s : Scanned) → scanned text ≡ s → s ≡ Keeps
-      go Keeps e = refl
-      go (Fails p) e = absurd ((fails-breaks p e).invalid v)
+      go : (s : Scanned) → scanned text ≡ s → s ≡ keeps_rules
+      go (Ok u) e = refl
+      go (Err b) e = absurd ((fails-breaks b.place e).invalid v)
 
   earlier : {p q : ℕ} → Breaks text p → Breaks text q → p < q → ⊥
   earlier {p} {q} b d h =
@@ -163,9 +163,9 @@ module _ (text : List ℕ) where
   pub breaks-one : {p q : ℕ} → Breaks text p → Breaks text q → p ≡ q
   breaks-one {p} {q} b d = ⊎_elim (λ h. absurd (earlier b d h)) (λ h. ⊎_elim (λ k. absurd (earlier d b k)) (λ k. omega arith) (compare q p)) (compare p q)
 
-  pub breaks-fails : (p : ℕ) → Breaks text p → scanned text ≡ Fails p
+  pub breaks-fails : (p : ℕ) → Breaks text p → scanned text ≡ breaks_at p
   breaks-fails p b = go (scanned text) refl
     where
-      go : (s : Scanned) → scanned text ≡ s → s ≡ Fails p
-      go Keeps e = absurd (b.invalid (keeps-valid e))
-      go (Fails q) e = ap Fails (breaks-one (fails-breaks q e) b)
+      go : (s : Scanned) → scanned text ≡ s → s ≡ breaks_at p
+      go (Ok u) e = absurd (b.invalid (keeps-valid e))
+      go (Err d) e = ap breaks_at (breaks-one (fails-breaks d.place e) b)

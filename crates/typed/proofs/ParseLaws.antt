@@ -9,21 +9,20 @@ use lib.ListN.{length}
 use Rattle.typed.specs.declared.signs.Sign.{Sign}
 use Rattle.typed.specs.declared.signs.Sign.TheVariants.{Blank, Digit, Letter, Open, Close, Plus, Minus, Times, Less, Equal, Other}
 use Rattle.typed.specs.declared.scan.Phase.TheVariants.{Awaiting, Counting, Complete, Half}
-use Rattle.typed.specs.declared.scan.State.TheVariants.{Dead, Live}
 use Rattle.typed.specs.Text.{Expression, term, sum, difference, Term, factor, product, Factor, number, variable, bracket, negative, blanks, digits, spell, spell_term, spell_factor, Comparison, spell_row}
-use Rattle.typed.specs.Scan.{closed, compared, run, ended, accepted, start}
+use Rattle.typed.specs.Scan.{dead, live, closed, compared, run, ended, accepted, start}
 use Rattle.typed.proofs.ScanLaws.{dead-run}
 use Rattle.typed.proofs.AcceptLaws.{Operator, is-plus, is-minus, is-times}
 
 -- what may follow a factor
-pub dead_not : {A : Type 0} (xs : List Sign) → T (accepted (run Dead xs)) → A
+pub dead_not : {A : Type 0} (xs : List Sign) → T (accepted (run dead xs)) → A
 dead_not xs h = absurd (subst (λ t. T (accepted t)) (dead-run xs) h)
 
 pub data Follows (d : ℕ) (r : Bool) (xs : List Sign) : Type 0 where
   ends : (n : ℕ) → d ≡ zero → r ≡ true → xs ≡ blanks n → Follows d r xs
-  operates : (n : ℕ) (x : Sign) (rest : List Sign) → Operator x → xs ≡ blanks n ++ (x ∷ rest) → length rest < length xs → T (accepted (run (Live Awaiting d r) rest)) → Follows d r xs
-  closes : (n e : ℕ) (rest : List Sign) → d ≡ suc e → xs ≡ blanks n ++ (Close ∷ rest) → length rest < length xs → T (accepted (run (Live Complete e r) rest)) → Follows d r xs
-  compares : (n : ℕ) (rest : List Sign) → d ≡ zero → r ≡ false → xs ≡ blanks n ++ (Less ∷ (Equal ∷ rest)) → length rest < length xs → T (accepted (run (Live Awaiting zero true) rest)) → Follows d r xs
+  operates : (n : ℕ) (x : Sign) (rest : List Sign) → Operator x → xs ≡ blanks n ++ (x ∷ rest) → length rest < length xs → T (accepted (run (live Awaiting d r) rest)) → Follows d r xs
+  closes : (n e : ℕ) (rest : List Sign) → d ≡ suc e → xs ≡ blanks n ++ (Close ∷ rest) → length rest < length xs → T (accepted (run (live Complete e r) rest)) → Follows d r xs
+  compares : (n : ℕ) (rest : List Sign) → d ≡ zero → r ≡ false → xs ≡ blanks n ++ (Less ∷ (Equal ∷ rest)) → length rest < length xs → T (accepted (run (live Awaiting zero true) rest)) → Follows d r xs
 
 one-blank : {d : ℕ} {r : Bool} {xs : List Sign} → Follows d r xs → Follows d r (Blank ∷ xs)
 unfolding blanks
@@ -43,7 +42,7 @@ unfolding blanks
 follows-close zero r xs h = dead_not xs h
 follows-close (suc d) r xs h = closes zero d xs refl refl (omega arith) h
 
-follows-equal : (xs : List Sign) → T (accepted (run (Live Half zero false) xs)) → Follows zero false (Less ∷ xs)
+follows-equal : (xs : List Sign) → T (accepted (run (live Half zero false) xs)) → Follows zero false (Less ∷ xs)
 unfolding run blanks
 follows-equal [] h = absurd h
 follows-equal (Blank ∷ xs) h = dead_not xs h
@@ -63,7 +62,7 @@ follows-less zero false xs h = follows-equal xs h
 follows-less zero true xs h = dead_not xs h
 follows-less (suc d) r xs h = dead_not xs h
 
-follows : (d : ℕ) (r : Bool) (xs : List Sign) → T (accepted (run (Live Complete d r) xs)) → Follows d r xs
+follows : (d : ℕ) (r : Bool) (xs : List Sign) → T (accepted (run (live Complete d r) xs)) → Follows d r xs
 unfolding run blanks
 follows d r [] h = follows-end d r h
 follows d r (Blank ∷ xs) h = one-blank (follows d r xs h)
@@ -84,9 +83,9 @@ pub record Digits (d : ℕ) (r : Bool) (xs : List Sign) : Type 0 where
   pub rest : List Sign
   pub text : xs ≡ digits ds ++ rest
   pub short : length rest ≤ length xs
-  pub goes : T (accepted (run (Live Complete d r) rest))
+  pub goes : T (accepted (run (live Complete d r) rest))
 
-digits_of : (d : ℕ) (r : Bool) (xs : List Sign) → T (accepted (run (Live Counting d r) xs)) → Digits d r xs
+digits_of : (d : ℕ) (r : Bool) (xs : List Sign) → T (accepted (run (live Counting d r) xs)) → Digits d r xs
 unfolding run digits
 digits_of d r [] h = record { ds = []; rest = []; text = refl; short = omega arith; goes = h }
 digits_of d r (Blank ∷ xs) h = record { ds = []; rest = Blank ∷ xs; text = refl; short = omega arith; goes = h }
@@ -110,13 +109,13 @@ pub record FactorIn (d : ℕ) (r : Bool) (xs : List Sign) : Type 0 where
   pub rest : List Sign
   pub text : xs ≡ blanks lead ++ (spell_factor tree ++ rest)
   pub short : length rest < length xs
-  pub goes : T (accepted (run (Live Complete d r) rest))
+  pub goes : T (accepted (run (live Complete d r) rest))
 
 -- An expression, after blanks, and what follows it, which is no operator
 pub data Stop (d : ℕ) (r : Bool) (xs : List Sign) : Type 0 where
   ends : (n : ℕ) → d ≡ zero → r ≡ true → xs ≡ blanks n → Stop d r xs
-  closes : (n e : ℕ) (rest : List Sign) → d ≡ suc e → xs ≡ blanks n ++ (Close ∷ rest) → length rest < length xs → T (accepted (run (Live Complete e r) rest)) → Stop d r xs
-  compares : (n : ℕ) (rest : List Sign) → d ≡ zero → r ≡ false → xs ≡ blanks n ++ (Less ∷ (Equal ∷ rest)) → length rest < length xs → T (accepted (run (Live Awaiting zero true) rest)) → Stop d r xs
+  closes : (n e : ℕ) (rest : List Sign) → d ≡ suc e → xs ≡ blanks n ++ (Close ∷ rest) → length rest < length xs → T (accepted (run (live Complete e r) rest)) → Stop d r xs
+  compares : (n : ℕ) (rest : List Sign) → d ≡ zero → r ≡ false → xs ≡ blanks n ++ (Less ∷ (Equal ∷ rest)) → length rest < length xs → T (accepted (run (live Awaiting zero true) rest)) → Stop d r xs
 
 pub record ExpressionIn (d : ℕ) (r : Bool) (xs : List Sign) : Type 0 where
   pub lead : ℕ
@@ -201,14 +200,14 @@ bracket-stop {d = d} {r = r} {xs = xs} w (closes n e rest g f l h) =
           ∙ ap (λ ys. blanks w.lead ++ ys) (sym (append_assoc (spell w.tree) (blanks n ++ (Close ∷ [])) rest))
           ∙ sym (append_assoc (blanks w.lead) (spell w.tree ++ (blanks n ++ (Close ∷ []))) rest));
       short = omega (arith, w.short, l);
-      goes = subst (λ k. T (accepted (run (Live Complete k r) rest))) same h;
+      goes = subst (λ k. T (accepted (run (live Complete k r) rest))) same h;
     }
 bracket-stop w (compares n rest g f e l h) = absurd (omega arith)
 
 mutual
   unfolding run spell_factor blanks digits spell joined
 
-  expression-in : (fuel d : ℕ) (r : Bool) (xs : List Sign) → 2 * length xs < fuel → T (accepted (run (Live Awaiting d r) xs)) → ExpressionIn d r xs
+  expression-in : (fuel d : ℕ) (r : Bool) (xs : List Sign) → 2 * length xs < fuel → T (accepted (run (live Awaiting d r) xs)) → ExpressionIn d r xs
   expression-in zero d r xs b h = absurd (omega arith)
   expression-in (suc fuel) d r xs b h =
       let w = factor-in fuel d r xs (omega arith) h in
@@ -222,7 +221,7 @@ mutual
         stop = g.stop;
       }
 
-  going : (fuel d : ℕ) (r : Bool) (p : Pending) (t : Term) (xs : List Sign) → 2 * length xs < fuel → T (accepted (run (Live Complete d r) xs)) → Going d r (spell (joined p t)) xs
+  going : (fuel d : ℕ) (r : Bool) (p : Pending) (t : Term) (xs : List Sign) → 2 * length xs < fuel → T (accepted (run (live Complete d r) xs)) → Going d r (spell (joined p t)) xs
   going zero d r p t xs b h = absurd (omega arith)
   going (suc fuel) d r p t xs b h = elim (follows d r xs h) [
     | ends n e f g ↦ stopped p t xs (ends n e f g)
@@ -233,7 +232,7 @@ mutual
     | compares n rest e f g l k ↦ stopped p t xs (compares n rest e f g l k)
   ]
 
-  factor-in : (fuel d : ℕ) (r : Bool) (xs : List Sign) → 2 * length xs ≤ fuel → T (accepted (run (Live Awaiting d r) xs)) → FactorIn d r xs
+  factor-in : (fuel d : ℕ) (r : Bool) (xs : List Sign) → 2 * length xs ≤ fuel → T (accepted (run (live Awaiting d r) xs)) → FactorIn d r xs
   factor-in zero d r [] b h = absurd h
   factor-in zero d r (x ∷ xs) b h = absurd (omega arith)
   factor-in (suc fuel) d r [] b h = absurd h

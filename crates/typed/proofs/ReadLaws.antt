@@ -3,7 +3,7 @@ use mathlib.Core.Path.{◌≡◌, refl, sym, ap, ◌∙◌}
 use mathlib.Core.Logic.{⊎_elim}
 use mathlib.Core.Bool.{cond}
 use mathlib.Core.List.{List, [], ◌∷◌}
-use Prim.Native.Nat.{ℕ, zero, suc, ◌+◌, ◌*◌, ◌^◌, ◌≤◌, ◌<◌}
+use Prim.Native.Nat.{ℕ, zero, suc, ◌+◌, ◌*◌, ◌^◌, ◌≤◌, ◌<◌, min}
 use native.Mathlib.Omega.{arith}
 use lib.ListN.{length, drop, drop_of_length-le}
 use borrow.Author.Tests.{lt-ltb, le-ltb}
@@ -137,9 +137,9 @@ module _ (text : List ℕ) (v p : ℕ) where
       let z : p + zero ≡ p = omega arith in
       digits_from [] (ap signs (drop_of_length-le text h)) ∙ λ i. record { value = capped-least v b i; next = z i }
 
--- a number that was cut, or not
-pub cut-large : {s t w : ℕ} → s ≡ t → 2 ^ 31 < s → w ≡ 2 ^ 31 → w ≡ capped t
-cut-large {s} {t} {w} e h f = f ∙ sym (capped-large t (omega arith))
-
-pub cut-least : {s t w : ℕ} → s ≡ t → s ≤ 2 ^ 31 → w ≡ s → w ≡ capped t
-cut-least {s} {t} {w} e h f = f ∙ e ∙ sym (capped-least t (omega arith))
+-- a number that was cut
+pub capped-min : {s t w : ℕ} → w ≡ min s (2 ^ 31) → s ≡ t → w ≡ capped t
+capped-min {s} {t} {w} f e =
+    ⊎_elim (λ l. let z : w ≡ t = omega arith in z ∙ sym (capped_small t l))
+    (λ g. let z : w ≡ 2 ^ 31 = omega arith in z ∙ sym (capped-large t g))
+    (compare t (2 ^ 31))

@@ -7,11 +7,10 @@ use lib.Dec.{T}
 use lib.ListN.{length, drop, length-drop}
 use Rattle.typed.specs.declared.signs.Sign.{Sign}
 use Rattle.typed.specs.declared.signs.Sign.TheVariants.{Blank, Digit, Letter, Open, Close, Plus, Minus, Times, Less, Equal, Other}
-use Rattle.typed.specs.declared.forms.Reached.TheVariants.{At, Fault}
-use Rattle.typed.specs.declared.forms.Worked.{Worked}
+use Rattle.typed.specs.declared.forms.Form.{Form}
 use Rattle.typed.specs.Signs.{signs}
 use Rattle.typed.specs.Text.{blanks, spell, Comparison, spell_row}
-use Rattle.typed.specs.Forms.{next, collected_at}
+use Rattle.typed.specs.Forms.{Reading, reaches, refused, next, collected_at}
 use Rattle.typed.specs.Working.{lead_by, lead, skip, expression_at, row_in, enough, row_at}
 use Rattle.typed.specs.Values.{work_expression, work_row}
 use Rattle.typed.proofs.SignLaws.{signs-length}
@@ -52,25 +51,24 @@ unfolding skip
 skip-within text p h = omega (arith, lead-within (signs (drop p text)), signs-length (drop p text), length-drop p text)
 
 -- the readers' results at the number of steps that a row takes
-module _ (n : ℕ) (text : List ℕ) (w : Worked) (l : w ≡ expression_at (enough text) n text 0) where
-  pub row-refused : (p : ℕ) → w.reached ≡ Fault p → w ≡ row_at n text
+module _ (n : ℕ) (text : List ℕ) (w : Reading) (l : w ≡ expression_at (enough text) n text 0) where
+  pub row-refused : (p : ℕ) → w ≡ refused p → w ≡ row_at n text
   unfolding row_at row_in
-  row-refused p r = l ∙ sym (next-fault (expression_at (enough text) n text 0) _ p (ap (λ x. x.reached) (sym l) ∙ r))
+  row-refused p r = l ∙ sym (next-fault (expression_at (enough text) n text 0) _ p (sym l ∙ r))
 
   pub row-collected :
-      (v r : Worked) (q place : ℕ)
-      → w.reached ≡ At q
+      (v r : Reading) (q place : ℕ) (x : Form)
+      → w ≡ reaches q x
       → place ≡ skip text q
       → v ≡ expression_at (enough text) n text (place + 2)
-      → r ≡ collected_at place w.form v
+      → r ≡ collected_at place x v
       → r ≡ row_at n text
   unfolding row_at row_in
-  row-collected v r q place e f g h =
+  row-collected v r q place x e f g h =
       h
-      ∙ ap (collected_at place w.form) g
-      ∙ ap (λ p. collected_at p w.form (expression_at (enough text) n text (p + 2))) f
-      ∙ ap (λ x. collected_at (skip text q) x.form (expression_at (enough text) n text (skip text q + 2))) l
-      ∙ sym (next-at (expression_at (enough text) n text 0) _ q (ap (λ x. x.reached) (sym l) ∙ e))
+      ∙ ap (collected_at place x) g
+      ∙ ap (λ p. collected_at p x (expression_at (enough text) n text (p + 2))) f
+      ∙ sym (next-at (expression_at (enough text) n text 0) _ q x (sym l ∙ e))
 
 -- a row whose spelling is the text
 module _ (n : ℕ) (text : List ℕ) (c : Comparison) (e : spell_row c ≡ signs text) where
@@ -104,10 +102,10 @@ module _ (n : ℕ) (text : List ℕ) (c : Comparison) (e : spell_row c ≡ signs
       ∙ ap (λ p. work_expression n p c.left) (let z : 0 + c.before ≡ c.before = omega arith in z)
 
   -- where the left side ends: the place of the `<`, and the right side
-  module _ (q : ℕ) (r : (work_expression n c.before c.left).reached ≡ At q) where
+  module _ (q : ℕ) (x : Form) (r : work_expression n c.before c.left ≡ reaches q x) where
     left-stands : Stands text q after-left
     left-stands =
-        let z : 0 + c.before + length (spell c.left) ≡ q = omega (arith, expression-end c.left n c.before q r) in
+        let z : 0 + c.before + length (spell c.left) ≡ q = omega (arith, expression-end c.left n c.before q x r) in
         subst (λ z. Stands text z after-left) z (past text (0 + c.before) (spell c.left) after-left (past-blanks text 0 c.before (spell c.left ++ after-left) whole))
 
     less-here : skip text q ≡ q + c.between
@@ -128,6 +126,6 @@ module _ (n : ℕ) (text : List ℕ) (c : Comparison) (e : spell_row c ≡ signs
   unfolding row_at row_in work_row
   row-works =
       ap (λ w. next w (λ q x. collected_at (skip text q) x (expression_at (enough text) n text (skip text q + 2)))) left-works
-      ∙ next-same (work_expression n c.before c.left) _ _ λ q r.
-      ap (collected_at (skip text q) (work_expression n c.before c.left).form) (right-works q r)
-      ∙ ap (λ p. collected_at p (work_expression n c.before c.left).form (work_expression n (q + c.between + 2 + c.beyond) c.right)) (less-here q r)
+      ∙ next-same (work_expression n c.before c.left) _ _ λ q x r.
+      ap (collected_at (skip text q) x) (right-works q x r)
+      ∙ ap (λ p. collected_at p x (work_expression n (q + c.between + 2 + c.beyond) c.right)) (less-here q x r)

@@ -9,19 +9,17 @@ use Rattle.typed.specs.declared.signs.Sign.{Sign}
 use Rattle.typed.specs.declared.signs.Sign.TheVariants.{Blank, Digit, Letter, Open, Close, Plus, Minus, Times, Less, Equal, Other}
 use Rattle.typed.specs.declared.scan.Phase.{Phase}
 use Rattle.typed.specs.declared.scan.Phase.TheVariants.{Awaiting, Counting, Complete, Half}
-use Rattle.typed.specs.declared.scan.State.{State}
-use Rattle.typed.specs.declared.scan.State.TheVariants.{Dead, Live}
-use Rattle.typed.specs.declared.scan.Scanned.{Scanned}
-use Rattle.typed.specs.declared.scan.Scanned.TheVariants.{Keeps, Fails}
+use Rattle.std.specs.Prelude.{Some, None}
+use Rattle.typed.specs.declared.scan.Live.{Live}
 use Rattle.typed.specs.Signs.{signs, sign_at}
 use Rattle.typed.proofs.SignLaws.{signs-from}
-use Rattle.typed.specs.Scan.{scanned, step, run, accepted, passes, passes_by, start, depth_of, closed, compared, after_factor, in_number, before_factor, after_less}
+use Rattle.typed.specs.Scan.{State, dead, keeps_rules, breaks_at, Scanned, scanned, step_by, step, run, accepted, passes, passes_by, start, depth_of, closed, compared, after_factor, in_number, before_factor, after_less}
 
 -- the scan from a place and a state on
 unfoldable pub scan_on : ℕ → State → List Sign → Scanned
-scan_on i s xs = cond (accepted (run s xs)) Keeps (Fails (i + passes s xs))
+scan_on i s xs = cond (accepted (run s xs)) keeps_rules (breaks_at (i + passes s xs))
 
-pub dead-run : (xs : List Sign) → run Dead xs ≡ Dead
+pub dead-run : (xs : List Sign) → run dead xs ≡ dead
 unfolding run
 dead-run [] = refl
 dead-run (x ∷ xs) = dead-run xs
@@ -31,37 +29,36 @@ passed : (s : State) (x : Sign) (xs : List Sign) (t : State) → step s x ≡ t 
 unfolding passes
 passed s x xs t e = ap (λ u. passes_by u (passes u xs)) e
 
-pub scan-dead : (i : ℕ) (s : State) (x : Sign) (xs : List Sign) → step s x ≡ Dead → scan_on i s (x ∷ xs) ≡ Fails i
+pub scan-dead : (i : ℕ) (s : State) (x : Sign) (xs : List Sign) → step s x ≡ dead → scan_on i s (x ∷ xs) ≡ breaks_at i
 unfolding scan_on run passes_by
 scan-dead i s x xs e =
-    ap (λ t. cond (accepted t) Keeps (Fails (i + passes s (x ∷ xs)))) (ap (λ t. run t xs) e ∙ dead-run xs) ∙ ap Fails (omega (arith, passed s x xs Dead e))
+    ap (λ t. cond (accepted t) keeps_rules (breaks_at (i + passes s (x ∷ xs)))) (ap (λ t. run t xs) e ∙ dead-run xs) ∙ ap breaks_at (omega (arith, passed s x xs dead e))
 
-pub scan-next : (i : ℕ) (s : State) (x : Sign) (xs : List Sign) (p : Phase) (d : ℕ) (r : Bool) → step s x ≡ Live p d r → scan_on i s (x ∷ xs) ≡ scan_on (i + 1) (Live p d r) xs
+pub scan-next : (i : ℕ) (s : State) (x : Sign) (xs : List Sign) (l : Live) → step s x ≡ Some l → scan_on i s (x ∷ xs) ≡ scan_on (i + 1) (Some l) xs
 unfolding scan_on run passes_by
-scan-next i s x xs p d r e =
-    ap (λ t. cond (accepted (run t xs)) Keeps (Fails (i + passes s (x ∷ xs)))) e
-    ∙ ap (λ n. cond (accepted (run (Live p d r) xs)) Keeps (Fails n)) (omega (arith, passed s x xs (Live p d r) e))
+scan-next i s x xs l e =
+    ap (λ t. cond (accepted (run t xs)) keeps_rules (breaks_at (i + passes s (x ∷ xs)))) e
+    ∙ ap (λ n. cond (accepted (run (Some l) xs)) keeps_rules (breaks_at n)) (omega (arith, passed s x xs (Some l) e))
 
-pub scan-end : (i : ℕ) (s : State) (b : Bool) → accepted s ≡ b → scan_on i s [] ≡ cond b Keeps (Fails i)
+pub scan-end : (i : ℕ) (s : State) (b : Bool) → accepted s ≡ b → scan_on i s [] ≡ cond b keeps_rules (breaks_at i)
 unfolding scan_on run passes
-scan-end i s b e = ap (λ t. cond t Keeps (Fails (i + 0))) e ∙ ap (λ n. cond b Keeps (Fails n)) (omega arith)
+scan-end i s b e = ap (λ t. cond t keeps_rules (breaks_at (i + 0))) e ∙ ap (λ n. cond b keeps_rules (breaks_at n)) (omega arith)
 
 -- the same of a text
 pub scan-begin : (text : List ℕ) → scanned text ≡ scan_on 0 start (signs (drop 0 text))
 unfolding scanned scan_on
-scan-begin text = ap (λ n. cond (accepted (run start (signs text))) Keeps (Fails n)) (omega arith)
+scan-begin text = ap (λ n. cond (accepted (run start (signs text))) keeps_rules (breaks_at n)) (omega arith)
 
 module _ (text : List ℕ) (i : ℕ) (s : State) where
-  pub turn-dead : (t : State) → i < length text → t ≡ step s (sign_at text i) → t ≡ Dead → scan_on i s (signs (drop i text)) ≡ Fails i
+  pub turn-dead : (t : State) → i < length text → t ≡ step s (sign_at text i) → t ≡ dead → scan_on i s (signs (drop i text)) ≡ breaks_at i
   turn-dead t h e f = ap (scan_on i s) (signs-from text i h) ∙ scan-dead i s (sign_at text i) (signs (drop (i + 1) text)) (sym e ∙ f)
 
-  pub turn-next : (t : State) {p : Phase} {d : ℕ} {r : Bool} → i < length text → t ≡ step s (sign_at text i) → t ≡ Live p d r → scan_on i s (signs (drop i text)) ≡ scan_on (i + 1) t (signs (drop (i + 1) text))
-  turn-next t {p} {d} {r} h e f =
+  pub turn-next : (t : State) (l : Live) → i < length text → t ≡ step s (sign_at text i) → t ≡ Some l → scan_on i s (signs (drop i text)) ≡ scan_on (i + 1) (Some l) (signs (drop (i + 1) text))
+  turn-next t l h e f =
       ap (scan_on i s) (signs-from text i h)
-      ∙ scan-next i s (sign_at text i) (signs (drop (i + 1) text)) p d r (sym e ∙ f)
-      ∙ ap (λ u. scan_on (i + 1) u (signs (drop (i + 1) text))) (sym f)
+      ∙ scan-next i s (sign_at text i) (signs (drop (i + 1) text)) l (sym e ∙ f)
 
-  pub turn_end : (b : Bool) → length text ≤ i → accepted s ≡ b → scan_on i s (signs (drop i text)) ≡ cond b Keeps (Fails i)
+  pub turn_end : (b : Bool) → length text ≤ i → accepted s ≡ b → scan_on i s (signs (drop i text)) ≡ cond b keeps_rules (breaks_at i)
   unfolding signs
   turn_end b h e = ap (λ xs. scan_on i s (signs xs)) (drop_of_length-le text h) ∙ scan-end i s b e
 
@@ -127,9 +124,12 @@ less-depth Less = refl
 less-depth Equal = refl
 less-depth Other = refl
 
+phase-depth : (p : Phase) (d : ℕ) (r : Bool) (x : Sign) → depth_of (step_by p d r x) ≤ suc d
+phase-depth Awaiting d r x = before-depth d r x
+phase-depth Counting d r x = number-depth d r x
+phase-depth Complete d r x = after-depth d r x
+phase-depth Half d r x = omega (arith, less-depth x)
+
 pub depth : (s : State) (x : Sign) → depth_of (step s x) ≤ suc (depth_of s)
-depth Dead x = omega arith
-depth (Live Awaiting d r) x = before-depth d r x
-depth (Live Counting d r) x = number-depth d r x
-depth (Live Complete d r) x = after-depth d r x
-depth (Live Half d r) x = omega (arith, less-depth x)
+depth None x = omega arith
+depth (Some l) x = phase-depth l.phase l.depth l.right x

@@ -10,13 +10,12 @@ use lib.IntN.{ℤ, pos, negsuc}
 use lib.ListN.{length}
 use Rattle.typed.specs.declared.signs.Sign.{Sign}
 use Rattle.typed.specs.declared.signs.Sign.TheVariants.{Blank, Digit, Letter, Open, Close, Plus, Minus, Times, Less, Equal, Other}
-use Rattle.typed.specs.declared.forms.Reached.{Reached}
-use Rattle.typed.specs.declared.forms.Reached.TheVariants.{At, Fault}
-use Rattle.typed.specs.declared.forms.Worked.{Worked}
+use Rattle.std.specs.Prelude.{Ok, Err}
+use Rattle.typed.specs.declared.forms.Form.{Form}
 use Rattle.typed.specs.Signs.{sign_at}
 use Rattle.typed.specs.Turns.{by_sum, by_product, by_close}
 use Rattle.typed.specs.Text.{Expression, term, sum, difference, Term, factor, product, Factor, number, variable, bracket, negative, blanks, digits, spell, spell_term, spell_factor}
-use Rattle.typed.specs.Forms.{reaches, refused, next, zero_form, joined, multiplied, number_at}
+use Rattle.typed.specs.Forms.{Reading, reaches, refused, next, zero_form, joined, multiplied, number_at}
 use Rattle.typed.specs.Working.{lead_by, lead, skip, on_digit, digit_count, decimal, whole_at, closed_at, expression_at, sums_at, term_at, products_at, factor_at}
 use Rattle.typed.specs.Values.{decimal_of, work_expression, work_term, work_factor}
 use Rattle.typed.proofs.StandLaws.{first, head_by, head, head-blanks, not_digit, spelled_count, spelled-decimal, Stands, sign-here, past, past_one, past-blanks, skip-here, head-here}
@@ -114,12 +113,12 @@ blanks-first zero s rest t = t
 blanks-first (suc i) s rest t = tt
 
 module _ (n : ℕ) (text : List ℕ) where
-  products-fault : (k p : ℕ) (w : Worked) → w.reached ≡ Fault p → products_at k n text w ≡ w
+  pub products-fault : (k p : ℕ) (w : Reading) → w ≡ refused p → products_at k n text w ≡ w
   unfolding products_at
   products-fault zero p w e = refl
   products-fault (suc k) p w e = product-fault n text w k p e
 
-  sums-fault : (k p : ℕ) (w : Worked) → w.reached ≡ Fault p → sums_at k n text w ≡ w
+  pub sums-fault : (k p : ℕ) (w : Reading) → w ≡ refused p → sums_at k n text w ≡ w
   unfolding sums_at
   sums-fault zero p w e = refl
   sums-fault (suc k) p w e = sum-fault n text w k p e
@@ -133,78 +132,82 @@ module _ (n : ℕ) (text : List ℕ) where
       ∙ ap (λ v. number_at p (p + suc (length ds)) v) (spelled-decimal (10 * 0 + d) ds rest t ∙ ap (λ v. decimal_of v ds) (omega arith))
 
   -- a bracket's end
-  close-law : (w : Worked) (end b : ℕ) (rest : List Sign) → ((q : ℕ) → w.reached ≡ At q → q ≡ end) → Stands text end (blanks b ++ (Close ∷ rest)) → closed_at text w ≡ next w (λ q x. reaches (q + b + 1) x)
+  close-law : (w : Reading) (end b : ℕ) (rest : List Sign) → ((q : ℕ) (x : Form) → w ≡ reaches q x → q ≡ end) → Stands text end (blanks b ++ (Close ∷ rest)) → closed_at text w ≡ next w (λ q x. reaches (q + b + 1) x)
   unfolding closed_at by_close lead lead_by first
   close-law w end b rest h e =
-      next-same w _ _ λ q r.
-      let s = subst (λ z. Stands text z (blanks b ++ (Close ∷ rest))) (sym (h q r)) e in
+      next-same w _ _ λ q x r.
+      let s = subst (λ z. Stands text z (blanks b ++ (Close ∷ rest))) (sym (h q x r)) e in
       let k = skip-here text q b (Close ∷ rest) refl s in
       let c = sign-here text (q + b) (Close ∷ rest) (past-blanks text q b (Close ∷ rest) s) in
-      ap (λ z. by_close (sign_at text z) (reaches (z + 1) w.form) (refused z)) (sym k) ∙ ap (λ x. by_close x (reaches (q + b + 1) w.form) (refused (q + b))) c
+      ap (λ z. by_close (sign_at text z) (reaches (z + 1) x) (refused z)) (sym k) ∙ ap (λ z. by_close z (reaches (q + b + 1) x) (refused (q + b))) c
 
   -- one product more
   product_law :
-      (k : ℕ) (w : Worked) (end a b : ℕ) (ys : List Sign) (g : ℕ → Worked)
-      → ((q : ℕ) → w.reached ≡ At q → q ≡ end)
+      (k : ℕ) (w : Reading) (end a b : ℕ) (ys : List Sign) (g : ℕ → Reading)
+      → ((q : ℕ) (x : Form) → w ≡ reaches q x → q ≡ end)
       → Stands text end (blanks a ++ (Times ∷ ys))
       → (factor_at k n text (end + a + 1) ≡ g (end + a + 1 + b))
       → products_at (suc k) n text w ≡ products_at k n text (next w (λ q x. multiplied (q + a) x (g (q + a + 1 + b))))
   unfolding lead lead_by first
-  product_law k w end a b ys g h e f = go w.reached refl
+  product_law k w end a b ys g h e f = go w refl
     where
-      go : (u : Reached) → w.reached ≡ u → products_at (suc k) n text w ≡ products_at k n text (next w (λ q x. multiplied (q + a) x (g (q + a + 1 + b))))
-      go (Fault p) r = product-fault n text w k p r ∙ sym (products-fault k p w r) ∙ ap (products_at k n text) (sym (next-fault w _ p r))
-      go (At q) r =
-          let s = subst (λ z. Stands text z (blanks a ++ (Times ∷ ys))) (sym (h q r)) e in
+      go : (u : Reading) → w ≡ u → products_at (suc k) n text w ≡ products_at k n text (next w (λ q x. multiplied (q + a) x (g (q + a + 1 + b))))
+      go (Err e) r = product-fault n text w k e.place r ∙ sym (products-fault k e.place w r) ∙ ap (products_at k n text) (sym (next-fault w _ e.place r))
+      go (Ok v) r =
+          let q = v.next in
+          let s = subst (λ z. Stands text z (blanks a ++ (Times ∷ ys))) (sym (h q v.form r)) e in
           let i = skip-here text q a (Times ∷ ys) refl s in
           let c = sign-here text (q + a) (Times ∷ ys) (past-blanks text q a (Times ∷ ys) s) in
-          let v = subst (λ z. factor_at k n text (z + a + 1) ≡ g (z + a + 1 + b)) (sym (h q r)) f in
-          product-times n text w k q (q + a) Times r i (sym c) refl
-          ∙ ap (λ z. products_at k n text (multiplied (q + a) w.form z)) v
-          ∙ ap (products_at k n text) (sym (next-at w _ q r))
+          let o = subst (λ z. factor_at k n text (z + a + 1) ≡ g (z + a + 1 + b)) (sym (h q v.form r)) f in
+          product-times n text w k q (q + a) v.form Times r i (sym c) refl
+          ∙ ap (λ z. products_at k n text (multiplied (q + a) v.form z)) o
+          ∙ ap (products_at k n text) (sym (next-at w _ q v.form r))
 
   -- and no more
-  product-stop : (k : ℕ) (w : Worked) (end : ℕ) (rest : List Sign) → ((q : ℕ) → w.reached ≡ At q → q ≡ end) → Stands text end rest → T (ends_term (head rest)) → products_at (suc k) n text w ≡ w
-  product-stop k w end rest h e t = go w.reached refl
+  product-stop : (k : ℕ) (w : Reading) (end : ℕ) (rest : List Sign) → ((q : ℕ) (x : Form) → w ≡ reaches q x → q ≡ end) → Stands text end rest → T (ends_term (head rest)) → products_at (suc k) n text w ≡ w
+  product-stop k w end rest h e t = go w refl
     where
-      go : (u : Reached) → w.reached ≡ u → products_at (suc k) n text w ≡ w
-      go (Fault p) r = product-fault n text w k p r
-      go (At q) r =
-          let c = head-here text q rest (subst (λ z. Stands text z rest) (sym (h q r)) e) in
-          product-turn n text w k q (skip text q) (head rest) r refl (sym c) ∙ no-times (head rest) _ w t
+      go : (u : Reading) → w ≡ u → products_at (suc k) n text w ≡ w
+      go (Err e) r = product-fault n text w k e.place r
+      go (Ok v) r =
+          let q = v.next in
+          let c = head-here text q rest (subst (λ z. Stands text z rest) (sym (h q v.form r)) e) in
+          product-turn n text w k q (skip text q) v.form (head rest) r refl (sym c) ∙ no-times (head rest) _ w t
 
   -- one sum or difference more
   sum-law :
-      (m : ℤ) (s : Sign) (k : ℕ) (w : Worked) (end a b : ℕ) (ys : List Sign) (g : ℕ → Worked)
-      → ((q : ℕ) → w.reached ≡ At q → q + a ≡ skip text q → sign_at text (q + a) ≡ s → sums_at (suc k) n text w ≡ sums_at k n text (joined (q + a) w.form m (term_at k n text (q + a + 1))))
+      (m : ℤ) (s : Sign) (k : ℕ) (w : Reading) (end a b : ℕ) (ys : List Sign) (g : ℕ → Reading)
+      → ((q : ℕ) (x : Form) → w ≡ reaches q x → q + a ≡ skip text q → sign_at text (q + a) ≡ s → sums_at (suc k) n text w ≡ sums_at k n text (joined (q + a) x m (term_at k n text (q + a + 1))))
       → lead_by s zero ≡ zero
       → lead_by s (lead ys) ≡ zero
-      → ((q : ℕ) → w.reached ≡ At q → q ≡ end)
+      → ((q : ℕ) (x : Form) → w ≡ reaches q x → q ≡ end)
       → Stands text end (blanks a ++ (s ∷ ys))
       → (term_at k n text (end + a + 1) ≡ g (end + a + 1 + b))
       → sums_at (suc k) n text w ≡ sums_at k n text (next w (λ q x. joined (q + a) x m (g (q + a + 1 + b))))
   unfolding lead first
-  sum-law m s k w end a b ys g turn z l h e f = go w.reached refl
+  sum-law m s k w end a b ys g turn z l h e f = go w refl
     where
-      go : (u : Reached) → w.reached ≡ u → sums_at (suc k) n text w ≡ sums_at k n text (next w (λ q x. joined (q + a) x m (g (q + a + 1 + b))))
-      go (Fault p) r = sum-fault n text w k p r ∙ sym (sums-fault k p w r) ∙ ap (sums_at k n text) (sym (next-fault w _ p r))
-      go (At q) r =
-          let t = subst (λ z. Stands text z (blanks a ++ (s ∷ ys))) (sym (h q r)) e in
+      go : (u : Reading) → w ≡ u → sums_at (suc k) n text w ≡ sums_at k n text (next w (λ q x. joined (q + a) x m (g (q + a + 1 + b))))
+      go (Err e) r = sum-fault n text w k e.place r ∙ sym (sums-fault k e.place w r) ∙ ap (sums_at k n text) (sym (next-fault w _ e.place r))
+      go (Ok v) r =
+          let q = v.next in
+          let t = subst (λ z. Stands text z (blanks a ++ (s ∷ ys))) (sym (h q v.form r)) e in
           let i = skip-here text q a (s ∷ ys) l t in
           let c = sign-here text (q + a) (s ∷ ys) (past-blanks text q a (s ∷ ys) t) in
-          let v = subst (λ z. term_at k n text (z + a + 1) ≡ g (z + a + 1 + b)) (sym (h q r)) f in
-          turn q r i c
-          ∙ ap (λ z. sums_at k n text (joined (q + a) w.form m z)) v
-          ∙ ap (sums_at k n text) (sym (next-at w _ q r))
+          let o = subst (λ z. term_at k n text (z + a + 1) ≡ g (z + a + 1 + b)) (sym (h q v.form r)) f in
+          turn q v.form r i c
+          ∙ ap (λ z. sums_at k n text (joined (q + a) v.form m z)) o
+          ∙ ap (sums_at k n text) (sym (next-at w _ q v.form r))
 
-  sum-stop : (k : ℕ) (w : Worked) (end : ℕ) (rest : List Sign) → ((q : ℕ) → w.reached ≡ At q → q ≡ end) → Stands text end rest → T (ends (head rest)) → sums_at (suc k) n text w ≡ w
-  sum-stop k w end rest h e t = go w.reached refl
+  sum-stop : (k : ℕ) (w : Reading) (end : ℕ) (rest : List Sign) → ((q : ℕ) (x : Form) → w ≡ reaches q x → q ≡ end) → Stands text end rest → T (ends (head rest)) → sums_at (suc k) n text w ≡ w
+  sum-stop k w end rest h e t = go w refl
     where
-      go : (u : Reached) → w.reached ≡ u → sums_at (suc k) n text w ≡ w
-      go (Fault p) r = sum-fault n text w k p r
-      go (At q) r =
-          let c = head-here text q rest (subst (λ z. Stands text z rest) (sym (h q r)) e) in
-          sum-turn n text w k q (skip text q) (head rest) r refl (sym c) ∙ no_sign (head rest) _ w t
+      go : (u : Reading) → w ≡ u → sums_at (suc k) n text w ≡ w
+      go (Err e) r = sum-fault n text w k e.place r
+      go (Ok v) r =
+          let q = v.next in
+          let c = head-here text q rest (subst (λ z. Stands text z rest) (sym (h q v.form r)) e) in
+          sum-turn n text w k q (skip text q) v.form (head rest) r refl (sym c) ∙ no_sign (head rest) _ w t
 
   -- from the run of a term, or an expression, to its end
   term-done :
@@ -218,7 +221,7 @@ module _ (n : ℕ) (text : List ℕ) where
       let j = k - 2 - product_count t in
       ap (λ z. term_at z n text p) (let z : k ≡ suc (suc j + product_count t) = omega arith in z)
       ∙ runs (suc j) (omega arith)
-      ∙ product-stop j (work_term n (p + i) t) (p + i + length (spell_term t)) rest (λ q r. term-end t n (p + i) q r) (past text (p + i) (spell_term t) rest (past-blanks text p i (spell_term t ++ rest) st)) o
+      ∙ product-stop j (work_term n (p + i) t) (p + i + length (spell_term t)) rest (λ q x r. term-end t n (p + i) q x r) (past text (p + i) (spell_term t) rest (past-blanks text p i (spell_term t ++ rest) st)) o
 
   expression-done :
       (e : Expression) (k p i : ℕ) (rest : List Sign)
@@ -231,7 +234,7 @@ module _ (n : ℕ) (text : List ℕ) where
       let j = k - 2 - sum_count e in
       ap (λ z. expression_at z n text p) (let z : k ≡ suc (suc j + sum_count e) = omega arith in z)
       ∙ runs (suc j) (omega arith)
-      ∙ sum-stop j (work_expression n (p + i) e) (p + i + length (spell e)) rest (λ q r. expression-end e n (p + i) q r) (past text (p + i) (spell e) rest (past-blanks text p i (spell e ++ rest) st)) o
+      ∙ sum-stop j (work_expression n (p + i) e) (p + i + length (spell e)) rest (λ q x r. expression-end e n (p + i) q x r) (past text (p + i) (spell e) rest (past-blanks text p i (spell e ++ rest) st)) o
 
   mutual
     unfolding work_expression spell expression_steps sum_count product_count expression_at term_at not_digit ends_term ends head head_by lead_by lead first
@@ -251,9 +254,9 @@ module _ (n : ℕ) (text : List ℕ) where
         ap (λ z. expression_at (suc z) n text p) (let z : k + suc (sum_count e) ≡ suc k + sum_count e = omega arith in z)
         ∙ before
         ∙ sum-law (pos 1) Plus k (work_expression n (p + i) e) end a b ys (λ z. work_term n z t)
-        (λ q r f c. sum-plus n text (work_expression n (p + i) e) k q (q + a) Plus r f (sym c) refl)
+        (λ q x r f c. sum-plus n text (work_expression n (p + i) e) k q (q + a) x Plus r f (sym c) refl)
         refl refl
-        (λ q r. expression-end e n (p + i) q r) se right
+        (λ q x r. expression-end e n (p + i) q x r) se right
     expression-runs (difference e a b t) k p i rest h d o st =
         let ys = blanks b ++ (spell_term t ++ rest) in
         let st' = st ∙ ap (λ zs. blanks i ++ zs) (regroup (spell e) (spell_term t) rest a b Minus) in
@@ -265,9 +268,9 @@ module _ (n : ℕ) (text : List ℕ) where
         ap (λ z. expression_at (suc z) n text p) (let z : k + suc (sum_count e) ≡ suc k + sum_count e = omega arith in z)
         ∙ before
         ∙ sum-law (negsuc 0) Minus k (work_expression n (p + i) e) end a b ys (λ z. work_term n z t)
-        (λ q r f c. sum-minus n text (work_expression n (p + i) e) k q (q + a) Minus r f (sym c) refl)
+        (λ q x r f c. sum-minus n text (work_expression n (p + i) e) k q (q + a) x Minus r f (sym c) refl)
         refl refl
-        (λ q r. expression-end e n (p + i) q r) se right
+        (λ q x r. expression-end e n (p + i) q x r) se right
 
     term_runs : (t : Term) (k p i : ℕ) (rest : List Sign) → term_steps t ≤ k → T (not_digit (first rest)) → Stands text p (blanks i ++ (spell_term t ++ rest)) → term_at (suc (k + product_count t)) n text p ≡ products_at k n text (work_term n (p + i) t)
     term_runs (factor f) k p i rest h d st =
@@ -283,7 +286,7 @@ module _ (n : ℕ) (text : List ℕ) where
         let right = factor-works f k (end + a + 1) b rest (omega arith) d sr in
         ap (λ z. term_at (suc z) n text p) (let z : k + suc (product_count t) ≡ suc k + product_count t = omega arith in z)
         ∙ before
-        ∙ product_law k (work_term n (p + i) t) end a b ys (λ z. work_factor n z f) (λ q r. term-end t n (p + i) q r) se right
+        ∙ product_law k (work_term n (p + i) t) end a b ys (λ z. work_factor n z f) (λ q x r. term-end t n (p + i) q x r) se right
 
     factor-works : (f : Factor) (k p i : ℕ) (rest : List Sign) → factor_steps f ≤ k → T (not_digit (first rest)) → Stands text p (blanks i ++ (spell_factor f ++ rest)) → factor_at k n text p ≡ work_factor n (p + i) f
     factor-works (number x ds) zero p i rest h d st = absurd (omega arith)
@@ -307,7 +310,7 @@ module _ (n : ℕ) (text : List ℕ) where
         let inner = expression-done e k (p + i + 1) a ys (λ j l. expression-runs e j (p + i + 1) a ys l (blanks-first b Close rest tt) (wider (head ys) o) si) (omega arith) o si in
         factor-bracket n text k p (p + i) Open (skip-here text p i (Open ∷ xs) refl st) (sym (sign-here text (p + i) (Open ∷ xs) here)) refl
         ∙ ap (closed_at text) inner
-        ∙ close-law (work_expression n (p + i + 1 + a) e) end b rest (λ q r. expression-end e n (p + i + 1 + a) q r) se
+        ∙ close-law (work_expression n (p + i + 1 + a) e) end b rest (λ q x r. expression-end e n (p + i + 1 + a) q x r) se
     factor-works (negative a f) zero p i rest h d st = absurd (omega arith)
     factor-works (negative a f) (suc k) p i rest h d st =
         let xs = (blanks a ++ spell_factor f) ++ rest in

@@ -7,11 +7,9 @@ use lib.IntN.{pos, negsuc}
 use Rattle.typed.specs.declared.signs.Sign.{Sign}
 use Rattle.typed.specs.declared.signs.Sign.TheVariants.{Blank, Digit, Letter, Open, Close, Plus, Minus, Times, Less, Equal, Other}
 use Rattle.typed.specs.declared.forms.Form.{Form}
-use Rattle.typed.specs.declared.forms.Reached.TheVariants.{At, Fault}
-use Rattle.typed.specs.declared.forms.Worked.{Worked}
 use Rattle.typed.specs.Signs.{sign_at}
 use Rattle.typed.specs.Turns.{by_sum, sense_of, by_product, by_close, by_factor}
-use Rattle.typed.specs.Forms.{refused, onwards, next, joined, multiplied, variable_at, zero_form}
+use Rattle.typed.specs.Forms.{Reading, reaches, refused, next, joined, multiplied, variable_at, zero_form}
 use Rattle.typed.specs.Working.{skip, whole_at, closed_at, expression_at, sums_at, term_at, products_at, factor_at}
 
 -- what a match that names some signs says of the sign: a plus or a minus, and neither
@@ -80,63 +78,63 @@ no-factor Equal x f y z w h k l m = refl
 no-factor Other x f y z w h k l m = refl
 
 -- what is worked out next, by what was reached
-pub next-at : (w : Worked) (f : ℕ → Form → Worked) (q : ℕ) → w.reached ≡ At q → next w f ≡ f q w.form
-unfolding next onwards
-next-at w f q e = ap (onwards w f) e
+pub next-at : (w : Reading) (f : ℕ → Form → Reading) (q : ℕ) (x : Form) → w ≡ reaches q x → next w f ≡ f q x
+unfolding next
+next-at w f q x e = ap (λ v. next v f) e
 
-pub next-fault : (w : Worked) (f : ℕ → Form → Worked) (p : ℕ) → w.reached ≡ Fault p → next w f ≡ w
-unfolding next onwards
-next-fault w f p e = ap (onwards w f) e
+pub next-fault : (w : Reading) (f : ℕ → Form → Reading) (p : ℕ) → w ≡ refused p → next w f ≡ w
+unfolding next
+next-fault w f p e = ap (λ v. next v f) e ∙ sym e
 
-module _ (n : ℕ) (text : List ℕ) (w : Worked) (j : ℕ) where
+module _ (n : ℕ) (text : List ℕ) (w : Reading) (j : ℕ) where
   -- the sums and products after a place
-  module _ (q place : ℕ) (s : Sign) (e : w.reached ≡ At q) (f : place ≡ skip text q) (g : s ≡ sign_at text place) where
-    pub sum-turn : sums_at (suc j) n text w ≡ by_sum s (sums_at j n text (joined place w.form (sense_of s) (term_at j n text (place + 1)))) w
+  module _ (q place : ℕ) (x : Form) (s : Sign) (e : w ≡ reaches q x) (f : place ≡ skip text q) (g : s ≡ sign_at text place) where
+    pub sum-turn : sums_at (suc j) n text w ≡ by_sum s (sums_at j n text (joined place x (sense_of s) (term_at j n text (place + 1)))) w
     unfolding sums_at
     sum-turn =
-        next-at w _ q e
-        ∙ ap (λ p. by_sum (sign_at text p) (sums_at j n text (joined p w.form (sense_of (sign_at text p)) (term_at j n text (p + 1)))) w) (sym f)
-        ∙ ap (λ x. by_sum x (sums_at j n text (joined place w.form (sense_of x) (term_at j n text (place + 1)))) w) (sym g)
+        next-at w _ q x e
+        ∙ ap (λ p. by_sum (sign_at text p) (sums_at j n text (joined p x (sense_of (sign_at text p)) (term_at j n text (p + 1)))) w) (sym f)
+        ∙ ap (λ z. by_sum z (sums_at j n text (joined place x (sense_of z) (term_at j n text (place + 1)))) w) (sym g)
 
-    pub sum_goes : ((s ≡ Plus) ⊎ (s ≡ Minus)) → sums_at (suc j) n text w ≡ sums_at j n text (joined place w.form (sense_of s) (term_at j n text (place + 1)))
+    pub sum_goes : ((s ≡ Plus) ⊎ (s ≡ Minus)) → sums_at (suc j) n text w ≡ sums_at j n text (joined place x (sense_of s) (term_at j n text (place + 1)))
     sum_goes h = sum-turn ∙ is_sum s _ w h
 
-    pub sum-plus : s ≡ Plus → sums_at (suc j) n text w ≡ sums_at j n text (joined place w.form (pos 1) (term_at j n text (place + 1)))
+    pub sum-plus : s ≡ Plus → sums_at (suc j) n text w ≡ sums_at j n text (joined place x (pos 1) (term_at j n text (place + 1)))
     unfolding by_sum sense_of
-    sum-plus h = sum-turn ∙ ap (λ x. by_sum x (sums_at j n text (joined place w.form (sense_of x) (term_at j n text (place + 1)))) w) h
+    sum-plus h = sum-turn ∙ ap (λ z. by_sum z (sums_at j n text (joined place x (sense_of z) (term_at j n text (place + 1)))) w) h
 
-    pub sum-minus : s ≡ Minus → sums_at (suc j) n text w ≡ sums_at j n text (joined place w.form (negsuc 0) (term_at j n text (place + 1)))
+    pub sum-minus : s ≡ Minus → sums_at (suc j) n text w ≡ sums_at j n text (joined place x (negsuc 0) (term_at j n text (place + 1)))
     unfolding by_sum sense_of
-    sum-minus h = sum-turn ∙ ap (λ x. by_sum x (sums_at j n text (joined place w.form (sense_of x) (term_at j n text (place + 1)))) w) h
+    sum-minus h = sum-turn ∙ ap (λ z. by_sum z (sums_at j n text (joined place x (sense_of z) (term_at j n text (place + 1)))) w) h
 
     pub sum-ends : (s ≡ Plus → ⊥) → (s ≡ Minus → ⊥) → sums_at (suc j) n text w ≡ w
     sum-ends h k = sum-turn ∙ no-sum s _ w h k
 
-    pub product-turn : products_at (suc j) n text w ≡ by_product s (products_at j n text (multiplied place w.form (factor_at j n text (place + 1)))) w
+    pub product-turn : products_at (suc j) n text w ≡ by_product s (products_at j n text (multiplied place x (factor_at j n text (place + 1)))) w
     unfolding products_at
     product-turn =
-        next-at w _ q e
-        ∙ ap (λ p. by_product (sign_at text p) (products_at j n text (multiplied p w.form (factor_at j n text (p + 1)))) w) (sym f)
-        ∙ ap (λ x. by_product x (products_at j n text (multiplied place w.form (factor_at j n text (place + 1)))) w) (sym g)
+        next-at w _ q x e
+        ∙ ap (λ p. by_product (sign_at text p) (products_at j n text (multiplied p x (factor_at j n text (p + 1)))) w) (sym f)
+        ∙ ap (λ z. by_product z (products_at j n text (multiplied place x (factor_at j n text (place + 1)))) w) (sym g)
 
-    pub product-times : s ≡ Times → products_at (suc j) n text w ≡ products_at j n text (multiplied place w.form (factor_at j n text (place + 1)))
+    pub product-times : s ≡ Times → products_at (suc j) n text w ≡ products_at j n text (multiplied place x (factor_at j n text (place + 1)))
     unfolding by_product
-    product-times h = product-turn ∙ ap (λ x. by_product x (products_at j n text (multiplied place w.form (factor_at j n text (place + 1)))) w) h
+    product-times h = product-turn ∙ ap (λ z. by_product z (products_at j n text (multiplied place x (factor_at j n text (place + 1)))) w) h
 
     pub product-ends : (s ≡ Times → ⊥) → products_at (suc j) n text w ≡ w
     product-ends h = product-turn ∙ no-product s _ w h
 
-  pub sum-fault : (p : ℕ) → w.reached ≡ Fault p → sums_at (suc j) n text w ≡ w
+  pub sum-fault : (p : ℕ) → w ≡ refused p → sums_at (suc j) n text w ≡ w
   unfolding sums_at
   sum-fault p e = next-fault w _ p e
 
-  pub product-fault : (p : ℕ) → w.reached ≡ Fault p → products_at (suc j) n text w ≡ w
+  pub product-fault : (p : ℕ) → w ≡ refused p → products_at (suc j) n text w ≡ w
   unfolding products_at
   product-fault p e = next-fault w _ p e
 
 -- a factor at a place
 module _ (n : ℕ) (text : List ℕ) (j at place : ℕ) (s : Sign) (f : place ≡ skip text at) (g : s ≡ sign_at text place) where
-  factor_by : Sign → Worked
+  factor_by : Sign → Reading
   factor_by x = by_factor x (whole_at text place) (variable_at n place) (closed_at text (expression_at j n text (place + 1))) (joined place zero_form (negsuc 0) (factor_at j n text (place + 1))) (refused place)
 
   factor-turn : factor_at (suc j) n text at ≡ factor_by s

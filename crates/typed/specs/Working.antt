@@ -4,11 +4,10 @@
 use Rattle.std.specs.Prelude.{cond, List, [], ◌∷◌, ℕ, zero, suc, ◌+◌, ◌*◌, ◌^◌, negsuc, ltb, length, drop}
 use Rattle.typed.specs.declared.signs.Sign.{Sign}
 use Rattle.typed.specs.declared.signs.Sign.TheVariants.{Blank, Digit, Letter, Open, Close, Plus, Minus, Times, Less, Equal, Other}
-use Rattle.typed.specs.declared.forms.Worked.{Worked}
 use Rattle.typed.specs.declared.reading.Digits.{Digits}
 use Rattle.typed.specs.Signs.{signs, sign_at}
 use Rattle.typed.specs.Turns.{by_sum, sense_of, by_product, by_close, by_factor}
-use Rattle.typed.specs.Forms.{zero_form, reaches, refused, next, joined, multiplied, variable_at, number_at, collected_at}
+use Rattle.typed.specs.Forms.{Reading, zero_form, reaches, refused, next, joined, multiplied, variable_at, number_at, collected_at}
 
 -- how many blanks a text begins with
 unfoldable pub lead_by : Sign → ℕ → ℕ
@@ -54,7 +53,7 @@ unfoldable pub decimal : ℕ → List Sign → ℕ
 decimal v [] = v
 decimal v (x ∷ xs) = on_digit x (λ d. decimal (10 * v + d) xs) v
 
-unfoldable pub whole_at : List ℕ → ℕ → Worked
+unfoldable pub whole_at : List ℕ → ℕ → Reading
 whole_at text p = number_at p (p + digit_count (signs (drop p text))) (decimal 0 (signs (drop p text)))
 
 -- the same as the code holds it: cut at 2 ^ 31, where it is refused
@@ -65,15 +64,15 @@ unfoldable pub digits_at : List ℕ → ℕ → Digits
 digits_at text p = record { value = capped (decimal 0 (signs (drop p text))); next = p + digit_count (signs (drop p text)) }
 
 -- a bracket's end
-unfoldable pub closed_at : List ℕ → Worked → Worked
+unfoldable pub closed_at : List ℕ → Reading → Reading
 closed_at text w = next w (λ q x. by_close (sign_at text (skip text q)) (reaches (skip text q + 1) x) (refused (skip text q)))
 
 unfoldable mutual
-  pub expression_at : ℕ → ℕ → List ℕ → ℕ → Worked
+  pub expression_at : ℕ → ℕ → List ℕ → ℕ → Reading
   expression_at zero n text p = refused p
   expression_at (suc k) n text p = sums_at k n text (term_at k n text p)
 
-  pub sums_at : ℕ → ℕ → List ℕ → Worked → Worked
+  pub sums_at : ℕ → ℕ → List ℕ → Reading → Reading
   sums_at zero n text w = w
   sums_at (suc k) n text w =
       next w (λ q x.
@@ -81,11 +80,11 @@ unfoldable mutual
       (sums_at k n text (joined (skip text q) x (sense_of (sign_at text (skip text q))) (term_at k n text (skip text q + 1))))
       w)
 
-  pub term_at : ℕ → ℕ → List ℕ → ℕ → Worked
+  pub term_at : ℕ → ℕ → List ℕ → ℕ → Reading
   term_at zero n text p = refused p
   term_at (suc k) n text p = products_at k n text (factor_at k n text p)
 
-  pub products_at : ℕ → ℕ → List ℕ → Worked → Worked
+  pub products_at : ℕ → ℕ → List ℕ → Reading → Reading
   products_at zero n text w = w
   products_at (suc k) n text w =
       next w (λ q x.
@@ -93,7 +92,7 @@ unfoldable mutual
       (products_at k n text (multiplied (skip text q) x (factor_at k n text (skip text q + 1))))
       w)
 
-  pub factor_at : ℕ → ℕ → List ℕ → ℕ → Worked
+  pub factor_at : ℕ → ℕ → List ℕ → ℕ → Reading
   factor_at zero n text p = refused p
   factor_at (suc k) n text p =
       by_factor (sign_at text (skip text p))
@@ -104,7 +103,7 @@ unfoldable mutual
       (refused (skip text p))
 
 -- a whole row in so many steps: both sides, then the collecting at the `<`
-unfoldable pub row_in : ℕ → ℕ → List ℕ → Worked
+unfoldable pub row_in : ℕ → ℕ → List ℕ → Reading
 row_in k n text =
     next (expression_at k n text 0) (λ q x.
     collected_at (skip text q) x (expression_at k n text (skip text q + 2)))
@@ -113,5 +112,5 @@ row_in k n text =
 unfoldable pub enough : List ℕ → ℕ
 enough text = 3 * length text + 4
 
-unfoldable pub row_at : ℕ → List ℕ → Worked
+unfoldable pub row_at : ℕ → List ℕ → Reading
 row_at n text = row_in (enough text) n text

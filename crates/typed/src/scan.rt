@@ -1,6 +1,6 @@
 // Whether a text keeps the rules (number 16): one pass over its signs, which stops at the first one that no ending could mend.
-ghost use Rattle.std.specs.Prelude.{◌≡◌, ◌^◌, ◌<◌};
-ghost use Rattle.typed.specs.Scan.{step, depth_of, accepted};
+ghost use Rattle.std.specs.Prelude.{◌≡◌, ◌^◌, ◌<◌, Some};
+ghost use Rattle.typed.specs.Scan.{step, accepted, live};
 ghost use Rattle.typed.specs.Scan as scanning;
 
 use crate::signs::{Sign, sign_of};
@@ -14,140 +14,148 @@ pub enum Phase {
     Half,
 }
 
-// Dead if no ending mends the signs so far; else what may come next, how many brackets are open, and whether `<=` has been passed.
+// Signs that some ending mends: what may come next, how many brackets are open, and whether `<=` has been passed.
 #[derive(Clone, Copy)]
-pub enum State {
-    Dead,
-    Live(Phase, usize, bool),
+pub struct Live {
+    pub phase: Phase,
+    pub depth: usize,
+    pub right: bool,
 }
 
-// A text keeps the rules, or fails at a place.
+// A text that breaks the rules: the place.
 #[derive(Clone, Copy)]
-pub enum Scanned {
-    Keeps,
-    Fails(usize),
+pub struct Breach {
+    pub place: usize,
 }
 
-// After a closing bracket.
-fn closed(depth: usize, right: bool) -> State
-    ensures { result ≡ scanning.closed depth right }
-{
-    if depth == 0 {
-        State::Dead
-    } else {
-        State::Live(Phase::Complete, depth - 1, right)
+impl Live {
+    // The same brackets and side, with what may come next.
+    fn then(self, phase: Phase) -> Option<Live>
+        ensures { result ≡ live phase self.depth self.right }
+    {
+        Some(Live { phase, ..self })
     }
-}
 
-// After the `<` of `<=`: it stands once, outside all brackets.
-fn compared(depth: usize, right: bool) -> State
-    ensures { result ≡ scanning.compared depth right }
-{
-    if depth != 0 {
-        return State::Dead;
+    // After a closing bracket.
+    fn closed(self) -> Option<Live>
+        ensures { result ≡ scanning.closed self.depth self.right }
+    {
+        let depth = self.depth.checked_sub(1)?;
+        Some(Live {
+            phase: Phase::Complete,
+            depth,
+            ..self
+        })
     }
-    if right {
-        State::Dead
-    } else {
-        State::Live(Phase::Half, 0, false)
-    }
-}
 
-// After a factor.
-fn after_factor(depth: usize, right: bool, sign: Sign) -> State
-    ensures { result ≡ scanning.after_factor depth right sign }
-{
-    match sign {
-        Sign::Blank => State::Live(Phase::Complete, depth, right),
-        Sign::Plus | Sign::Minus | Sign::Times => State::Live(Phase::Awaiting, depth, right),
-        Sign::Close => closed(depth, right),
-        Sign::Less => compared(depth, right),
-        _ => State::Dead,
+    // After the `<` of `<=`: it stands once, outside all brackets.
+    fn compared(self) -> Option<Live>
+        ensures { result ≡ scanning.compared self.depth self.right }
+    {
+        if self.depth != 0 {
+            return None;
+        }
+        if self.right {
+            None
+        } else {
+            self.then(Phase::Half)
+        }
     }
-}
 
-// After a digit.
-fn in_number(depth: usize, right: bool, sign: Sign) -> State
-    ensures { result ≡ scanning.in_number depth right sign }
-{
-    if let Sign::Digit(_) = sign {
-        State::Live(Phase::Counting, depth, right)
-    } else {
-        after_factor(depth, right, sign)
+    // After a factor.
+    fn after_factor(self, sign: Sign) -> Option<Live>
+        ensures { result ≡ scanning.after_factor self.depth self.right sign }
+    {
+        match sign {
+            Sign::Blank => self.then(Phase::Complete),
+            Sign::Plus | Sign::Minus | Sign::Times => self.then(Phase::Awaiting),
+            Sign::Close => self.closed(),
+            Sign::Less => self.compared(),
+            _ => None,
+        }
     }
-}
 
-// Where a factor is to begin.
-fn before_factor(depth: usize, right: bool, sign: Sign) -> State
-    requires { depth < 2 ^ 63 }
-    ensures { result ≡ scanning.before_factor depth right sign }
-{
-    match sign {
-        Sign::Blank | Sign::Minus => State::Live(Phase::Awaiting, depth, right),
-        Sign::Digit(_) => State::Live(Phase::Counting, depth, right),
-        Sign::Letter(_) => State::Live(Phase::Complete, depth, right),
-        Sign::Open => State::Live(Phase::Awaiting, depth + 1, right),
-        _ => State::Dead,
+    // After a digit.
+    fn in_number(self, sign: Sign) -> Option<Live>
+        ensures { result ≡ scanning.in_number self.depth self.right sign }
+    {
+        match sign {
+            Sign::Digit(_) => self.then(Phase::Counting),
+            _ => self.after_factor(sign),
+        }
+    }
+
+    // Where a factor is to begin.
+    fn before_factor(self, sign: Sign) -> Option<Live>
+        requires { self.depth < 2 ^ 63 }
+        ensures { result ≡ scanning.before_factor self.depth self.right sign }
+    {
+        match sign {
+            Sign::Blank | Sign::Minus => self.then(Phase::Awaiting),
+            Sign::Digit(_) => self.then(Phase::Counting),
+            Sign::Letter(_) => self.then(Phase::Complete),
+            Sign::Open => Some(Live {
+                phase: Phase::Awaiting,
+                depth: self.depth + 1,
+                ..self
+            }),
+            _ => None,
+        }
+    }
+
+    // One sign further: none where no ending mends the signs so far.
+    fn advance(self, sign: Sign) -> Option<Live>
+        requires { self.depth < 2 ^ 63 }
+        ensures { result ≡ step (Some self) sign }
+    {
+        match self.phase {
+            Phase::Awaiting => self.before_factor(sign),
+            Phase::Counting => self.in_number(sign),
+            Phase::Complete => self.after_factor(sign),
+            Phase::Half => after_less(sign),
+        }
+    }
+
+    // Whether a text may end here.
+    fn accepts(self) -> bool
+        ensures { result ≡ accepted (Some self) }
+    {
+        match self.phase {
+            Phase::Awaiting | Phase::Half => false,
+            Phase::Counting | Phase::Complete => self.depth == 0 && self.right,
+        }
     }
 }
 
 // After `<` nothing but `=` stands, with no blank between.
-fn after_less(sign: Sign) -> State
+fn after_less(sign: Sign) -> Option<Live>
     ensures { result ≡ scanning.after_less sign }
 {
-    if let Sign::Equal = sign {
-        State::Live(Phase::Awaiting, 0, true)
-    } else {
-        State::Dead
+    match sign {
+        Sign::Equal => Some(Live {
+            phase: Phase::Awaiting,
+            depth: 0,
+            right: true,
+        }),
+        _ => None,
     }
 }
 
-// One sign further.
-fn advance(state: State, sign: Sign) -> State
-    requires { depth_of state < 2 ^ 63 }
-    ensures { result ≡ step state sign }
-{
-    match state {
-        State::Dead => State::Dead,
-        State::Live(phase, depth, right) => match phase {
-            Phase::Awaiting => before_factor(depth, right, sign),
-            Phase::Counting => in_number(depth, right, sign),
-            Phase::Complete => after_factor(depth, right, sign),
-            Phase::Half => after_less(sign),
-        },
-    }
-}
-
-// Whether a text may end here.
-fn accepts(state: State) -> bool
-    ensures { result ≡ accepted state }
-{
-    match state {
-        State::Dead => false,
-        State::Live(phase, depth, right) => match phase {
-            Phase::Awaiting | Phase::Half => false,
-            Phase::Counting | Phase::Complete => depth == 0 && right,
-        },
-    }
-}
-
-// Whether the text keeps the rules, or the place where it fails.
-pub fn scan(text: &[u8]) -> Scanned
+// Whether the text keeps the rules, or the place where it breaks them.
+pub fn scan(text: &[u8]) -> Result<(), Breach>
     ensures { result ≡ scanning.scanned text.now }
 {
-    let mut state = State::Live(Phase::Awaiting, 0, false);
-    let mut at: usize = 0;
-    while at < text.len() {
-        let next = advance(state, sign_of(text[at]));
-        if let State::Dead = next {
-            return Scanned::Fails(at);
-        }
-        state = next;
-        at += 1;
+    let mut live = Live {
+        phase: Phase::Awaiting,
+        depth: 0,
+        right: false,
+    };
+    for (place, byte) in text.iter().enumerate() {
+        live = live.advance(sign_of(*byte)).ok_or(Breach { place })?;
     }
-    if accepts(state) {
-        Scanned::Keeps
+    if live.accepts() {
+        Ok(())
     } else {
-        Scanned::Fails(at)
+        Err(Breach { place: text.len() })
     }
 }

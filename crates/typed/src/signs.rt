@@ -20,6 +20,7 @@ pub enum Sign {
 }
 
 // The sign that a byte is.
+#[tactic(auto, unfolding(crate::specs::Signs::sign_of))]
 pub fn sign_of(byte: u8) -> Sign
     ensures { result ≡ sign_of byte }
 {
@@ -42,16 +43,19 @@ pub fn sign_of(byte: u8) -> Sign
 pub fn sign_at(text: &[u8], at: usize) -> Sign
     ensures { result ≡ sign_at text.now at }
 {
-    if at < text.len() {
-        sign_of(text[at])
-    } else {
-        Sign::Other
+    match text.get(at) {
+        Some(byte) => sign_of(*byte),
+        None => Sign::Other,
     }
 }
 
 // How often the operand after a plus or a minus is added.
+#[tactic(auto, unfolding(crate::specs::Turns::sense_of))]
 pub fn sense(sign: Sign) -> i32
     ensures { result ≡ sense_of sign }
 {
-    if let Sign::Minus = sign { -1 } else { 1 }
+    match sign {
+        Sign::Minus => -1,
+        _ => 1,
+    }
 }

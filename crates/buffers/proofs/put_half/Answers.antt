@@ -1,12 +1,14 @@
--- One byte after the other. Assumes nothing.
+-- The last two of the four bytes, the highest first. Assumes nothing.
+use mathlib.Core.Path.{ap, ◌∙◌}
 use mathlib.Core.List.{[], ◌∷◌}
-use Rattle.buffers.specs.Over.{half}
-use Rattle.buffers.proofs.WritingLaws.{left-all, left-on, left-last, as_written, as-told}
+use lib.ListN.{get_or}
+use Rattle.buffers.specs.Over.{half, word, over}
+use Rattle.buffers.proofs.OverLaws.{word-bytes}
 use Rattle.buffers.proofs.put_half.Goals as goal
 
 pub returns : goal.returns
-unfolding half
-returns c =
-    let one = as_written c.put_byte-second.ensures in
-    let two = as_written c.put_byte.ensures in
-    as-told (left-last _ (left-on (_ ∷ []) _ (left-all _ _ _) one) two)
+unfolding half word
+returns c = (
+  c.put_bytes.ensures.0,
+  c.put_bytes.ensures.1 ∙ ap (λ b. over c.args.out.now c.args.at (get_or b 2 0 ∷ get_or b 3 0 ∷ [])) (c.to_be_bytes.ensures ∙ word-bytes c.args.v),
+)

@@ -1,14 +1,13 @@
--- One byte after the other. Assumes nothing.
-use mathlib.Core.List.{[], ◌∷◌}
-use Rattle.buffers.specs.Over.{word}
-use Rattle.buffers.proofs.WritingLaws.{left-all, left-on, left-last, as_written, as-told}
+-- The four bytes, the highest first. Assumes nothing.
+use mathlib.Core.Path.{ap, ◌∙◌}
+use Prim.Native.Nat.{◌+◌}
+use lib.ListN.{length}
+use Rattle.buffers.specs.Over.{word, over}
+use Rattle.buffers.proofs.OverLaws.{word-bytes}
 use Rattle.buffers.proofs.put_word.Goals as goal
 
 pub returns : goal.returns
 unfolding word
 returns c =
-    let one = as_written c.put_byte-second.ensures in
-    let two = as_written c.put_byte-third.ensures in
-    let three = as_written c.put_byte-fourth.ensures in
-    let four = as_written c.put_byte.ensures in
-    as-told (left-last _ (left-on (_ ∷ []) _ (left-on (_ ∷ []) _ (left-on (_ ∷ []) _ (left-all _ _ _) one) two) three) four)
+    let four = c.to_be_bytes.ensures ∙ word-bytes c.args.v in
+    (c.put_bytes.ensures.0 ∙ ap (λ b. c.args.at + length b) four, c.put_bytes.ensures.1 ∙ ap (λ b. over c.args.out.now c.args.at b) four)

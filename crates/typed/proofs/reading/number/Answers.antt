@@ -6,8 +6,8 @@ use Rattle.typed.specs.Forms.{reaches, constant}
 use Rattle.typed.proofs.LeafLaws.{whole-small, whole-large}
 use Rattle.typed.proofs.reading.number.Goals as goal
 
-pub returns-then-value-lt-NUMBER_LIMIT : goal.returns-then-value-lt-NUMBER_LIMIT
-returns-then-value-lt-NUMBER_LIMIT c = let d = c.read_digits-digits in ap (λ z. reaches d.result.next (constant z)) (to_z_pos w32 d.result.value c.if-value-lt-NUMBER_LIMIT.true) ∙ whole-small _ _ d.result d.ensures c.if-value-lt-NUMBER_LIMIT.true
+pub returns-then-digits-ge-NUMBER_LIMIT : goal.returns-then-digits-ge-NUMBER_LIMIT
+returns-then-digits-ge-NUMBER_LIMIT c = let d = c.read_digits-digits in whole-large _ _ d.result d.ensures c.if-digits-ge-NUMBER_LIMIT.true
 
-pub returns-else-value-lt-NUMBER_LIMIT : goal.returns-else-value-lt-NUMBER_LIMIT
-returns-else-value-lt-NUMBER_LIMIT c = let d = c.read_digits-digits in c.refuse.ensures ∙ whole-large _ _ d.result d.ensures c.if-value-lt-NUMBER_LIMIT.false
+pub returns : goal.returns
+returns c = let d = c.read_digits-digits in ap (λ z. reaches d.result.next (constant z)) (to_z_pos w32 d.result.value c.if-digits-ge-NUMBER_LIMIT.false) ∙ whole-small _ _ d.result d.ensures c.if-digits-ge-NUMBER_LIMIT.false

@@ -1,42 +1,54 @@
--- The tests in the order of the definition. A text that keeps the rules is some row's spelling, so what is refused in it stands before
--- its end. Assumes nothing.
-use mathlib.Core.Path.{sym, ap, ◌∙◌}
+-- The tests in the order of the definition. Assumes nothing.
+use mathlib.Core.Path.{◌≡◌, sym, ap, ◌∙◌}
 use native.Mathlib.Omega.{arith}
-use Rattle.typed.specs.Typed.{worked_row}
-use Rattle.typed.proofs.MendLaws.{fails-breaks}
-use Rattle.typed.proofs.TypedLaws.{too_few, too_many, too_long, fails, keeps, fault-below}
+use borrow.Author.Rules.{rules}
+use lib.IntN.{ℤ}
+use mir.Facts.{to_z-of_z}
+use mir.Syntax.{w32}
+use mir.Val.{SFits}
+use Rattle.std.specs.Prelude.{Ok}
+use Rattle.typed.specs.declared.forms.Form.{Form}
+use Rattle.typed.specs.Typed.{Answered, row_of, text_refused, value_refused, worked_row}
+use Rattle.typed.proofs.TypedLaws.{too_few, too_many, too_long, fails, keeps}
 use Rattle.typed.proofs.row.read_row.Goals as goal
 
+-- a form as a row
+told : (x : Form) (z : ℤ) → z ≡ x.number → ◌≡◌ {A = Answered} (Ok (record { coefficients = x.coefficients; bound = z })) (row_of x)
+told x z e = λ k. Ok (record { coefficients = x.coefficients; bound = e k })
+
 pub returns-then-variables-lt1 : goal.returns-then-variables-lt1
-returns-then-variables-lt1 c = let a = c.args in c.no_row.ensures ∙ sym (too_few a.variables a.text.now c.if-variables-lt1.true)
+returns-then-variables-lt1 c = let a = c.args in sym (too_few a.variables a.text.now c.if-variables-lt1.true)
 
 pub returns-then-variables-gt-VARIABLES : goal.returns-then-variables-gt-VARIABLES
 returns-then-variables-gt-VARIABLES c =
     let a = c.args in
-    c.no_row-then-variables-gt-VARIABLES.ensures ∙ sym (too_many a.variables a.text.now c.if-variables-lt1.false c.if-variables-gt-VARIABLES.true)
+    sym (too_many a.variables a.text.now c.if-variables-lt1.false c.if-variables-gt-VARIABLES.true)
 
 pub returns-then-text-gt-TEXT_LENGTH : goal.returns-then-text-gt-TEXT_LENGTH
 returns-then-text-gt-TEXT_LENGTH c =
     let a = c.args in
-    c.no_row-then-text-gt-TEXT_LENGTH.ensures ∙ sym (too_long a.variables a.text.now c.if-variables-lt1.false c.if-variables-gt-VARIABLES.false c.if-text-gt-TEXT_LENGTH.true)
+    sym (too_long a.variables a.text.now c.if-variables-lt1.false c.if-variables-gt-VARIABLES.false c.if-text-gt-TEXT_LENGTH.true)
 
-pub no_row-requires-in-Fails : goal.no_row-requires-in-Fails
-no_row-requires-in-Fails c =
-    let text = c.args.text.now in
-    omega (arith, (fails-breaks text c.in-Fails.place (sym c.scan.ensures ∙ c.in-Fails.is)).within, c.if-text-gt-TEXT_LENGTH.false)
-
-pub worked_row-requires : goal.worked_row-requires
-worked_row-requires c =
+pub returns-in_err-scan : goal.returns-in_err-scan
+returns-in_err-scan c =
     let a = c.args in
-    let f = fault-below a.variables a.text.now (sym c.scan.ensures ∙ c.in-Keeps.is) c.work.ensures in
-    record { place = λ p e. omega (arith, f.place p e, c.if-text-gt-TEXT_LENGTH.false) }
+    let e = c.in_err-scan in
+    let is : c.from_residual.result ≡ text_refused e.field-0.0.place = grind arith in
+    is ∙ sym (fails a.variables a.text.now c.if-variables-lt1.false c.if-variables-gt-VARIABLES.false c.if-text-gt-TEXT_LENGTH.false e.field-0.0.place (sym c.scan.ensures ∙ e.was))
 
-pub returns-in-Fails : goal.returns-in-Fails
-returns-in-Fails c =
+pub returns-in_err-form : goal.returns-in_err-form
+unfolding worked_row
+returns-in_err-form c =
     let a = c.args in
-    c.no_row-in-Fails.ensures ∙ sym (fails a.variables a.text.now c.if-variables-lt1.false c.if-variables-gt-VARIABLES.false c.if-text-gt-TEXT_LENGTH.false c.in-Fails.place (sym c.scan.ensures ∙ c.in-Fails.is))
+    let e = c.in_err-form in
+    let is : c.from_residual-in_err-form.result ≡ value_refused e.field-0.0.place = grind arith in
+    is ∙ sym (ap worked_row e.was) ∙ ap worked_row c.work.ensures ∙ sym (keeps a.variables a.text.now c.if-variables-lt1.false c.if-variables-gt-VARIABLES.false c.if-text-gt-TEXT_LENGTH.false (sym c.scan.ensures ∙ c.in_ok-scan.was))
 
-pub returns-in-Keeps : goal.returns-in-Keeps
-returns-in-Keeps c =
+pub returns : goal.returns
+unfolding worked_row
+returns c =
     let a = c.args in
-    c.worked_row.ensures ∙ ap worked_row c.work.ensures ∙ sym (keeps a.variables a.text.now c.if-variables-lt1.false c.if-variables-gt-VARIABLES.false c.if-text-gt-TEXT_LENGTH.false (sym c.scan.ensures ∙ c.in-Keeps.is))
+    let w = c.in_ok-form.field-0 in
+    let fits : SFits w32 w.form.number = search rules in
+    told w.form _ (to_z-of_z fits)
+    ∙ sym (ap worked_row c.in_ok-form.was) ∙ ap worked_row c.work.ensures ∙ sym (keeps a.variables a.text.now c.if-variables-lt1.false c.if-variables-gt-VARIABLES.false c.if-text-gt-TEXT_LENGTH.false (sym c.scan.ensures ∙ c.in_ok-scan.was))

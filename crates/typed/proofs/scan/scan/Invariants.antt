@@ -1,13 +1,14 @@
 use mathlib.Core.Path.{◌≡◌}
-use Prim.Native.Nat.{◌-◌, ◌≤◌}
-use lib.ListN.{length, drop}
+use Prim.Native.Nat.{◌≤◌}
+use lib.ListN.{drop}
+use Rattle.std.specs.Prelude.{Some}
 use Rattle.typed.specs.Signs.{signs}
-use Rattle.typed.specs.Scan.{scanned, depth_of}
+use Rattle.typed.specs.Scan.{scanned}
 use Rattle.typed.proofs.ScanLaws.{scan_on}
 use Rattle.typed.proofs.scan.scan.Given as goal
 
-abbrev pub invariant-loop-at : goal.invariant-loop-at
-invariant-loop-at l = (l.at ≤ length l.text) × (depth_of l.state ≤ l.at) × (scanned l.text ≡ scan_on l.at l.state (signs (drop l.at l.text)))
-
-abbrev pub decreases-loop-at : goal.decreases-loop-at
-decreases-loop-at l = length l.text - l.at
+abbrev pub invariant-loop-place : goal.invariant-loop-place
+invariant-loop-place l = record {
+  few : l.live.depth ≤ l.place;
+  rest : scanned l.text ≡ scan_on l.place (Some l.live) (signs (drop l.place l.text));
+}

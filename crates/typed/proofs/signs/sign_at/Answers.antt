@@ -1,13 +1,13 @@
--- In the text its sign; past the end the definition gives none either. Assumes nothing.
-use mathlib.Core.Path.{sym}
-use borrow.Author.Rules.{rules}
-use Rattle.typed.specs.Signs.{sign_at}
-use Rattle.typed.proofs.SignLaws.{sign-past}
+-- In the text its sign; past the end there is a 0 for the definition, which is none. Assumes nothing.
+use mathlib.Core.Path.{ap, ◌∙◌}
+use native.Mathlib.Omega.{arith}
+use Rattle.typed.specs.Signs.{sign_of, sign_at}
 use Rattle.typed.proofs.signs.sign_at.Goals as goal
 
-pub returns-then-at-text : goal.returns-then-at-text
+pub returns-in-Some : goal.returns-in-Some
 unfolding sign_at
-returns-then-at-text c = search rules
+returns-in-Some c = c.sign_of.ensures ∙ ap sign_of (c.in-Some.ensures.lookup.4 (omega arith) 0)
 
-pub returns-else-at-text : goal.returns-else-at-text
-returns-else-at-text c = sym (sign-past _ _ c.if-at-text.false)
+pub returns-in-None : goal.returns-in-None
+unfolding sign_at sign_of
+returns-in-None c = ap sign_of (c.in-None.ensures.lookup.4 (omega arith) 0)

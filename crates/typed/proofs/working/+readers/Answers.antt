@@ -1,8 +1,9 @@
 -- The readers of expression, term and factor: an operand and what follows it, an operator with its right operand and what follows that,
 -- and the four kinds of factor. Assumes nothing.
-use mathlib.Core.Path.{◌≡◌, refl, sym, ap, ◌∙◌, subst}
+use mathlib.Core.Path.{◌≡◌, refl, sym, ap, ◌∙◌}
 use mathlib.Core.List.{List}
-use Prim.Native.Nat.{ℕ, ◌+◌, ◌*◌, ◌-◌, ◌≤◌, ◌<◌}
+use mathlib.Core.Logic.{◌⊎◌}
+use Prim.Native.Nat.{ℕ, suc, ◌+◌, ◌*◌, ◌-◌, ◌≤◌, ◌<◌}
 use native.Mathlib.Omega.{arith}
 use lib.Dec.{T}
 use lib.ListN.{length}
@@ -10,20 +11,21 @@ use lib.IntN.{ℤ, negsuc}
 use mir.Facts.{to_z-of_z}
 use mir.Syntax.{w32}
 use mir.Val.{SFits, to_z, of_z}
+use Rattle.std.specs.Prelude.{Ok}
 use Rattle.typed.specs.declared.signs.Sign.{Sign}
-use Rattle.typed.specs.declared.signs.Sign.TheVariants.{Letter, Open, Minus, Times}
-use Rattle.typed.specs.declared.forms.Form.{Form}
-use Rattle.typed.specs.declared.forms.Reached.TheVariants.{At}
+use Rattle.typed.specs.declared.signs.Sign.TheVariants.{Letter, Open, Plus, Minus, Times}
 use Rattle.typed.specs.declared.forms.Worked.{Worked}
+use Rattle.typed.specs.declared.forms.Form.{Form}
 use Rattle.typed.specs.Signs.{sign_at}
 use Rattle.typed.specs.Turns.{sense_of}
-use Rattle.typed.specs.Forms.{zero_form, joined, multiplied}
+use Rattle.typed.specs.Forms.{Reading, refused, next, zero_form, joined, multiplied}
 use Rattle.typed.specs.Working.{skip, closed_at, expression_at, sums_at, term_at, products_at, factor_at}
-use Rattle.typed.specs.Following.{Follows, start_of, rest_of}
+use Rattle.typed.specs.Following.{Follows}
 use Rattle.typed.proofs.FollowLaws as follow
 use Rattle.typed.proofs.ReadLaws.{skip-from}
-use Rattle.typed.proofs.PlaceLaws.{no, stands, sum-stands, inside, joined-place, multiplied-place, variable-place, closed-place, whole-place}
+use Rattle.typed.proofs.PlaceLaws.{same, stands, sum-stands, inside, joined-place, multiplied-place, variable-place, closed-place, whole-place}
 use Rattle.typed.proofs.TurnLaws as turn
+use Rattle.typed.proofs.TreeLaws.{products-fault, sums-fault}
 use Rattle.typed.proofs.working.+readers.Goals as goal
 
 -- the sign after the blanks, further on in the text
@@ -35,39 +37,98 @@ module _ (text : List ℕ) (place : ℕ) (s : Sign) (g : s ≡ sign_at text plac
   there : (x : Sign) → s ≡ x → T (stands x) → place < length text
   there x e h = inside text place x (sym g ∙ e) h
 
-pub expression-sums-requires : goal.expression-sums-requires
-expression-sums-requires t c =
-    let f = c.term-left.ensures in (
-      omega (arith, follow.rest_below (length c.args.text.now) c.term-left.result (c.args.at + 1) f.place),
-      (c.requires, record { place = λ q e. let b = f.place q e in (omega arith, b.1) }),
-    )
+-- a product and a sum that go on after a place: their right operand or the operator is refused, or what follows is read
+module _ (n : ℕ) (text : List ℕ) (left : Worked) (place : ℕ) (s : Sign) (f : place ≡ skip text left.next) (g : s ≡ sign_at text place) where
+  module _ (e : s ≡ Times) {right : Reading} (h : Follows (3 * (length text - (place + 1)) + 1) (place + 1 + 1) (length text) (λ k. factor_at k n text (place + 1)) right) where
+    factor-times : (j : ℕ) → products_at (suc j) n text (Ok left) ≡ products_at j n text (multiplied place left.form (factor_at j n text (place + 1)))
+    factor-times j = turn.product-times n text (Ok left) j left.next place left.form s refl f g e
+
+    times-there : place < length text
+    unfolding stands
+    times-there = there text place s g Times e tt
+
+    products-refused : (p : ℕ) {r : Reading} → multiplied place left.form right ≡ refused p → r ≡ refused p → Follows (3 * (length text - left.next) + 1) left.next (length text) (λ k. products_at k n text (Ok left)) r
+    products-refused p i r =
+        follow.operator-refused (length text) left.next place (3 * (length text - (place + 1)) + 1) (λ k. factor_at k n text (place + 1)) (multiplied place left.form) (λ k w. products_at k n text w) (λ k. products_at k n text (Ok left))
+        factor-times (far text left.next place f) times-there (omega arith) h p i (λ j. products-fault n text j p (refused p) refl) r
+
+    products-end : (both : Worked) → multiplied place left.form right ≡ Ok both → (place + 1 + 1 ≤ both.next) × (both.next ≤ length text)
+    products-end both i = let o = multiplied-place place left.form right both.next both.form i in h.place both.next o.form o.is
+
+    products-go : (both : Worked) {r : Reading} → multiplied place left.form right ≡ Ok both → Follows (3 * (length text - both.next) + 1) both.next (length text) (λ k. products_at k n text (Ok both)) r → Follows (3 * (length text - left.next) + 1) left.next (length text) (λ k. products_at k n text (Ok left)) r
+    products-go both i r =
+        follow.operator (length text) left.next place (3 * (length text - (place + 1)) + 1) (λ k. factor_at k n text (place + 1)) (multiplied place left.form) (λ k w. products_at k n text w) (λ k. products_at k n text (Ok left))
+        factor-times (far text left.next place f) times-there (omega arith) h both.next both.form i (products-end both i) r
+
+  module _ (e : (s ≡ Plus) ⊎ (s ≡ Minus)) {right : Reading} (h : Follows (3 * (length text - (place + 1)) + 2) (place + 1 + 1) (length text) (λ k. term_at k n text (place + 1)) right) where
+    term-joins : (j : ℕ) → sums_at (suc j) n text (Ok left) ≡ sums_at j n text (joined place left.form (sense_of s) (term_at j n text (place + 1)))
+    term-joins j = turn.sum_goes n text (Ok left) j left.next place left.form s refl f g e
+
+    sign-there : place < length text
+    sign-there = there text place s g s refl (sum-stands s e)
+
+    sums-refused : (p : ℕ) {r : Reading} → joined place left.form (sense_of s) right ≡ refused p → r ≡ refused p → Follows (3 * (length text - left.next) + 1) left.next (length text) (λ k. sums_at k n text (Ok left)) r
+    sums-refused p i r =
+        follow.operator-refused (length text) left.next place (3 * (length text - (place + 1)) + 2) (λ k. term_at k n text (place + 1)) (joined place left.form (sense_of s)) (λ k w. sums_at k n text w) (λ k. sums_at k n text (Ok left))
+        term-joins (far text left.next place f) sign-there (omega arith) h p i (λ j. sums-fault n text j p (refused p) refl) r
+
+    sums-end : (both : Worked) → joined place left.form (sense_of s) right ≡ Ok both → (place + 1 + 1 ≤ both.next) × (both.next ≤ length text)
+    sums-end both i = let o = joined-place place left.form (sense_of s) right both.next both.form i in h.place both.next o.form o.is
+
+    sums-go : (both : Worked) {r : Reading} → joined place left.form (sense_of s) right ≡ Ok both → Follows (3 * (length text - both.next) + 1) both.next (length text) (λ k. sums_at k n text (Ok both)) r → Follows (3 * (length text - left.next) + 1) left.next (length text) (λ k. sums_at k n text (Ok left)) r
+    sums-go both i r =
+        follow.operator (length text) left.next place (3 * (length text - (place + 1)) + 2) (λ k. term_at k n text (place + 1)) (joined place left.form (sense_of s)) (λ k w. sums_at k n text w) (λ k. sums_at k n text (Ok left))
+        term-joins (far text left.next place f) sign-there (omega arith) h both.next both.form i (sums-end both i) r
+
+-- what was joined, with the sense that the sign has
+sense-joined : (p : ℕ) (a : Form) (s : Sign) (m : ℤ) (w : Worked) {r v : Reading} → v ≡ Ok w → r ≡ joined p a (to_z w32 (of_z w32 m)) (Ok w) → SFits w32 m → m ≡ sense_of s → joined p a (sense_of s) v ≡ r
+sense-joined p a s m w i e f g = ap (joined p a (sense_of s)) i ∙ sym (e ∙ ap (λ z. joined p a z (Ok w)) (to_z-of_z {w = w32} f ∙ g))
+
+pub expression-returns-in_err-left : goal.expression-returns-in_err-left
+unfolding expression_at
+expression-returns-in_err-left t c =
+    let a = c.args in
+    let p = c.in_err-left.field-0.0.place in
+    let is : c.from_residual.result ≡ refused p = grind arith in
+    follow.operand-refused (length a.text.now) a.at (3 * (length a.text.now - a.at) + 2) (3 * (length a.text.now - a.at) + 3) p
+    (λ k. term_at k a.n a.text.now a.at)
+    (λ k w. sums_at k a.n a.text.now w)
+    (λ k. expression_at k a.n a.text.now a.at)
+    (λ j. refl) (λ j. sums-fault a.n a.text.now j p (refused p) refl) (omega arith) c.term.ensures c.in_err-left.was is
 
 pub expression-returns : goal.expression-returns
 unfolding expression_at
 expression-returns t c =
     let a = c.args in
-    follow.operand (length a.text.now) a.at (3 * (length a.text.now - a.at) + 2) (3 * (length a.text.now - a.at) + 3)
+    let l = c.in_ok-left.left in
+    follow.operand (length a.text.now) a.at (3 * (length a.text.now - a.at) + 2) (3 * (length a.text.now - a.at) + 3) l.next l.form
     (λ k. term_at k a.n a.text.now a.at)
     (λ k w. sums_at k a.n a.text.now w)
     (λ k. expression_at k a.n a.text.now a.at)
-    (λ j. refl) (omega arith) (omega arith) c.term-left.ensures c.sums.ensures
+    (λ j. refl) (omega arith) (omega arith) c.term.ensures c.in_ok-left.was c.sums.ensures
 
-pub term-products-requires : goal.term-products-requires
-term-products-requires t c =
-    let f = c.factor-left.ensures in (
-      omega (arith, follow.rest_below (length c.args.text.now) c.factor-left.result (c.args.at + 1) f.place),
-      (c.requires, record { place = λ q e. let b = f.place q e in (omega arith, b.1) }),
-    )
+pub term-returns-in_err-left : goal.term-returns-in_err-left
+unfolding term_at
+term-returns-in_err-left t c =
+    let a = c.args in
+    let p = c.in_err-left.field-0.0.place in
+    let is : c.from_residual.result ≡ refused p = grind arith in
+    follow.operand-refused (length a.text.now) a.at (3 * (length a.text.now - a.at) + 1) (3 * (length a.text.now - a.at) + 2) p
+    (λ k. factor_at k a.n a.text.now a.at)
+    (λ k w. products_at k a.n a.text.now w)
+    (λ k. term_at k a.n a.text.now a.at)
+    (λ j. refl) (λ j. products-fault a.n a.text.now j p (refused p) refl) (omega arith) c.factor.ensures c.in_err-left.was is
 
 pub term-returns : goal.term-returns
 unfolding term_at
 term-returns t c =
     let a = c.args in
-    follow.operand (length a.text.now) a.at (3 * (length a.text.now - a.at) + 1) (3 * (length a.text.now - a.at) + 2)
+    let l = c.in_ok-left.left in
+    follow.operand (length a.text.now) a.at (3 * (length a.text.now - a.at) + 1) (3 * (length a.text.now - a.at) + 2) l.next l.form
     (λ k. factor_at k a.n a.text.now a.at)
     (λ k w. products_at k a.n a.text.now w)
     (λ k. term_at k a.n a.text.now a.at)
-    (λ j. refl) (omega arith) (omega arith) c.factor-left.ensures c.products.ensures
+    (λ j. refl) (omega arith) (omega arith) c.factor.ensures c.in_ok-left.was c.products.ensures
 
 pub factor-variable-requires : goal.factor-variable-requires
 unfolding stands
@@ -77,9 +138,9 @@ pub factor-overflow_add-place : goal.factor-overflow_add-place
 unfolding stands
 factor-overflow_add-place t c = let i = there c.args.text.now c.skip-place.result c.sign_at-sign.result c.sign_at-sign.ensures Open c.in-Open.is tt in omega arith
 
-pub factor-expression-inner-requires : goal.factor-expression-inner-requires
+pub factor-expression-requires : goal.factor-expression-requires
 unfolding stands
-factor-expression-inner-requires t c =
+factor-expression-requires t c =
     let l = far c.args.text.now c.args.at c.skip-place.result c.skip-place.ensures in
     let i = there c.args.text.now c.skip-place.result c.sign_at-sign.result c.sign_at-sign.ensures Open c.in-Open.is tt in
     (omega arith, c.requires)
@@ -88,9 +149,9 @@ pub factor-overflow_add-place-in-Minus : goal.factor-overflow_add-place-in-Minus
 unfolding stands
 factor-overflow_add-place-in-Minus t c = let i = there c.args.text.now c.skip-place.result c.sign_at-sign.result c.sign_at-sign.ensures Minus c.in-Minus.is tt in omega arith
 
-pub factor-factor-right-requires : goal.factor-factor-right-requires
+pub factor-factor-requires : goal.factor-factor-requires
 unfolding stands
-factor-factor-right-requires t c =
+factor-factor-requires t c =
     let l = far c.args.text.now c.args.at c.skip-place.result c.skip-place.ensures in
     let i = there c.args.text.now c.skip-place.result c.sign_at-sign.result c.sign_at-sign.ensures Minus c.in-Minus.is tt in
     (omega arith, c.requires)
@@ -103,9 +164,9 @@ factor-returns-in-Digit t c =
     let s = c.sign_at-sign in
     let d = c.in-Digit.field-0 in
     let l = far text a.at p c.skip-place.ensures in
-    follow.factor (length text) a.at (λ k. factor_at k a.n text a.at)
+    follow.turn (length text) (3 * (length text - a.at) + 1) (a.at + 1) (λ k. factor_at k a.n text a.at)
     (λ j h. turn.factor-number a.n text j a.at p s.result c.skip-place.ensures s.ensures d c.in-Digit.is ∙ sym c.number.ensures)
-    (λ z h. let b = whole-place text p d z (sym s.ensures ∙ c.in-Digit.is) (ap (λ w. w.reached) (sym c.number.ensures) ∙ h) in (omega arith, b.1))
+    (λ z y h. let b = whole-place text p d z y (sym s.ensures ∙ c.in-Digit.is) (sym c.number.ensures ∙ h) in (omega arith, b.1))
 
 pub factor-returns-in-Letter : goal.factor-returns-in-Letter
 unfolding stands
@@ -117,38 +178,71 @@ factor-returns-in-Letter t c =
     let v = c.in-Letter.letter in
     let l = far text a.at p c.skip-place.ensures in
     let i = there text p s.result s.ensures (Letter v) c.in-Letter.is tt in
-    follow.factor (length text) a.at (λ k. factor_at k a.n text a.at)
+    follow.turn (length text) (3 * (length text - a.at) + 1) (a.at + 1) (λ k. factor_at k a.n text a.at)
     (λ j h. turn.factor-letter a.n text j a.at p s.result c.skip-place.ensures s.ensures v c.in-Letter.is ∙ sym c.variable.ensures)
-    (λ z h. let b = variable-place a.n p v z (ap (λ w. w.reached) (sym c.variable.ensures) ∙ h) in (omega arith, omega arith))
+    (λ z y h. let b = variable-place a.n p v z y (sym c.variable.ensures ∙ h) in (omega arith, omega arith))
 
-pub factor-returns-in-Open : goal.factor-returns-in-Open
-unfolding stands
-factor-returns-in-Open t c =
+pub factor-returns-in_err-inner-in-Open : goal.factor-returns-in_err-inner-in-Open
+unfolding closed_at next stands
+factor-returns-in_err-inner-in-Open t c =
     let a = c.args in
     let text = a.text.now in
     let p = c.skip-place.result in
     let s = c.sign_at-sign in
-    let f = c.expression-inner.ensures in
     let l = far text a.at p c.skip-place.ensures in
     let i = there text p s.result s.ensures Open c.in-Open.is tt in
-    follow.factor (length text) a.at (λ k. factor_at k a.n text a.at)
-    (λ j h. turn.factor-bracket a.n text j a.at p s.result c.skip-place.ensures s.ensures c.in-Open.is ∙ ap (closed_at text) (sym (f.same j (omega arith))) ∙ sym c.close_bracket.ensures)
-    (λ z h. let b = closed-place text c.expression-inner.result (p + 1 + 1) z f.place (ap (λ w. w.reached) (sym c.close_bracket.ensures) ∙ h) in (omega arith, b.1))
+    let is : c.from_residual.result ≡ refused c.in_err-inner-in-Open.field-0.0.place = grind arith in
+    follow.turn (length text) (3 * (length text - a.at) + 1) (a.at + 1) (λ k. factor_at k a.n text a.at)
+    (λ j h. turn.factor-bracket a.n text j a.at p s.result c.skip-place.ensures s.ensures c.in-Open.is ∙ ap (closed_at text) (sym (c.expression.ensures.same j (omega arith)) ∙ c.in_err-inner-in-Open.was) ∙ sym is)
+    (follow.refused-lies is)
 
-pub factor-returns-in-Minus : goal.factor-returns-in-Minus
+pub factor-returns-in_ok-inner-in-Open : goal.factor-returns-in_ok-inner-in-Open
 unfolding stands
-factor-returns-in-Minus t c =
+factor-returns-in_ok-inner-in-Open t c =
     let a = c.args in
     let text = a.text.now in
     let p = c.skip-place.result in
     let s = c.sign_at-sign in
-    let f = c.factor-right.ensures in
+    let f = c.expression.ensures in
+    let inner = c.in_ok-inner-in-Open.inner in
+    let l = far text a.at p c.skip-place.ensures in
+    let i = there text p s.result s.ensures Open c.in-Open.is tt in
+    follow.turn (length text) (3 * (length text - a.at) + 1) (a.at + 1) (λ k. factor_at k a.n text a.at)
+    (λ j h. turn.factor-bracket a.n text j a.at p s.result c.skip-place.ensures s.ensures c.in-Open.is ∙ ap (closed_at text) (sym (f.same j (omega arith)) ∙ c.in_ok-inner-in-Open.was) ∙ sym c.close_bracket.ensures)
+    (λ z y h. let b = closed-place text (Ok inner) (p + 1 + 1) z y (λ q x e. f.place q x (c.in_ok-inner-in-Open.was ∙ e)) (sym c.close_bracket.ensures ∙ h) in (omega arith, b.1))
+
+pub factor-returns-in_err-right-in-Minus : goal.factor-returns-in_err-right-in-Minus
+unfolding joined next stands
+factor-returns-in_err-right-in-Minus t c =
+    let a = c.args in
+    let text = a.text.now in
+    let p = c.skip-place.result in
+    let s = c.sign_at-sign in
     let l = far text a.at p c.skip-place.ensures in
     let i = there text p s.result s.ensures Minus c.in-Minus.is tt in
-    let g = c.join.ensures ∙ ap (λ x. joined p x (negsuc 0) c.factor-right.result) c.zero_form.ensures in
-    follow.factor (length text) a.at (λ k. factor_at k a.n text a.at)
-    (λ j h. turn.factor-minus a.n text j a.at p s.result c.skip-place.ensures s.ensures c.in-Minus.is ∙ ap (joined p zero_form (negsuc 0)) (sym (f.same j (omega arith))) ∙ sym g)
-    (λ z h. let b = f.place z (joined-place p zero_form (negsuc 0) c.factor-right.result z (ap (λ w. w.reached) (sym g) ∙ h)) in (omega arith, b.1))
+    let is : c.from_residual-in_err-right-in-Minus.result ≡ refused c.in_err-right-in-Minus.field-0.0.place = grind arith in
+    follow.turn (length text) (3 * (length text - a.at) + 1) (a.at + 1) (λ k. factor_at k a.n text a.at)
+    (λ j h. turn.factor-minus a.n text j a.at p s.result c.skip-place.ensures s.ensures c.in-Minus.is ∙ ap (joined p zero_form (negsuc 0)) (sym (c.factor.ensures.same j (omega arith)) ∙ c.in_err-right-in-Minus.was) ∙ sym is)
+    (follow.refused-lies is)
+
+pub factor-returns-in_ok-right-in-Minus : goal.factor-returns-in_ok-right-in-Minus
+unfolding stands
+factor-returns-in_ok-right-in-Minus t c =
+    let a = c.args in
+    let text = a.text.now in
+    let p = c.skip-place.result in
+    let s = c.sign_at-sign in
+    let f = c.factor.ensures in
+    let right = c.in_ok-right-in-Minus.right in
+    let l = far text a.at p c.skip-place.ensures in
+    let i = there text p s.result s.ensures Minus c.in-Minus.is tt in
+    let g = c.join.ensures ∙ ap (λ x. joined p x (negsuc 0) (Ok right)) c.zero_form.ensures in
+    follow.turn (length text) (3 * (length text - a.at) + 1) (a.at + 1) (λ k. factor_at k a.n text a.at)
+    (λ j h. turn.factor-minus a.n text j a.at p s.result c.skip-place.ensures s.ensures c.in-Minus.is ∙ ap (joined p zero_form (negsuc 0)) (sym (f.same j (omega arith)) ∙ c.in_ok-right-in-Minus.was) ∙ sym g)
+    (λ z y h.
+    let o = joined-place p zero_form (negsuc 0) (Ok right) z y (sym g ∙ h) in
+    let b = f.place z o.form (c.in_ok-right-in-Minus.was ∙ o.is) in
+    (omega arith, b.1))
 
 pub factor-returns-in_default : goal.factor-returns-in_default
 factor-returns-in_default t c =
@@ -156,125 +250,118 @@ factor-returns-in_default t c =
     let text = a.text.now in
     let s = c.sign_at-sign in
     let d = c.in_default in
-    follow.factor (length text) a.at (λ k. factor_at k a.n text a.at)
-    (λ j h. turn.factor-none a.n text j a.at c.skip-place.result s.result c.skip-place.ensures s.ensures d.not-Digit d.not-Letter d.not-Open d.not-Minus ∙ sym c.refuse.ensures)
-    (λ z h. no (ap (λ w. w.reached) (sym c.refuse.ensures) ∙ h))
-
-pub products-overflow_add-place : goal.products-overflow_add-place
-unfolding stands
-products-overflow_add-place t c = let i = there c.args.text.now c.skip-place.result c.sign_at-sign.result c.sign_at-sign.ensures Times c.in-Times.is tt in omega arith
-
-pub products-factor-right-requires : goal.products-factor-right-requires
-unfolding stands
-products-factor-right-requires t c =
-    let text = c.args.text.now in
-    let l = far text c.in-At.at c.skip-place.result c.skip-place.ensures in
-    let i = there text c.skip-place.result c.sign_at-sign.result c.sign_at-sign.ensures Times c.in-Times.is tt in
-    (omega (arith, follow.rest_at (length text) c.args.left c.in-At.at c.in-At.is), c.requires.0)
-
-pub products-products-requires : goal.products-products-requires
-unfolding stands
-products-products-requires t c =
-    let text = c.args.text.now in
-    let p = c.skip-place.result in
-    let l = far text c.in-At.at p c.skip-place.ensures in
-    let i = there text p c.sign_at-sign.result c.sign_at-sign.ensures Times c.in-Times.is tt in
-    let lies : (z : ℕ) → c.multiply.result.reached ≡ At z → (p + 1 + 1 ≤ z) × (z ≤ length text) = λ z h. c.factor-right.ensures.place z (multiplied-place p c.args.left.form c.factor-right.result z (ap (λ w. w.reached) (sym c.multiply.ensures) ∙ h)) in (
-      omega (arith, follow.rest_at (length text) c.args.left c.in-At.at c.in-At.is, follow.rest_below (length text) c.multiply.result (p + 1 + 1) lies),
-      (c.requires.0, record { place = λ z h. let b = lies z h in (omega arith, b.1) }),
-    )
-
-pub products-returns-in-Fault : goal.products-returns-in-Fault
-products-returns-in-Fault t c =
-    let a = c.args in
-    let text = a.text.now in
-    follow.ends (length text) a.left.reached (λ k. products_at k a.n text a.left) refl (λ q h. (c.requires.1.place q h).1) (λ j. turn.product-fault a.n text a.left j c.in-Fault.field-0 c.in-Fault.is)
-
-pub products-returns-in-Times : goal.products-returns-in-Times
-unfolding stands rest_of start_of
-products-returns-in-Times t c =
-    let a = c.args in
-    let left = a.left in
-    let text = a.text.now in
-    let q = c.in-At.at in
-    let p = c.skip-place.result in
-    let s = c.sign_at-sign in
-    subst (λ u. Follows (rest_of (length text) u) (start_of (length text) u) (length text) (λ k. products_at k a.n text left) c.products.result) (sym c.in-At.is)
-    (follow.operator (length text) q p (3 * (length text - (p + 1)) + 1)
-    (λ k. factor_at k a.n text (p + 1))
-    (λ w. multiplied p left.form w)
-    (λ k w. products_at k a.n text w)
-    (λ k. products_at k a.n text left)
-    (λ j. turn.product-times a.n text left j q p s.result c.in-At.is c.skip-place.ensures s.ensures c.in-Times.is)
-    (λ w z h. multiplied-place p left.form w z h)
-    (far text q p c.skip-place.ensures) (there text p s.result s.ensures Times c.in-Times.is tt) (omega arith) c.factor-right.ensures c.multiply.ensures c.products.ensures)
+    follow.turn (length text) (3 * (length text - a.at) + 1) (a.at + 1) (λ k. factor_at k a.n text a.at)
+    (λ j h. turn.factor-none a.n text j a.at c.skip-place.result s.result c.skip-place.ensures s.ensures d.not-Digit d.not-Letter d.not-Open d.not-Minus)
+    (follow.refused-lies {p = c.skip-place.result} refl)
 
 pub products-returns-in_default : goal.products-returns-in_default
 products-returns-in_default t c =
     let a = c.args in
     let text = a.text.now in
-    let s = c.sign_at-sign in
-    follow.ends (length text) a.left.reached (λ k. products_at k a.n text a.left) refl (λ z h. (c.requires.1.place z h).1)
-    (λ j. turn.product-ends a.n text a.left j c.in-At.at c.skip-place.result s.result c.in-At.is c.skip-place.ensures s.ensures c.in_default.not-Times)
+    let s = c.sign_at in
+    let l = a.left in
+    follow.turn (length text) (3 * (length text - l.next) + 1) l.next (λ k. products_at k a.n text (Ok l))
+    (λ j h. turn.product-ends a.n text (Ok l) j l.next c.skip-place.result l.form s.result refl c.skip-place.ensures s.ensures c.in_default.not-Times)
+    (λ z y h. let e : l.next ≡ z = same {x = l.form} {y = y} h in (omega arith, omega (arith, c.requires.1)))
+
+pub products-overflow_add-place : goal.products-overflow_add-place
+unfolding stands
+products-overflow_add-place t c = let i = there c.args.text.now c.skip-place.result c.sign_at.result c.sign_at.ensures Times c.in-Times.is tt in omega arith
+
+pub products-factor-requires : goal.products-factor-requires
+unfolding stands
+products-factor-requires t c =
+    let text = c.args.text.now in
+    let l = far text c.args.left.next c.skip-place.result c.skip-place.ensures in
+    let i = there text c.skip-place.result c.sign_at.result c.sign_at.ensures Times c.in-Times.is tt in
+    (omega arith, c.requires.0)
+
+pub products-returns-in_err-right : goal.products-returns-in_err-right
+unfolding multiplied next
+products-returns-in_err-right t c =
+    let a = c.args in
+    let e = c.in_err-right in
+    let is : c.from_residual.result ≡ refused e.field-0.0.place = grind arith in
+    products-refused a.n a.text.now a.left c.skip-place.result c.sign_at.result c.skip-place.ensures c.sign_at.ensures c.in-Times.is c.factor.ensures e.field-0.0.place (ap (multiplied c.skip-place.result a.left.form) e.was) is
+
+pub products-returns-in_err-both : goal.products-returns-in_err-both
+products-returns-in_err-both t c =
+    let a = c.args in
+    let e = c.in_err-both in
+    let is : c.from_residual-in_err-both.result ≡ refused e.field-0.0.place = grind arith in
+    products-refused a.n a.text.now a.left c.skip-place.result c.sign_at.result c.skip-place.ensures c.sign_at.ensures c.in-Times.is c.factor.ensures e.field-0.0.place
+    (ap (multiplied c.skip-place.result a.left.form) c.in_ok-right.was ∙ sym c.multiply.ensures ∙ e.was) is
+
+pub products-products-requires : goal.products-products-requires
+products-products-requires t c =
+    let a = c.args in
+    let p = c.skip-place.result in
+    let l = far a.text.now a.left.next p c.skip-place.ensures in
+    let b = products-end a.n a.text.now a.left p c.sign_at.result c.skip-place.ensures c.sign_at.ensures c.in-Times.is c.factor.ensures c.in_ok-both.both (ap (multiplied p a.left.form) c.in_ok-right.was ∙ sym c.multiply.ensures ∙ c.in_ok-both.was) in
+    (omega arith, (c.requires.0, b.1))
+
+pub products-returns : goal.products-returns
+products-returns t c =
+    let a = c.args in
+    let p = c.skip-place.result in
+    products-go a.n a.text.now a.left p c.sign_at.result c.skip-place.ensures c.sign_at.ensures c.in-Times.is c.factor.ensures c.in_ok-both.both
+    (ap (multiplied p a.left.form) c.in_ok-right.was ∙ sym c.multiply.ensures ∙ c.in_ok-both.was) c.products.ensures
 
 pub sums-overflow_add-place : goal.sums-overflow_add-place
 sums-overflow_add-place t c = let i = there c.args.text.now c.skip-place.result c.sign_at-sign.result c.sign_at-sign.ensures c.sign_at-sign.result refl (sum-stands c.sign_at-sign.result c.in-Plus.is) in omega arith
 
-pub sums-term-right-requires : goal.sums-term-right-requires
-sums-term-right-requires t c =
+pub sums-term-requires : goal.sums-term-requires
+sums-term-requires t c =
     let text = c.args.text.now in
-    let l = far text c.in-At.at c.skip-place.result c.skip-place.ensures in
+    let l = far text c.args.left.next c.skip-place.result c.skip-place.ensures in
     let i = there text c.skip-place.result c.sign_at-sign.result c.sign_at-sign.ensures c.sign_at-sign.result refl (sum-stands c.sign_at-sign.result c.in-Plus.is) in
-    (omega (arith, follow.rest_at (length text) c.args.left c.in-At.at c.in-At.is), c.requires.0)
+    (omega arith, c.requires.0)
 
--- what was joined, with the sense that the sign has
-sums-joined : (p : ℕ) (a : Form) (s : Sign) (m : ℤ) (w : Worked) {r : Worked} → r ≡ joined p a (to_z w32 (of_z w32 m)) w → SFits w32 m → m ≡ sense_of s → r ≡ joined p a (sense_of s) w
-sums-joined p a s m w e f g = e ∙ ap (λ z. joined p a z w) (to_z-of_z {w = w32} f ∙ g)
+pub sums-returns-in_err-right-in-Plus : goal.sums-returns-in_err-right-in-Plus
+unfolding joined next
+sums-returns-in_err-right-in-Plus t c =
+    let a = c.args in
+    let s = c.sign_at-sign in
+    let e = c.in_err-right-in-Plus in
+    let is : c.from_residual.result ≡ refused e.field-0.0.place = grind arith in
+    sums-refused a.n a.text.now a.left c.skip-place.result s.result c.skip-place.ensures s.ensures c.in-Plus.is c.term.ensures e.field-0.0.place (ap (joined c.skip-place.result a.left.form (sense_of s.result)) e.was) is
+
+pub sums-returns-in_err-both-in-Plus : goal.sums-returns-in_err-both-in-Plus
+sums-returns-in_err-both-in-Plus t c =
+    let a = c.args in
+    let p = c.skip-place.result in
+    let s = c.sign_at-sign in
+    let e = c.in_err-both-in-Plus in
+    let is : c.from_residual-in_err-both-in-Plus.result ≡ refused e.field-0.0.place = grind arith in
+    sums-refused a.n a.text.now a.left p s.result c.skip-place.ensures s.ensures c.in-Plus.is c.term.ensures e.field-0.0.place
+    (sense-joined p a.left.form s.result c.sense.result c.in_ok-right-in-Plus.right c.in_ok-right-in-Plus.was c.join.ensures (record { sfits = c.sense.type_inv }) c.sense.ensures ∙ e.was) is
 
 pub sums-sums-requires : goal.sums-sums-requires
 sums-sums-requires t c =
-    let text = c.args.text.now in
+    let a = c.args in
     let p = c.skip-place.result in
     let s = c.sign_at-sign in
-    let l = far text c.in-At.at p c.skip-place.ensures in
-    let i = there text p s.result s.ensures s.result refl (sum-stands s.result c.in-Plus.is) in
-    let e = sums-joined p c.args.left.form s.result c.sense.result c.term-right.result c.join.ensures (record { sfits = c.sense.type_inv }) c.sense.ensures in
-    let lies : (z : ℕ) → c.join.result.reached ≡ At z → (p + 1 + 1 ≤ z) × (z ≤ length text) = λ z h. c.term-right.ensures.place z (joined-place p c.args.left.form (sense_of s.result) c.term-right.result z (ap (λ w. w.reached) (sym e) ∙ h)) in (
-      omega (arith, follow.rest_at (length text) c.args.left c.in-At.at c.in-At.is, follow.rest_below (length text) c.join.result (p + 1 + 1) lies),
-      (c.requires.0, record { place = λ z h. let b = lies z h in (omega arith, b.1) }),
-    )
+    let l = far a.text.now a.left.next p c.skip-place.ensures in
+    let i = there a.text.now p s.result s.ensures s.result refl (sum-stands s.result c.in-Plus.is) in
+    let b =
+    sums-end a.n a.text.now a.left p s.result c.skip-place.ensures s.ensures c.in-Plus.is c.term.ensures c.in_ok-both-in-Plus.both
+    (sense-joined p a.left.form s.result c.sense.result c.in_ok-right-in-Plus.right c.in_ok-right-in-Plus.was c.join.ensures (record { sfits = c.sense.type_inv }) c.sense.ensures ∙ c.in_ok-both-in-Plus.was) in
+    (omega arith, (c.requires.0, b.1))
 
-pub sums-returns-in-Fault : goal.sums-returns-in-Fault
-sums-returns-in-Fault t c =
+pub sums-returns-in_ok-both-in-Plus : goal.sums-returns-in_ok-both-in-Plus
+sums-returns-in_ok-both-in-Plus t c =
     let a = c.args in
-    let text = a.text.now in
-    follow.ends (length text) a.left.reached (λ k. sums_at k a.n text a.left) refl (λ q h. (c.requires.1.place q h).1) (λ j. turn.sum-fault a.n text a.left j c.in-Fault.field-0 c.in-Fault.is)
-
-pub sums-returns-in-Plus : goal.sums-returns-in-Plus
-unfolding rest_of start_of
-sums-returns-in-Plus t c =
-    let a = c.args in
-    let left = a.left in
-    let text = a.text.now in
-    let q = c.in-At.at in
     let p = c.skip-place.result in
     let s = c.sign_at-sign in
-    let m = sense_of s.result in
-    subst (λ u. Follows (rest_of (length text) u) (start_of (length text) u) (length text) (λ k. sums_at k a.n text left) c.sums.result) (sym c.in-At.is)
-    (follow.operator (length text) q p (3 * (length text - (p + 1)) + 2)
-    (λ k. term_at k a.n text (p + 1))
-    (λ w. joined p left.form m w)
-    (λ k w. sums_at k a.n text w)
-    (λ k. sums_at k a.n text left)
-    (λ j. turn.sum_goes a.n text left j q p s.result c.in-At.is c.skip-place.ensures s.ensures c.in-Plus.is)
-    (λ w z h. joined-place p left.form m w z h)
-    (far text q p c.skip-place.ensures) (there text p s.result s.ensures s.result refl (sum-stands s.result c.in-Plus.is)) (omega arith)
-    c.term-right.ensures (sums-joined p left.form s.result c.sense.result c.term-right.result c.join.ensures (record { sfits = c.sense.type_inv }) c.sense.ensures) c.sums.ensures)
+    sums-go a.n a.text.now a.left p s.result c.skip-place.ensures s.ensures c.in-Plus.is c.term.ensures c.in_ok-both-in-Plus.both
+    (sense-joined p a.left.form s.result c.sense.result c.in_ok-right-in-Plus.right c.in_ok-right-in-Plus.was c.join.ensures (record { sfits = c.sense.type_inv }) c.sense.ensures ∙ c.in_ok-both-in-Plus.was) c.sums.ensures
 
 pub sums-returns-in_default : goal.sums-returns-in_default
 sums-returns-in_default t c =
     let a = c.args in
     let text = a.text.now in
     let s = c.sign_at-sign in
-    follow.ends (length text) a.left.reached (λ k. sums_at k a.n text a.left) refl (λ z h. (c.requires.1.place z h).1)
-    (λ j. turn.sum-ends a.n text a.left j c.in-At.at c.skip-place.result s.result c.in-At.is c.skip-place.ensures s.ensures c.in_default.not-Plus c.in_default.not-Minus)
+    let l = a.left in
+    follow.turn (length text) (3 * (length text - l.next) + 1) l.next (λ k. sums_at k a.n text (Ok l))
+    (λ j h. turn.sum-ends a.n text (Ok l) j l.next c.skip-place.result l.form s.result refl c.skip-place.ensures s.ensures c.in_default.not-Plus c.in_default.not-Minus)
+    (λ z y h. let e : l.next ≡ z = same {x = l.form} {y = y} h in (omega arith, omega (arith, c.requires.1)))

@@ -1,20 +1,19 @@
 -- What each reader calls stands further on in the text, or is the reader one level down. Assumes nothing.
 use Prim.Native.Nat.{◌+◌, ◌*◌, ◌-◌}
 use lib.ListN.{length}
-use Rattle.typed.specs.Following.{rest_of}
 use Rattle.typed.proofs.working.+readers.Given as goal
 
 abbrev pub decreases-expression : goal.decreases-expression
 decreases-expression l = 3 * (length l.text.now - l.at) + 3
 
 abbrev pub decreases-sums : goal.decreases-sums
-decreases-sums l = rest_of (length l.text.now) l.left.reached
+decreases-sums l = 3 * (length l.text.now - l.left.next) + 1
 
 abbrev pub decreases-term : goal.decreases-term
 decreases-term l = 3 * (length l.text.now - l.at) + 2
 
 abbrev pub decreases-products : goal.decreases-products
-decreases-products l = rest_of (length l.text.now) l.left.reached
+decreases-products l = 3 * (length l.text.now - l.left.next) + 1
 
 abbrev pub decreases-factor : goal.decreases-factor
 decreases-factor l = 3 * (length l.text.now - l.at) + 1
