@@ -52,14 +52,10 @@ pub record Filling (model index : List ℕ) (at x from : ℕ) (before words : Li
   pub long : length words ≡ 64
   pub most : count ≤ 64
   pub onward : from ≤ count
-  pub behind : (x < y → from < count)
   pub first : x ≤ y
   pub same : records_in words count ++ records_from model index at y ≡ records_in before from ++ records_from model index at x
 
 module _ (model index : List ℕ) (at x from : ℕ) (before : List ℕ) where
-  pub filling-starts : length before ≡ 64 → from < 64 → Filling model index at x from before before x from
-  filling-starts long h = record { long = long; most = omega arith; onward = omega arith; behind = λ l. absurd (omega arith); first = omega arith; same = refl }
-
   module _ (words : List ℕ) (y count : ℕ) (f : Filling model index at x from before words y count) where
     pub filling-goes-on : (w : ℕ) → count < 64 → records_from model index at y ≡ unpacked_of w ∷ records_from model index at (y + 1) → Filling model index at x from before (set words count w) (y + 1) (count + 1)
     filling-goes-on w h e =
@@ -67,7 +63,6 @@ module _ (model index : List ℕ) (at x from : ℕ) (before : List ℕ) where
           long = length-set words count w ∙ f.long;
           most = omega arith;
           onward = omega (arith, f.onward);
-          behind = λ l. omega (arith, f.onward);
           first = omega (arith, f.first);
           same =
               ap (λ (rs : List Joint). rs ++ records_from model index at (y + 1)) (one_told words count w (omega (arith, f.long)))
@@ -108,11 +103,6 @@ module _ (model index : List ℕ) (slot₀ x₀ : ℕ) where
       record { long = long; most = omega arith; same = ap (λ (rs : List Joint). rs ++ records_from model index slot₀ x₀) (none_told words) }
 
   module _ (words : List ℕ) (slot x count : ℕ) (b : Batching model index slot₀ x₀ words slot x count) where
-    pub batching-full : 64 ≤ count → Told model index slot₀ x₀ (record { words = words; count = 64; slot = slot; x = x })
-    batching-full h =
-        let full : count ≡ 64 = omega (arith, b.most) in
-        (sym b.same ∙ ap (λ (n : ℕ). records_in words n ++ records_from model index slot x) full, (omega arith, λ l. omega arith))
-
     pub batching-over : 16 * location_count (components_from model index) ≤ slot → Told model index slot₀ x₀ (record { words = words; count = count; slot = slot; x = x })
     batching-over h =
         (sym b.same, (b.most, λ l. omega (arith, l, ap (λ (rs : List Joint). length rs) b.same, length-append (records_in words count) (records_from model index slot x), ap (λ (rs : List Joint). length rs) (records-over model index slot x h), told-length words count (omega (arith, b.long, b.most)))))

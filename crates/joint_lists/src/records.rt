@@ -20,92 +20,78 @@ fn packed(at: u32, landing: Landing) -> u64
     requires { (at < 1024) × (landing.target < 256) }
     ensures { unpacked_of result ≡ record_by at landing }
 {
-    let switches = landing.switches;
-    let target = landing.target;
-    let low = (at / 16) as u64
-        + 256 * ((at % 16) as u64)
-        + 65536 * (switches[0] as u64)
-        + 16777216 * (switches[1] as u64);
-    low + 4294967296 * (switches[2] as u64 + 256 * (switches[3] as u64) + 65536 * (target as u64))
+    let source = (at / 16) as u8;
+    let event = (at % 16) as u8;
+    let [a, b, c, d] = landing.switches;
+    let target = landing.target as u8;
+    u64::from_le_bytes([source, event, a, b, c, d, target, 0])
 }
 
 // The record that is packed in a word.
 pub fn unpacked(word: u64) -> Joint
     ensures { result ≡ unpacked_of word }
 {
+    let [source, event, a, b, c, d, target, _] = word.to_le_bytes();
     Joint {
-        source: (word % 256) as u8,
-        event: (word / 256 % 256) as u8,
-        switches: [
-            (word / 65536 % 256) as u8,
-            (word / 16777216 % 256) as u8,
-            (word / 4294967296 % 256) as u8,
-            (word / 1099511627776 % 256) as u8,
-        ],
-        target: (word / 281474976710656 % 256) as u8,
+        source,
+        event,
+        switches: [a, b, c, d],
+        target,
     }
 }
 
-// Packs the records of a slot that is listed, from the x-th on, into the words from a place on, and tells the place in the list after them.
+// Packs the records of a slot that is listed, from a place in it on, into the words from the first free one on, and tells where that ends.
 fn fill(
     model: &[u8],
     index: &Index,
-    at: u32,
     slot: Slot,
     ways: &[u8],
-    x: u32,
-    from: usize,
+    from: Filled,
     words: &mut [u64],
 ) -> Filled
-    requires tells { Tells model.now index.now at slot ways.now }
-    requires at_bound { (at < 16 * location_count (components_from model.now index.now)) × (at < 1024) }
-    requires from_bound { (from < 64) × (length words.old ≡ 64) }
-    ensures further { Further at from result }
-    ensures result_after { records_with model.now index.now words.new result ≡ records_with model.now index.now words.old (record { count = from; slot = at; x = x }) }
+    requires tells { Tells model.now index.now from.slot slot ways.now }
+    requires slot_bound { (from.slot < 16 * location_count (components_from model.now index.now)) × (from.slot < 1024) }
+    requires from_bound { (from.count < 64) × (length words.old ≡ 64) }
+    ensures further { Further from.slot from.count result }
+    ensures result_after { records_with model.now index.now words.new result ≡ records_with model.now index.now words.old from }
 {
-    let total = slot.count;
-    let mut y = x;
-    let mut count = from;
-    while y < total {
+    let at = from.slot;
+    let mut count = from.count;
+    for x in from.x..slot.count {
         if 64 <= count {
-            return Filled {
-                count,
-                slot: at,
-                x: y,
-            };
+            return Filled { count, slot: at, x };
         }
-        words[count] = packed(at, landing_at(index, slot, ways, y));
+        words[count] = packed(at, landing_at(index, slot, ways, x));
         count += 1;
-        y += 1;
     }
     Filled {
         count,
         slot: at + 1,
-        x: y - total,
+        x: from.x.saturating_sub(slot.count),
     }
 }
 
 // The same of any slot, which is listed first; the index tells whether its event has a joint switch at all.
-fn fill_slot(model: &[u8], index: &Index, at: u32, x: u32, from: usize, words: &mut [u64]) -> Filled
+fn fill_slot(model: &[u8], index: &Index, from: Filled, words: &mut [u64]) -> Filled
     requires accepted { Accepted model.now index.now }
-    requires at_bound { at < 16 * location_count (components_from model.now index.now) }
-    requires from_bound { (from < 64) × (length words.old ≡ 64) }
-    ensures further { Further at from result }
-    ensures result_after { records_with model.now index.now words.new result ≡ records_with model.now index.now words.old (record { count = from; slot = at; x = x }) }
+    requires slot_bound { from.slot < 16 * location_count (components_from model.now index.now) }
+    requires from_bound { (from.count < 64) × (length words.old ≡ 64) }
+    ensures further { Further from.slot from.count result }
+    ensures result_after { records_with model.now index.now words.new result ≡ records_with model.now index.now words.old from }
 {
-    let e = at % 16;
+    let e = from.slot % 16;
     if index[FIRST_TOTAL + e as usize] == 0 {
         return Filled {
-            count: from,
-            slot: at + 1,
-            x,
+            count: from.count,
+            slot: from.slot + 1,
+            x: from.x,
         };
     }
-    let location = at / 16;
+    let location = from.slot / 16;
     let modes = modes_at(model, index, location);
     let mut ways = [0u8; WAYS_LENGTH];
     let slot = list_slot(model, index, location, modes, e, &mut ways);
-    fill(model, index, at, slot, &ways, x, from, words)
+    fill(model, index, slot, &ways, from, words)
 }
 
 // The first place of the list; nothing is told yet.
@@ -120,34 +106,25 @@ pub fn list_start() -> Batch
     }
 }
 
-// The next records, up to 64, and the place after them.
+// The next records, up to 64, and the place after them. No `for` over the slots: a turn passes a slot or stays in it, with the words full.
 pub fn next_batch(model: &[u8], index: Index, at: Batch) -> Batch
     requires { Accepted model.now index }
     ensures { (records_from model.now index at.slot at.x ≡ records_in result.words result.count ++ records_from model.now index result.slot result.x) × ((result.count ≤ 64) × (0 < length (records_from model.now index at.slot at.x) → 0 < result.count)) }
 {
-    let slots = 16 * (index[LOCATIONS_AT] as u32);
+    let slots = 16 * u32::from(index[LOCATIONS_AT]);
     let mut words = [0u64; 64];
-    let mut slot = at.slot;
-    let mut x = at.x;
-    let mut count: usize = 0;
-    while slot < slots {
-        if 64 <= count {
-            return Batch {
-                words,
-                count: 64,
-                slot,
-                x,
-            };
-        }
-        let filled = fill_slot(model, &index, slot, x, count, &mut words);
-        count = filled.count;
-        slot = filled.slot;
-        x = filled.x;
+    let mut place = Filled {
+        count: 0,
+        slot: at.slot,
+        x: at.x,
+    };
+    while place.slot < slots && place.count < 64 {
+        place = fill_slot(model, &index, place, &mut words);
     }
     Batch {
         words,
-        count,
-        slot,
-        x,
+        count: place.count,
+        slot: place.slot,
+        x: place.x,
     }
 }

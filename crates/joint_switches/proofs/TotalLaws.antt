@@ -27,7 +27,7 @@ use Rattle.formats.proofs.WellFormed.{GoodComponent}
 use Rattle.formats.proofs.JointCounts.{count_most}
 use Rattle.formats.proofs.SumLaws.{sum-most}
 use Rattle.formats.proofs.JointProduct.{countable, joints-total}
-use Rattle.models.proofs.GoodIndexLaws.{components-back, components-end, good-components, few-components}
+use Rattle.models.proofs.GoodIndexLaws.{counted-at, components-back, components-end, good-components, few-components}
 use Rattle.joint_switches.proofs.JointLoops.{all_drop, components_on}
 use Rattle.joint_switches.proofs.TableLaws.{by-numbers}
 use Rattle.joint_switches.proofs.NumberedLaws.{labelled-few}
@@ -154,6 +154,10 @@ module _ {F : Type 0} (calls : Mut F (ℕ × Unit {0}) ℕ) (f : F) (h : ℕ →
     where
       start : (p : ℕ) → p ≡ 0 + p
       start p = omega arith
+
+-- what an array of all events' totals has at a number
+pub total-at : (f : ℕ → ℕ) (totals : List ℕ) (e : ℕ) → totals ≡ map f (count_up 0 16) → e < 16 → get_or totals e 0 ≡ f e
+total-at f totals e p h = ap (λ (xs : List ℕ). get_or xs e 0) p ∙ counted-at f 16 e 0 h
 
 -- all events: the sum of an array of their totals, which is how many joint switches there are, and how large it gets
 sum-mapped : (f : ℕ → ℕ) (xs : List ℕ) → sum (map f xs) ≡ sum_over f xs

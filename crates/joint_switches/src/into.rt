@@ -9,7 +9,7 @@ ghost use Rattle.joint_switches.specs.Numbered.{numbered, ByMode};
 ghost use Rattle.joint_switches.specs.Counted.{Counted};
 
 use crate::joints::{component_count, in_scope, product_over};
-use crate::numbered::count_switches;
+use crate::numbered::{BY_MODE, count_switches};
 use models::layout::{FIRST_TOTAL, Index};
 
 // How many switches lead into each of eight modes with each of sixteen labels, for four components.
@@ -24,10 +24,11 @@ pub fn count_entering(s: &[u8], index: &Index, table: &mut [u8])
     requires in_bounds { (512 ≤ length table.old) × Blank 0 table.old }
     ensures { (k p : ℕ) → k < components_in index.now → p < 128 → get_or table.new (128 * k + p) 0 ≡ numbered 16 (component_at s.now index.now k) p }
 {
-    count_switches(s, index, 128, 16, table);
+    count_switches(s, index, BY_MODE, table);
 }
 
-// How many switches of a component have this label and lead into this mode.
+// How many switches of a component have this label and lead into this mode. Kept apart from `labels_of` and, below, from `choices_of`: the
+// shared part would be one line, and what it means of a component is in each contract.
 fn entering_of(s: &[u8], index: &Index, table: &EnteringTable, k: usize, mode: u8, e: u32) -> u32
     requires good_index { GoodIndex s.now index.now × ByMode s.now index.now table.now }
     requires k_bound { (k < components_in index.now) × ((mode < 8) × (e ≤ 15)) }

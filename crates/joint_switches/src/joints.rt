@@ -124,7 +124,7 @@ pub fn scope_mask(s: &[u8], index: &Index, e: u32) -> u32
     mask
 }
 
-// A component's mode after a joint switch.
+// A component's mode after a joint switch. 255 stands for staying, as in the joint list of the C interface.
 pub fn mode_after(s: &[u8], index: &Index, k: usize, mode: u8, i: u8) -> u8
     requires good_index { GoodIndex s.now index.now }
     requires k_bound { k < components_in index.now }

@@ -8,7 +8,7 @@ ghost use Rattle.models.specs.Counts.{component_at};
 ghost use Rattle.joint_switches.specs.Numbered.{ByLabel};
 
 use crate::joints::{component_count, in_scope, mode_count, product_over, scope_mask};
-use crate::numbered::count_switches;
+use crate::numbered::{BY_LABEL, count_switches};
 use models::layout::Index;
 use std::array;
 
@@ -93,7 +93,7 @@ pub fn event_totals(s: &[u8], index: &Index) -> [u32; 16]
     ensures { result ≡ map (event_total (components_from s.now index.now)) (count_up 0 16) }
 {
     let mut table = [0u8; LABELS_LENGTH];
-    count_switches(s, index, 16, 0, &mut table);
+    count_switches(s, index, BY_LABEL, &mut table);
     totals_by(s, index, &table)
 }
 

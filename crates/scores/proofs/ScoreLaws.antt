@@ -2,7 +2,7 @@
 -- nothing.
 use mathlib.Core.Path.{◌≡◌, sym, ap, ◌∙◌}
 use Prim.Native.Nat.{ℕ, suc, ◌+◌, ◌*◌, ◌-◌, ◌/◌, ◌%◌, ◌≤◌, ◌<◌, min}
-use native.Mathlib.Nat.{min-eq_left, min-eq_right, mod-lt, div-add-mod', mul-le-mul_left}
+use native.Mathlib.Nat.{mod-lt, div-add-mod'}
 use native.Mathlib.Omega.{arith}
 use Rattle.rules.specs.Nearest.{nearest}
 use Rattle.rules.specs.Marking.{score_of, refused_score}
@@ -10,13 +10,6 @@ use Rattle.rules.proofs.Scores.{score-rounded}
 use Rattle.rules.proofs.Nearest.{below_half, above_half, at-half, nearest-only}
 
 module _ (a b : ℕ) (some : 1 ≤ b) where
-  pub past_fits : a % b ≤ b
-  past_fits = omega (arith, mod-lt a some)
-
-  -- where the next is taken the quotient is at most half of what is divided
-  pub next_fits : b - a % b ≤ a % b → 2 * (a / b) ≤ a
-  next_fits h = omega (arith, mod-lt a some, div-add-mod' a b, mul-le-mul_left {m = 2} {n = b} (a / b) (omega (arith, mod-lt a some)))
-
   -- less is past the quotient than is left to the next, more, or as much
   pub nearest-below : a % b < b - a % b → a / b ≡ nearest a b
   nearest-below h = nearest-only a b (a / b) some (below_half a b (a / b) (a % b) (omega arith) (div-add-mod' a b))
@@ -25,8 +18,8 @@ module _ (a b : ℕ) (some : 1 ≤ b) where
   nearest-above h =
       omega (arith, nearest-only a b (suc (a / b)) some (above_half a b (a / b) (a % b) (mod-lt a some) (omega (arith, mod-lt a some)) (div-add-mod' a b)))
 
-  pub nearest-half : b - a % b ≤ a % b → a % b ≤ b - a % b → a / b + a / b % 2 ≡ nearest a b
-  nearest-half h k = nearest-only a b (a / b + a / b % 2) some (at-half a b (a / b) (a % b) (omega (arith, mod-lt a some)) (div-add-mod' a b))
+  pub nearest-half : a % b ≡ b - a % b → a / b + a / b % 2 ≡ nearest a b
+  nearest-half h = nearest-only a b (a / b + a / b % 2) some (at-half a b (a / b) (a % b) (omega (arith, mod-lt a some)) (div-add-mod' a b))
 
 -- The score of a refused certificate
 pub score-none : (done total : ℕ) → total ≡ 0 → 99 ≡ refused_score done total
@@ -37,10 +30,6 @@ module _ (done total score : ℕ) (some : total ≡ 0 → ⊥) (e : score ≡ ne
   rounded : score_of done total ≡ score
   rounded = score-rounded done total (omega (arith, some)) ∙ sym e
 
-  pub score-most : 99 < score → 99 ≡ refused_score done total
+  pub score-capped : min score 99 ≡ refused_score done total
   unfolding refused_score
-  score-most l = sym (ap (λ (n : ℕ). min 99 n) rounded ∙ min-eq_left (omega arith))
-
-  pub score-some : score ≤ 99 → score ≡ refused_score done total
-  unfolding refused_score
-  score-some l = sym (ap (λ (n : ℕ). min 99 n) rounded ∙ min-eq_right l)
+  score-capped = omega (arith, rounded)

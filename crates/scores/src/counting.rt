@@ -11,7 +11,7 @@ ghost use Rattle.papers.specs.Paper.{GoodPaper, regions_of, location_obligations
 ghost use Rattle.scores.specs.Counting.{rows_into};
 
 use joint_switches::into::{ENTERING_LENGTH, EnteringTable, count_entering, joints_into};
-use joint_switches::joints::{bit_of, modes_at};
+use joint_switches::joints::modes_at;
 use models::layout::{CONDITIONS_AT, Index};
 use papers::standing::{all_start, modes_fit};
 use second_sheets::ranges::Regions;
@@ -21,12 +21,9 @@ fn fitting_count(model: &[u8], index: &Index, modes: [u8; 4]) -> u32
     requires { GoodIndex model.now index.now }
     ensures { result ≡ length (numbers_from 0 (λ u. modes_fit u.modes (per_component index.now modes)) (model_from model.now index.now).unsafe) }
 {
-    let conditions = index[CONDITIONS_AT] as usize;
     let mut count: u32 = 0;
-    let mut u: usize = 0;
-    while u < conditions {
-        count += bit_of(modes_fit(model, index, u, modes));
-        u += 1;
+    for u in 0..usize::from(index[CONDITIONS_AT]) {
+        count += u32::from(modes_fit(model, index, u, modes));
     }
     count
 }
@@ -62,7 +59,7 @@ fn goals_here(
 {
     let rows = region_rows(model, index, second, regions, location);
     let fitting = fitting_count(model, index, modes);
-    let starts = bit_of(all_start(model, index, modes));
+    let starts = u32::from(all_start(model, index, modes));
     starts * rows + (rows + fitting)
 }
 
@@ -118,12 +115,10 @@ fn goals_by(
     ensures { result ≡ length (obligations_for model.now index.now second.now regions.now locations) }
 {
     let mut count: u32 = 0;
-    let mut location: u32 = 0;
-    while location < locations {
+    for location in 0..locations {
         let modes = modes_at(model, index, location);
         let here = goals_here(model, index, second, regions, location, modes);
         count += here + goals_into(model, index, second, regions, table, location, modes);
-        location += 1;
     }
     count
 }

@@ -3,6 +3,8 @@ ghost use Rattle.std.specs.Prelude.{◌≡◌, ◌≤◌};
 ghost use Rattle.rules.specs.Nearest.{nearest};
 ghost use Rattle.rules.specs.Marking.{refused_score};
 
+use std::cmp::Ordering;
+
 // The nearest whole number of a fraction, at a half the even one. What is past the quotient is compared with what is left to the next.
 fn nearest(part: u32, whole: u32) -> u32
     requires { 1 ≤ whole }
@@ -11,13 +13,11 @@ fn nearest(part: u32, whole: u32) -> u32
     let quotient = part / whole;
     let past = part % whole;
     let left = whole - past;
-    if past < left {
-        return quotient;
+    match past.cmp(&left) {
+        Ordering::Less => quotient,
+        Ordering::Equal => quotient + quotient % 2,
+        Ordering::Greater => quotient + 1,
     }
-    if left < past {
-        return quotient + 1;
-    }
-    quotient + quotient % 2
 }
 
 // 100 times the proofs that passed over all obligations, to the nearest whole number, or 100 if there are none; then at most 99.
@@ -28,9 +28,5 @@ pub fn refused_score(done: u32, total: u32) -> u32
     if total == 0 {
         return 99;
     }
-    let score = nearest(100 * done, total);
-    if 99 < score {
-        return 99;
-    }
-    score
+    nearest(100 * done, total).min(99)
 }

@@ -1,12 +1,8 @@
 use mathlib.Core.Path.{◌≡◌}
-use Prim.Native.Nat.{◌-◌, ◌≤◌}
 use Rattle.formats.specs.Joint.{count_up}
 use Rattle.formats.specs.JointTotals.{sum_over}
 use Rattle.scores.proofs.CountGoals.{goals_for}
 use Rattle.scores.proofs.counting.goals_by.Given as goal
 
 abbrev pub invariant-loop-location : goal.invariant-loop-location
-invariant-loop-location l = (l.location ≤ l.locations) × (l.count ≡ sum_over (goals_for l.model l.index l.second l.regions) (count_up 0 l.location))
-
-abbrev pub decreases-loop-location : goal.decreases-loop-location
-decreases-loop-location l = l.locations - l.location
+invariant-loop-location l = l.count ≡ sum_over (goals_for l.model l.index l.second l.regions) (count_up 0 l.location)

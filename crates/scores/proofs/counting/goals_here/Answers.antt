@@ -3,32 +3,20 @@ use mathlib.Core.Path.{◌≡◌}
 use Prim.Native.Nat.{◌+◌, ◌*◌}
 use native.Mathlib.Omega.{arith}
 use lib.ListN.{length}
+use Rattle.formats.specs.Joint.{bit}
 use Rattle.models.specs.Index.{model_from}
 use Rattle.rules.specs.Obligations.{location_obligations}
 use Rattle.papers.specs.Paper.{regions_of}
 use Rattle.scores.proofs.CountGoals.{location-few, location-sum}
-use Rattle.scores.proofs.counting.goals_here.Goals.{After-bit_of-starts}
+use Rattle.scores.proofs.counting.goals_here.Goals.{After-from-starts}
 use Rattle.scores.proofs.counting.goals_here.Goals as goal
 
-pub region_rows-rows-requires : goal.region_rows-rows-requires
-region_rows-rows-requires c = record { good_paper = c.requires.good_paper; location_bound = c.requires.stands.below }
-
-pub fitting_count-fitting-requires : goal.fitting_count-fitting-requires
-fitting_count-fitting-requires c = c.requires.good_paper.good
-
-pub all_start-requires : goal.all_start-requires
-all_start-requires c =
-    let p = c.requires in
-    (p.good_paper.good, p.stands.known)
-
 -- the sum, and that it is small
-sum : (c : After-bit_of-starts) → c.bit_of-starts.result * c.region_rows-rows.result + (c.region_rows-rows.result + c.fitting_count-fitting.result) ≡ length (location_obligations (model_from c.args.model.now c.args.index.now) (regions_of c.args.model.now c.args.index.now c.args.second.now c.args.regions.now) c.args.location)
+sum : (c : After-from-starts) → c.from-starts.result * c.region_rows-rows.result + (c.region_rows-rows.result + c.fitting_count-fitting.result) ≡ length (location_obligations (model_from c.args.model.now c.args.index.now) (regions_of c.args.model.now c.args.index.now c.args.second.now c.args.regions.now) c.args.location)
+unfolding bit
 sum c =
     let a = c.args in
-    location-sum a.model.now a.index.now a.second.now a.regions.now a.location a.modes c.requires.stands.here _ _ _ c.all_start.ensures c.bit_of-starts.ensures c.region_rows-rows.ensures c.fitting_count-fitting.ensures
-
-pub overflow_mul-result : goal.overflow_mul-result
-overflow_mul-result c = omega (arith, sum c, location-few c.requires.good_paper c.args.location)
+    location-sum a.model.now a.index.now a.second.now a.regions.now a.location a.modes c.requires.stands.here _ _ _ c.all_start.ensures c.from-starts.ensures c.region_rows-rows.ensures c.fitting_count-fitting.ensures
 
 pub overflow_add-result : goal.overflow_add-result
 overflow_add-result c = omega (arith, sum c, location-few c.requires.good_paper c.args.location)

@@ -1,12 +1,7 @@
 -- The number that is kept for a location's rows. Assumes nothing.
 use mathlib.Core.Path.{sym, ◌∙◌}
-use native.Mathlib.Omega.{arith}
-use borrow.Author.Rules.{rules}
 use Rattle.papers.proofs.RegionLaws.{region-length}
 use Rattle.scores.proofs.counting.region_rows.Goals as goal
-
-pub region_rows-requires : goal.region_rows-requires
-region_rows-requires c = (search rules, omega (arith, c.requires.good_paper.few, c.requires.location_bound))
 
 pub returns : goal.returns
 returns c =

@@ -1,22 +1,18 @@
--- By cases: less than half is past the quotient, more, or half. Assumes nothing.
-use native.Mathlib.Omega.{arith}
-use Rattle.scores.proofs.ScoreLaws.{past_fits, next_fits, nearest-below, nearest-above, nearest-half}
+-- By cases: less than half is past the quotient, half, or more. Assumes nothing.
+use mathlib.Core.Path.{sym, ◌∙◌}
+use Rattle.std.proofs.lemmas.Cmp.{ranked}
+use Rattle.std.specs.declared.cmp.Ordering.TheVariants.{Less, Equal, Greater}
+use Rattle.scores.proofs.ScoreLaws.{nearest-below, nearest-above, nearest-half}
 use Rattle.scores.proofs.rounding.nearest.Goals as goal
 
-pub overflow_sub-left : goal.overflow_sub-left
-overflow_sub-left c = past_fits c.args.part c.args.whole c.requires
+pub returns-in-Less : goal.returns-in-Less
+returns-in-Less c =
+    nearest-below c.args.part c.args.whole c.requires (ranked _ _ Less (sym c.in-Less.is ∙ c.cmp.ensures))
 
-pub returns-then-past-left : goal.returns-then-past-left
-returns-then-past-left c = nearest-below c.args.part c.args.whole c.requires (omega (arith, c.if-past-left.true))
+pub returns-in-Equal : goal.returns-in-Equal
+returns-in-Equal c =
+    nearest-half c.args.part c.args.whole c.requires (ranked _ _ Equal (sym c.in-Equal.is ∙ c.cmp.ensures))
 
-pub overflow_add-result : goal.overflow_add-result
-overflow_add-result c = omega (arith, next_fits c.args.part c.args.whole c.requires (omega (arith, c.if-past-left.false)))
-
-pub returns-then-left-past : goal.returns-then-left-past
-returns-then-left-past c = nearest-above c.args.part c.args.whole c.requires (omega (arith, c.if-left-past.true))
-
-pub overflow_add-result-2 : goal.overflow_add-result-2
-overflow_add-result-2 c = omega (arith, next_fits c.args.part c.args.whole c.requires (omega (arith, c.if-past-left.false)))
-
-pub returns : goal.returns
-returns c = nearest-half c.args.part c.args.whole c.requires (omega (arith, c.if-past-left.false)) (omega (arith, c.if-left-past.false))
+pub returns-in-Greater : goal.returns-in-Greater
+returns-in-Greater c =
+    nearest-above c.args.part c.args.whole c.requires (ranked _ _ Greater (sym c.in-Greater.is ∙ c.cmp.ensures))
