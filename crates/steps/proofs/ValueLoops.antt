@@ -79,12 +79,25 @@ unfolding some count_up
 any-counted f k zero = refl
 any-counted f k (suc n) = ap (λ (m : ℕ). f k || list_any f (range_with_len m n)) (add-one k) ∙ ap (λ b. f k || b) (any-counted f (suc k) n)
 
-module _ {F : Type 0} {g : Mut F (ℕ × Unit {0}) Bool} {f : F} {r : Bool} {u : Range ℕ} (test : ℕ → Bool) (m n : ℕ) (all : m ≡ n) where
-  pub all-range : ChecksAll nat_range_steps g (record { start = 0; end = m }) f r u → ((x : ℕ) (b : Bool) (q : F) → Called g f (x, tt) b q → (q ≡ f) × (b ≡ test x)) → r ≡ every test (count_up 0 n)
-  all-range ran same = all_from_yields_List test _ _ _ ran (YieldsList-from_range 0 m n refl (omega arith)) same ∙ all-counted test 0 n
+module _ {F : Type 0} {g : Mut F (ℕ × Unit {0}) Bool} {f : F} {r : Bool} {u : Range ℕ} (test : ℕ → Bool) where
+  pub all-from : (k m n : ℕ) → m - k ≡ n → ChecksAll nat_range_steps g (record { start = k; end = m }) f r u → ((x : ℕ) (b : Bool) (q : F) → Called g f (x, tt) b q → (q ≡ f) × (b ≡ test x)) → r ≡ every test (count_up k n)
+  all-from k m n e ran same = all_from_yields_List test _ _ _ ran (YieldsList-from_range k m n refl e) same ∙ all-counted test k n
 
-  pub any-range : ChecksAny nat_range_steps g (record { start = 0; end = m }) f r u → ((x : ℕ) (b : Bool) (q : F) → Called g f (x, tt) b q → (q ≡ f) × (b ≡ test x)) → r ≡ some test (count_up 0 n)
-  any-range ran same = any_from_yields_List test _ _ _ ran (YieldsList-from_range 0 m n refl (omega arith)) same ∙ any-counted test 0 n
+  pub all-range : (m n : ℕ) → m ≡ n → ChecksAll nat_range_steps g (record { start = 0; end = m }) f r u → ((x : ℕ) (b : Bool) (q : F) → Called g f (x, tt) b q → (q ≡ f) × (b ≡ test x)) → r ≡ every test (count_up 0 n)
+  all-range m n e = all-from 0 m n (omega (arith, e))
+
+  pub any-range : (m n : ℕ) → m ≡ n → ChecksAny nat_range_steps g (record { start = 0; end = m }) f r u → ((x : ℕ) (b : Bool) (q : F) → Called g f (x, tt) b q → (q ≡ f) × (b ≡ test x)) → r ≡ some test (count_up 0 n)
+  any-range m n e ran same = any_from_yields_List test _ _ _ ran (YieldsList-from_range 0 m n refl (omega (arith, e))) same ∙ any-counted test 0 n
+
+-- a test of all that are left, told step by step, is that of each number that is left
+pub each-step : (test whole : ℕ → Bool) (n : ℕ) → whole n ≡ true → ((k : ℕ) → k < n → whole k ≡ (test k && whole (k + 1))) → (k left : ℕ) → k + left ≡ n → every test (count_up k left) ≡ whole k
+unfolding every count_up
+each-step test whole n last next k zero e = sym last ∙ ap whole (here n k e)
+  where
+    here : (n k : ℕ) → k + zero ≡ n → n ≡ k
+    here n k e = omega arith
+each-step test whole n last next k (suc left) e =
+    ap (λ b. test k && b) (each-step test whole n last next (suc k) left (omega arith) ∙ ap whole (sym (add-one k))) ∙ sym (next k (omega arith))
 
 -- tests that agree on the numbers
 agree-from : (f g : ℕ → Bool) (k n : ℕ) → ((i : ℕ) → k ≤ i → i < k + n → f i ≡ g i) → every f (count_up k n) ≡ every g (count_up k n)
