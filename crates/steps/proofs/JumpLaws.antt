@@ -17,7 +17,7 @@ use Rattle.second_sheets.specs.declared.Step as coded
 use Rattle.second_sheets.specs.declared.Step.TheVariants as step
 use Rattle.formats.specs.Model.{Component, Model, has_event, Switch}
 use Rattle.formats.specs.Locations.{modes_at, location_of}
-use Rattle.formats.specs.Joint.{stays, switch_of, leaves, moves, scope_mask, mover_count, part_in, members_move, all_stay, one_moves, is_joint, modes_after, bit}
+use Rattle.formats.specs.Joint.{stays, switch_of, leaves, moves, scope_mask, mover_count, part_in, members_move, all_stay, one_moves, is_joint, modes_after}
 use Rattle.models.specs.Index.{entry, components_from, model_from, GoodIndex}
 use Rattle.models.specs.Counts.{component_at, per_component, KnownSwitches}
 use Rattle.formats.specs.RunSheet.{Step}

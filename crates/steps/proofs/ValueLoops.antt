@@ -17,22 +17,12 @@ use Rattle.farkas.specs.Lists.{every, some}
 use Rattle.formats.specs.Joint.{count_up}
 use Rattle.papers.proofs.RowLoops.{left_less, left-none, one_less}
 
--- what is left of so many
-left-all : (n m : ℕ) → n ≡ m → n - 0 ≡ m
-left-all n m e = omega arith
-
 count-first : (k left : ℕ) → 0 < left → count_up k left ≡ k ∷ count_up (k + 1) (left - 1)
 unfolding count_up
 count-first k zero h = absurd (omega arith)
 count-first k (suc left) h = rw (add-one k) (ap (λ (m : ℕ). k ∷ count_up (suc k) m) (one_less left))
 
 module _ (f : ℕ → Bool) where
-  pub each_start : (n m : ℕ) → n ≡ m → every f (count_up 0 (n - 0)) ≡ every f (count_up 0 m)
-  each_start n m e = ap (λ (k : ℕ). every f (count_up 0 k)) (left-all n m e)
-
-  pub some-start : (n m : ℕ) → n ≡ m → some f (count_up 0 (n - 0)) ≡ some f (count_up 0 m)
-  some-start n m e = ap (λ (k : ℕ). some f (count_up 0 k)) (left-all n m e)
-
   module _ (n k : ℕ) (whole r : Bool) (h : k < n) (p : r ≡ f k) where
     each_first : every f (count_up k (n - k)) ≡ (r && every f (count_up (k + 1) (n - (k + 1))))
     unfolding every
@@ -47,26 +37,9 @@ module _ (f : ℕ → Bool) where
     pub each-fail : r ≡ false → every f (count_up k (n - k)) ≡ whole → false ≡ whole
     each-fail t e = ap (λ b. b && every f (count_up (k + 1) (n - (k + 1)))) (sym t) ∙ sym each_first ∙ e
 
-    some_first : some f (count_up k (n - k)) ≡ (r || some f (count_up (k + 1) (n - (k + 1))))
-    unfolding some
-    some_first =
-        ap (some f) (count-first k (n - k) (omega arith))
-        ∙ ap (λ b. b || some f (count_up (k + 1) (n - k - 1))) (sym p)
-        ∙ ap (λ (m : ℕ). r || some f (count_up (k + 1) m)) (sym (left_less n k h))
-
-    pub some-pass : r ≡ false → some f (count_up k (n - k)) ≡ whole → some f (count_up (k + 1) (n - (k + 1))) ≡ whole
-    some-pass t e = ap (λ b. b || some f (count_up (k + 1) (n - (k + 1)))) (sym t) ∙ sym some_first ∙ e
-
-    pub some-found : r ≡ true → some f (count_up k (n - k)) ≡ whole → true ≡ whole
-    some-found t e = ap (λ b. b || some f (count_up (k + 1) (n - (k + 1)))) (sym t) ∙ sym some_first ∙ e
-
   pub each_none : (n k : ℕ) (whole : Bool) → n ≤ k → every f (count_up k (n - k)) ≡ whole → true ≡ whole
   unfolding every count_up
   each_none n k whole h e = ap (λ (m : ℕ). every f (count_up k m)) (left-none n k h) ∙ e
-
-  pub some-none : (n k : ℕ) (whole : Bool) → n ≤ k → some f (count_up k (n - k)) ≡ whole → false ≡ whole
-  unfolding some count_up
-  some-none n k whole h e = ap (λ (m : ℕ). some f (count_up k m)) (left-none n k h) ∙ e
 
 -- `all` and `any` over a range answer as the tests of the numbers that are counted up, where the closure answers each as the test does
 all-counted : (f : ℕ → Bool) (k n : ℕ) → list_all f (range_with_len k n) ≡ every f (count_up k n)

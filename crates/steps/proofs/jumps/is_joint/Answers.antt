@@ -19,7 +19,7 @@ returns-then-e-eq0 c =
 some-members : (c : Then-mover_count-members) → ones c.scope_mask.result ≡ 0 → ⊥
 some-members c none =
     elim c.if-members-ne0.branch [
-      then-members-ne0 w ↦ w.if-members-ne0.true none
+      | then-members-ne0 w ↦ w.if-members-ne0.true none
       | else-members-ne0 w ↦ true≢false (sym c.if-mover_count-members.true ∙ w.value-is ∙ ap not (eq-eqb _ _ w.if-members-ne0.false))
     ]
 
@@ -41,6 +41,6 @@ returns-else-mover_count-members c =
     let lost = c.if-mover_count-members.false in
     lost
     ∙ elim c.if-members-ne0.branch [
-      then-members-ne0 w ↦ joint-many c.requires.good_index modes switches a.e mask.result c.if-e-eq0.false mask.ensures (λ same. true≢false (sym (eq-eqb _ _ (w.mover_count.ensures ∙ same)) ∙ sym w.value-is ∙ lost))
+      | then-members-ne0 w ↦ joint-many c.requires.good_index modes switches a.e mask.result c.if-e-eq0.false mask.ensures (λ same. true≢false (sym (eq-eqb _ _ (w.mover_count.ensures ∙ same)) ∙ sym w.value-is ∙ lost))
       | else-members-ne0 w ↦ sym (joint-none components modes switches a.e mask.result c.if-e-eq0.false mask.ensures w.if-members-ne0.false)
     ]

@@ -27,7 +27,7 @@ pub returns-then-jump_rows : goal.returns-then-jump_rows
 returns-then-jump_rows c =
     let a = c.args in
     elim c.if-is_joint.branch [
-      then-is_joint w ↦ rule-kept _ a.modes (stands (goal.at.returns-then-jump_rows c).Start) a.switches a.q a.e a.state.now (sym w.if-is_joint.true ∙ c.is_joint.ensures) c.staying_kept.result (sym c.if-jump_rows.true ∙ w.value-is ∙ w.jump_rows.ensures _) (c.staying_kept.ensures _)
+      | then-is_joint w ↦ rule-kept _ a.modes (stands (goal.at.returns-then-jump_rows c).Start) a.switches a.q a.e a.state.now (sym w.if-is_joint.true ∙ c.is_joint.ensures) c.staying_kept.result (sym c.if-jump_rows.true ∙ w.value-is ∙ w.jump_rows.ensures _) (c.staying_kept.ensures _)
       | else-is_joint w ↦ absurd (true≢false (sym c.if-jump_rows.true ∙ w.value-is ∙ w.if-is_joint.false))
     ]
 
@@ -37,6 +37,6 @@ returns-else-jump_rows c =
     let lost = c.if-jump_rows.false in
     lost
     ∙ elim c.if-is_joint.branch [
-      then-is_joint w ↦ rule-rows _ a.modes (stands (goal.at.returns-else-jump_rows c).Start) a.switches a.q a.e a.state.now (sym w.if-is_joint.true ∙ c.is_joint.ensures) (sym lost ∙ w.value-is ∙ w.jump_rows.ensures _)
+      | then-is_joint w ↦ rule-rows _ a.modes (stands (goal.at.returns-else-jump_rows c).Start) a.switches a.q a.e a.state.now (sym w.if-is_joint.true ∙ c.is_joint.ensures) (sym lost ∙ w.value-is ∙ w.jump_rows.ensures _)
       | else-is_joint w ↦ rule-joint _ a.modes (stands (goal.at.returns-else-jump_rows c).Start) a.switches a.q a.e a.state.now (sym w.if-is_joint.false ∙ c.is_joint.ensures)
     ]

@@ -1,11 +1,11 @@
 -- The number is below the count that an index keeps, and the switch leaves. Assumes nothing.
-use mathlib.Core.Path.{◌≡◌, sym, ap, ◌∙◌}
+use mathlib.Core.Path.{sym, ap, ◌∙◌}
 use Prim.Native.Nat.{ℕ, ◌≤◌, ◌<◌}
 use native.Mathlib.Omega.{arith}
 use borrow.Author.Tests.{le-ltb}
 use lib.ListN.{length}
 use Rattle.formats.specs.Joint.{leaves, switch_of}
-use Rattle.models.specs.Index.{entry, component_place}
+use Rattle.models.specs.Index.{component_place}
 use Rattle.models.specs.Counts.{component_at}
 use Rattle.models.proofs.GoodIndexLaws.{switch-length}
 use Rattle.steps.proofs.JumpLaws.{moves-past, moves-within}
