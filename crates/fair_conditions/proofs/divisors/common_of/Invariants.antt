@@ -4,7 +4,5 @@ use Rattle.fair_conditions.specs.Held.{CommonOf}
 use Rattle.fair_conditions.proofs.divisors.common_of.Given as goal
 
 abbrev pub invariant-loop-i : goal.invariant-loop-i
-invariant-loop-i l = (l.i ≤ l.count) × CommonOf (numbers_at l.s (l.at + 4 * l.i) (l.count - l.i)) l.divisor
+invariant-loop-i l = CommonOf (numbers_at l.s (l.at + 4 * l.i) (l.count - l.i)) l.divisor
 
-abbrev pub decreases-loop-i : goal.decreases-loop-i
-decreases-loop-i l = l.i
