@@ -1,15 +1,15 @@
 -- Each turn takes the row before those that are gathered. Assumes nothing.
-use mathlib.Core.Path.{◌≡◌, sym, subst₂}
+use mathlib.Core.Path.{◌≡◌, subst₂}
 use mathlib.Core.List.{List, ◌∷◌}
 use Prim.Native.Nat.{ℕ, ◌+◌, ◌*◌, ◌-◌, ◌≤◌, ◌<◌}
-use lib.ListN.{length, take}
+use lib.ListN.{length}
 use Rattle.farkas.specs.Rows.{Row}
 use Rattle.farkas.specs.Words.{row_in}
 use Rattle.formats.specs.Versions.{row_bytes}
 use Rattle.formats.proofs.Versions.{numbers-within}
 use Rattle.fair_rows.specs.FairRows.{fair_rows}
-use Rattle.fair_conditions.specs.Held.{Among, rows_by}
-use Rattle.fair_conditions.proofs.GatherLaws.{gather-starts, gather-goes-on, gather-ends, among-all}
+use Rattle.fair_conditions.specs.Held.{rows_by}
+use Rattle.fair_conditions.proofs.GatherLaws.{gather-starts, gather-goes-on}
 use native.Mathlib.Omega.{arith}
 use Rattle.fair_conditions.proofs.conditions.gather.Goals.{In-loop-j}
 use Rattle.fair_conditions.proofs.conditions.gather.Goals as goal

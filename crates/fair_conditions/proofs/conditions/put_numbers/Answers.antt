@@ -1,6 +1,6 @@
 -- Number by number, what is left is written after what is there. Assumes nothing.
-use Rattle.buffers.proofs.WritingLaws.{written-length, as-word}
-use Rattle.fair_conditions.proofs.PutLaws.{numbers-start, numbers-go-on, numbers-end}
+use Rattle.buffers.proofs.WritingLaws.{as-word}
+use Rattle.fair_conditions.proofs.PutLaws.{numbers-go-on, numbers-end}
 use native.Mathlib.Omega.{arith}
 use Rattle.fair_conditions.proofs.conditions.put_numbers.Goals as goal
 

@@ -1,9 +1,8 @@
 -- Row by row, what is left is written after what is there. Assumes nothing.
 use Prim.Native.Nat.{◌<◌}
 use lib.ListN.{get_or}
-use Rattle.buffers.proofs.WritingLaws.{written-length}
 use Rattle.fair_conditions.proofs.SortLaws.{among-at}
-use Rattle.fair_conditions.proofs.PutLaws.{rows_start, rows-go-on, rows_end}
+use Rattle.fair_conditions.proofs.PutLaws.{rows-go-on, rows_end}
 use native.Mathlib.Omega.{arith}
 use Rattle.fair_conditions.proofs.conditions.put_rows.Goals.{After-row_base}
 use Rattle.fair_conditions.proofs.conditions.put_rows.Goals as goal

@@ -5,7 +5,7 @@ use Prim.Native.Nat.{ℕ, ◌+◌, ◌*◌, ◌-◌}
 use lib.IntN.{ℤ, nat_abs}
 use Rattle.farkas.specs.Words.{signed, signed_at}
 use Rattle.fair_conditions.specs.Held.{Common, CommonOf}
-use Rattle.fair_conditions.proofs.CommonLaws.{common-none, common-turn, numbers-none, numbers-all}
+use Rattle.fair_conditions.proofs.CommonLaws.{common-none, common-turn, numbers-none}
 use native.Mathlib.Omega.{arith}
 use Rattle.fair_conditions.proofs.divisors.common_of.Goals as goal
 

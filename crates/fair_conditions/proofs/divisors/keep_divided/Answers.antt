@@ -3,7 +3,7 @@ use mathlib.Core.Path.{ap, ◌∙◌}
 use Prim.Native.Nat.{ℕ, ◌-◌}
 use Rattle.farkas.specs.Words.{signed, signed_at}
 use Rattle.fair_rows.specs.FairRows.{quotient}
-use Rattle.fair_conditions.proofs.KeptLaws.{kept-starts, kept-goes-on, kept-ends}
+use Rattle.fair_conditions.proofs.KeptLaws.{kept-starts, kept-goes-on}
 use native.Mathlib.Omega.{arith}
 use Rattle.fair_conditions.proofs.divisors.keep_divided.Goals as goal
 

@@ -7,7 +7,7 @@ use borrow.Author.Rules.{rules}
 use lib.ListN.{length, set}
 use Rattle.models.specs.Index.{entry}
 use Rattle.models.proofs.GoodIndexLaws.{switch-length}
-use Rattle.steps.proofs.JumpLaws.{landed_none, landed-more, landed-all}
+use Rattle.steps.proofs.JumpLaws.{landed-more, landed-all}
 use Rattle.steps.proofs.jumps.modes_by.Goals.{In-loop-k, Start}
 use Rattle.steps.proofs.jumps.modes_by.Goals as goal
 
@@ -30,10 +30,6 @@ below c = omega (arith, c.loop-k-test.true, c.number_at-components.ensures)
 
 few : (c : In-loop-k) → c.loop-k.k < 4
 few c = omega (arith, below c, c.requires.0.few)
-
-pub loop-k-init : goal.loop-k-init
-loop-k-init c =
-    landed_none c.args.model.now c.args.index.now c.args.modes c.args.switches (long (goal.at.loop-k-init c).Start) (wide (goal.at.loop-k-init c).Start)
 
 pub mode_after-requires : goal.mode_after-requires
 mode_after-requires c =
