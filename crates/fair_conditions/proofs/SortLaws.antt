@@ -16,7 +16,13 @@ use lib.Signed.{lt_z}
 use Rattle.farkas.specs.Lists.{All, none, more}
 use Rattle.farkas.specs.Rows.{Row}
 use Rattle.formats.proofs.Members.{all-below}
-use Rattle.farkas.proofs.Order.{compare}
+use Rattle.farkas.proofs.Order.{compare, by_order}
+use Rattle.std.specs.declared.cmp.Ordering.{Ordering}
+use Rattle.std.specs.declared.cmp.Ordering.TheVariants.{Less, Equal, Greater}
+use Rattle.std.specs.Ordering.{nat_cmp, ordering_then, MatchOrdering}
+use Rattle.std.specs.Cmp.{nat_cmp_is}
+use Rattle.std.specs.Cmp.Lexicographic.{slice_cmp}
+use Rattle.std.specs.Prelude.{Option, Some, None}
 use Rattle.fair_rows.specs.FairRows.{Order, lower, same, higher, order_of, first_of, order, keys_of, mark_of, placed, insert}
 use Rattle.fair_rows.proofs.OrderLaws.{Ascending, rise, insert-first}
 use Rattle.fair_conditions.specs.Held.{lowered, kept_numbers, kept_row, standing, carried_on, left_behind, slip_by, slip, Among}
@@ -71,36 +77,33 @@ left-numbers kept p i count h =
     onward : (p i : ℕ) → p + i + 1 ≡ p + (i + 1)
     onward p i = omega arith
 
-module _ (kept : List ℕ) (a b count : ℕ) where
-  abbrev pub order_left : ℕ → Order
-  order_left i = order (kept_numbers kept (a + i) (count - i)) (kept_numbers kept (b + i) (count - i))
+-- so many kept numbers are those of a part, lowered
+kept-part : (kept : List ℕ) (p n : ℕ) → p + n ≤ length kept → map lowered (take n (drop p kept)) ≡ kept_numbers kept p n
+unfolding kept_numbers
+kept-part kept p zero h = refl
+kept-part kept p (suc n) h =
+    ap (λ xs. map lowered (take (suc n) xs)) (drop-cons kept p 0 (omega arith))
+    ∙ ap (λ (q : ℕ). lowered (get_or kept p 0) ∷ map lowered (take n (drop q kept))) (sym (add-one p))
+    ∙ ap (λ xs. lowered (get_or kept p 0) ∷ xs) (kept-part kept (p + 1) n (omega arith))
 
-  pub order-starts : order_left 0 ≡ order (kept_numbers kept a count) (kept_numbers kept b count)
-  order-starts =
-      ap₂ (λ (x y : ℕ). order (kept_numbers kept x (count - 0)) (kept_numbers kept y (count - 0))) (add-zero a) (add-zero b)
-      ∙ ap (λ (k : ℕ). order (kept_numbers kept a k) (kept_numbers kept b k)) (all count)
-    where
-      all : (n : ℕ) → n - 0 ≡ n
-      all n = omega arith
+-- numbers compare as the lowered ones do
+parts-order : (xs ys : List ℕ) → slice_cmp nat_cmp xs ys ≡ standing (order (map lowered xs) (map lowered ys))
+unfolding standing order
+parts-order [] [] = refl
+parts-order [] (y ∷ ys) = refl
+parts-order (x ∷ xs) [] = refl
+parts-order (x ∷ xs) (y ∷ ys) =
+    by_order x y (slice_cmp nat_cmp (x ∷ xs) (y ∷ ys) ≡ standing (order (lowered x ∷ map lowered xs) (lowered y ∷ map lowered ys)))
+    (λ h. first-is Less h ∙ ap standing (sym (first-lower x y _ _ h)))
+    (λ e. first-is Equal e ∙ parts-order xs ys ∙ ap standing (sym (first-same x y (map lowered xs) (map lowered ys) (omega (arith, e)) (omega (arith, e)))))
+    (λ h. first-is Greater h ∙ ap standing (sym (first-higher x y _ _ h)))
+  where
+    first-is : (o : Ordering) → MatchOrdering o (x < y) (x ≡ y) (y < x) → slice_cmp nat_cmp (x ∷ xs) (y ∷ ys) ≡ ordering_then o (slice_cmp nat_cmp xs ys)
+    first-is o h = ap (λ p. ordering_then p (slice_cmp nat_cmp xs ys)) (sym (nat_cmp_is x y o h))
 
-  order-next : (i : ℕ) → i < count → order_left i ≡ order (lowered (get_or kept (a + i) 0) ∷ kept_numbers kept (a + (i + 1)) (count - (i + 1))) (lowered (get_or kept (b + i) 0) ∷ kept_numbers kept (b + (i + 1)) (count - (i + 1)))
-  order-next i h = ap₂ order (left-numbers kept a i count h) (left-numbers kept b i count h)
-
-  pub order-lower : (i : ℕ) → i < count → get_or kept (a + i) 0 < get_or kept (b + i) 0 → order_left i ≡ lower
-  order-lower i h l = order-next i h ∙ first-lower (get_or kept (a + i) 0) (get_or kept (b + i) 0) _ _ l
-
-  pub order-higher : (i : ℕ) → i < count → get_or kept (b + i) 0 < get_or kept (a + i) 0 → order_left i ≡ higher
-  order-higher i h l = order-next i h ∙ first-higher (get_or kept (a + i) 0) (get_or kept (b + i) 0) _ _ l
-
-  pub order-goes-on : (i : ℕ) → i < count → get_or kept (b + i) 0 ≤ get_or kept (a + i) 0 → get_or kept (a + i) 0 ≤ get_or kept (b + i) 0 → order_left i ≡ order_left (i + 1)
-  order-goes-on i h l u = order-next i h ∙ first-same (get_or kept (a + i) 0) (get_or kept (b + i) 0) _ _ l u
-
-  pub order-ends : (i : ℕ) → count ≤ i → order_left i ≡ same
-  unfolding kept_numbers order
-  order-ends i h = ap (λ (k : ℕ). order (kept_numbers kept (a + i) k) (kept_numbers kept (b + i) k)) (nothing count i h)
-    where
-      nothing : (count i : ℕ) → count ≤ i → count - i ≡ 0
-      nothing count i h = omega arith
+pub compared : (kept : List ℕ) (a b count : ℕ) → a + count ≤ length kept → b + count ≤ length kept → slice_cmp nat_cmp (take count (drop a kept)) (take count (drop b kept)) ≡ standing (order (kept_numbers kept a count) (kept_numbers kept b count))
+compared kept a b count h l =
+    parts-order (take count (drop a kept)) (take count (drop b kept)) ∙ ap standing (ap₂ order (kept-part kept a count h) (kept-part kept b count l))
 
 -- rows that are not strict stand to each other as their numbers do
 same-lengths : (kept : List ℕ) (p q n : ℕ) → length (kept_numbers kept p n) ≡ length (kept_numbers kept q n)
@@ -173,6 +176,13 @@ slip-all f k h none = more h none
 slip-all f k h (more {a = j} {xs = js} i a) =
     slip-by-all (order (keys_of (f k)) (keys_of (f j))) k j js (slip f j js) (slip f k js) h i a (slip-all f j i a) (slip-all f k h a)
 
+-- nothing is not something, and what is something is one thing
+some-or-none : {n : ℕ} → ◌≡◌ {A = Option ℕ} (Some n) None → ⊥
+some-or-none e = let z : ◌≡◌ {A = ℕ} 0 1 = cc in absurd (omega arith)
+
+same-some : {n m : ℕ} → ◌≡◌ {A = Option ℕ} (Some n) (Some m) → n ≡ m
+same-some e = cc
+
 -- A turn of the loop. What has gone through so far, then what the carried row makes of the others, is the whole
 abbrev pub Through : (ℕ → Row) → List ℕ → List ℕ → ℕ → ℕ → ℕ → Type 0
 Through f whole sorted count i carried = take i sorted ++ slip f carried (drop i (take count sorted)) ≡ whole
@@ -210,35 +220,35 @@ module _ (f : ℕ → Row) (whole : List ℕ) (sorted : List ℕ) (count i k : �
       ∙ t
 
   -- they are the same: the order is as it was
-  stopped_by : (o : Order) → k < 8 → met < 8 → carried_on o k met ≡ 255 → take i sorted ++ slip_by o k met rest (slip f met rest) (slip f k rest) ≡ whole → take count (set sorted i (left_behind o k met)) ≡ whole
+  stopped_by : (o : Order) → carried_on o k met ≡ None → take i sorted ++ slip_by o k met rest (slip f met rest) (slip f k rest) ≡ whole → take count (set sorted i (left_behind o k met)) ≡ whole
   unfolding carried_on left_behind slip_by
-  stopped_by lower h l e t = absurd (omega (arith, e))
-  stopped_by higher h l e t = absurd (omega (arith, e))
-  stopped_by same h l e t =
+  stopped_by lower e t = absurd (some-or-none e)
+  stopped_by higher e t = absurd (some-or-none e)
+  stopped_by same e t =
       ap (take count) (set-get_or sorted i 0)
       ∙ sym (take-append-drop i (take count sorted))
       ∙ ap₂ (λ (a b : List ℕ). a ++ b) (take-take i count sorted (omega arith)) first-left
       ∙ t
 
-  pub through-stops : (o : Order) → order (keys_of (f k)) (keys_of (f met)) ≡ o → k < 8 → met < 8 → carried_on o k met ≡ 255 → Through f whole sorted count i k → take count (set sorted i (left_behind o k met)) ≡ whole
-  through-stops o q h l e t = stopped_by o h l e (meeting t o q)
+  pub through-stops : (o : Order) → order (keys_of (f k)) (keys_of (f met)) ≡ o → carried_on o k met ≡ None → Through f whole sorted count i k → take count (set sorted i (left_behind o k met)) ≡ whole
+  through-stops o q e t = stopped_by o e (meeting t o q)
 
   -- one of them goes on
-  goes_by : (o : Order) → (carried_on o k met ≡ 255 → ⊥) → take i sorted ++ slip_by o k met rest (slip f met rest) (slip f k rest) ≡ whole → Through f whole (set sorted i (left_behind o k met)) count (i + 1) (carried_on o k met)
+  goes_by : (o : Order) (next : ℕ) → carried_on o k met ≡ Some next → take i sorted ++ slip_by o k met rest (slip f met rest) (slip f k rest) ≡ whole → Through f whole (set sorted i (left_behind o k met)) count (i + 1) next
   unfolding carried_on left_behind slip_by
-  goes_by lower e t = on k met t
-  goes_by same e t = absurd (e refl)
-  goes_by higher e t = on met k t
+  goes_by lower next e t = subst (Through f whole (set sorted i k) count (i + 1)) (same-some e) (on k met t)
+  goes_by same next e t = absurd (some-or-none (sym e))
+  goes_by higher next e t = subst (Through f whole (set sorted i met) count (i + 1)) (same-some e) (on met k t)
 
-  pub through-goes-on : (o : Order) → order (keys_of (f k)) (keys_of (f met)) ≡ o → (carried_on o k met ≡ 255 → ⊥) → Through f whole sorted count i k → Through f whole (set sorted i (left_behind o k met)) count (i + 1) (carried_on o k met)
-  through-goes-on o q e t = goes_by o e (meeting t o q)
+  pub through-goes-on : (o : Order) (next : ℕ) → order (keys_of (f k)) (keys_of (f met)) ≡ o → carried_on o k met ≡ Some next → Through f whole sorted count i k → Through f whole (set sorted i (left_behind o k met)) count (i + 1) next
+  through-goes-on o next q e t = goes_by o next e (meeting t o q)
 
--- what is carried is a row number, or none
-pub carried-small : (o : Order) (k j : ℕ) → k < 8 → j < 8 → (carried_on o k j ≡ 255 → ⊥) → carried_on o k j < 8
+-- what is carried is a row number
+pub carried-small : (o : Order) (k j next : ℕ) → k < 8 → j < 8 → carried_on o k j ≡ Some next → next < 8
 unfolding carried_on
-carried-small lower k j h l e = l
-carried-small same k j h l e = absurd (e refl)
-carried-small higher k j h l e = h
+carried-small lower k j next h l e = omega (arith, same-some e, l)
+carried-small same k j next h l e = absurd (some-or-none (sym e))
+carried-small higher k j next h l e = omega (arith, same-some e, h)
 
 -- at the end the carried row comes after all others
 pub through-ends : (f : ℕ → Row) (whole sorted : List ℕ) (count i k : ℕ) → count < length sorted → count ≤ i → i ≤ count → Through f whole sorted count i k → take (count + 1) (set sorted count k) ≡ whole
@@ -255,12 +265,24 @@ through-ends f whole sorted count i k long h l t =
 pub through-starts : (f : ℕ → Row) (sorted : List ℕ) (count k : ℕ) → Through f (slip f k (take count sorted)) sorted count 0 k
 through-starts f sorted count k = refl
 
--- how the rows stand, by its number
-pub stands-as : (o : Order) (n : ℕ) → n ≡ standing o → ((n ≡ 2) → o ≡ higher) × (((n ≡ 1) → o ≡ same) × ((n ≡ 2 → ⊥) → (n ≡ 1 → ⊥) → o ≡ lower))
+-- how the rows stand, by what the library says
+pub stands-lower : (o : Order) → Less ≡ standing o → o ≡ lower
 unfolding standing
-stands-as lower n e = (λ h. absurd (omega (arith, e, h)), (λ h. absurd (omega (arith, e, h)), λ h k. refl))
-stands-as same n e = (λ h. absurd (omega (arith, e, h)), (λ h. refl, λ h k. absurd (k e)))
-stands-as higher n e = (λ h. refl, (λ h. absurd (omega (arith, e, h)), λ h k. absurd (h e)))
+stands-lower lower e = refl
+stands-lower same e = cc
+stands-lower higher e = cc
+
+pub stands-same : (o : Order) → Equal ≡ standing o → o ≡ same
+unfolding standing
+stands-same lower e = cc
+stands-same same e = refl
+stands-same higher e = cc
+
+pub stands-higher : (o : Order) → Greater ≡ standing o → o ≡ higher
+unfolding standing
+stands-higher lower e = cc
+stands-higher same e = cc
+stands-higher higher e = refl
 
 -- the row numbers of an order, each by its place
 pub among-at : {least : ℕ} (count : ℕ) (sorted : List ℕ) → Among least (take count sorted) → count ≤ length sorted → (j : ℕ) → j < count → get_or sorted j 0 < 8

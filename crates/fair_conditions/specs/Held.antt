@@ -1,6 +1,8 @@
 -- What the code keeps of a condition's rows: numbers raised by 2^31, row k from place 17·k on, and the order of the rows as a list of their
 -- numbers. Assumes nothing.
-use Rattle.std.specs.Prelude.{false, cond, List, [], ◌∷◌, map, ◌↔◌, ◌≡◌, ℕ, zero, suc, ◌+◌, ◌*◌, ◌-◌, ◌%◌, ◌^◌, ◌≤◌, ◌<◌, T, ltb, eqb, ℤ, pos, negsuc, length, get_or, take}
+use Rattle.std.specs.Prelude.{false, cond, List, [], ◌∷◌, map, ◌↔◌, ◌≡◌, ℕ, zero, suc, ◌+◌, ◌*◌, ◌-◌, ◌%◌, ◌^◌, ◌≤◌, ◌<◌, T, ltb, eqb, ℤ, pos, negsuc, length, get_or, take, Option, Some, None}
+use Rattle.std.specs.declared.cmp.Ordering.{Ordering}
+use Rattle.std.specs.declared.cmp.Ordering.TheVariants.{Less, Equal, Greater}
 use Rattle.farkas.specs.Lists.{All}
 use Rattle.farkas.specs.Rows.{Row}
 use Rattle.formats.specs.Rows.{Condition}
@@ -43,17 +45,17 @@ pub record KeptOutside (base count : ℕ) (before after : List ℕ) : Type 0 whe
 unfoldable pub kept_row : List ℕ → ℕ → ℕ → Row
 kept_row kept n k = record { coefficients = kept_numbers kept (17 * k) n; bound = lowered (get_or kept (17 * k + n) 0); strict = false }
 
--- how two rows stand to each other, as a number
-unfoldable pub standing : Order → ℕ
-standing lower = 0
-standing same = 1
-standing higher = 2
+-- how two rows stand to each other, as the library says it
+unfoldable pub standing : Order → Ordering
+standing lower = Less
+standing same = Equal
+standing higher = Greater
 
--- row k meets row j of the order: what is carried on, none as 255, and what stays
-unfoldable pub carried_on : Order → ℕ → ℕ → ℕ
-carried_on lower k j = j
-carried_on same k j = 255
-carried_on higher k j = k
+-- row k meets row j of the order: what is carried on, and what stays
+unfoldable pub carried_on : Order → ℕ → ℕ → Option ℕ
+carried_on lower k j = Some j
+carried_on same k j = None
+carried_on higher k j = Some k
 
 unfoldable pub left_behind : Order → ℕ → ℕ → ℕ
 left_behind lower k j = k

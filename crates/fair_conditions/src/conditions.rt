@@ -66,10 +66,8 @@ fn gather(
 {
     let size = row_bytes(version, n);
     let mut count: usize = 0;
-    let mut j = rows;
-    while 0 < j {
-        j -= 1;
-        count = take_row(s, place + size * j as usize, n, kept, sorted, count, j);
+    for j in (0..rows).rev() {
+        count = take_row(s, place + size * usize::from(j), n, kept, sorted, count, j);
     }
     count
 }
@@ -81,10 +79,8 @@ fn put_numbers(out: &mut [u8], at: usize, kept: &[u32], base: usize, count: usiz
     ensures value { result ≡ at + 4 * count }
 {
     let mut next = at;
-    let mut i: usize = 0;
-    while i < count {
+    for i in 0..count {
         next = put_word(out, next, coded(kept[base + i]));
-        i += 1;
     }
     next
 }
@@ -105,10 +101,8 @@ fn put_rows(
     ensures upper_bound { result ≤ at + 68 * count }
 {
     let mut next = at;
-    let mut i: usize = 0;
-    while i < count {
+    for i in 0..count {
         next = put_numbers(out, next, kept, row_base(sorted[i]), n + 1);
-        i += 1;
     }
     next
 }

@@ -64,9 +64,7 @@ fn common_of(s: &[u8], at: usize, count: usize) -> u32
     ensures { CommonOf (numbers_at s.now at count) result }
 {
     let mut divisor: u32 = 0;
-    let mut i = count;
-    while 0 < i {
-        i -= 1;
+    for i in (0..count).rev() {
         divisor = common(divisor, magnitude(number(s, at + 4 * i)));
     }
     divisor
@@ -102,9 +100,7 @@ pub(crate) fn keep_divided(
     ensures count_after { kept_numbers kept.new base count ≡ map (quotient divisor) (numbers_at s.now at count) }
     ensures kept_outside { KeptOutside base count kept.old kept.new }
 {
-    let mut i = count;
-    while 0 < i {
-        i -= 1;
+    for i in (0..count).rev() {
         kept[base + i] = raised_quotient(number(s, at + 4 * i), divisor);
     }
 }

@@ -4,64 +4,43 @@ ghost use Rattle.std.specs.Prelude.{◌≡◌, ◌+◌, ◌*◌, ◌≤◌, ◌<
 ghost use Rattle.fair_rows.specs.FairRows.{order};
 ghost use Rattle.fair_conditions.specs.Held.{kept_numbers, standing, kept_row, carried_on, left_behind, slip, Among};
 
+use std::cmp::Ordering;
+
 // The most numbers that a row has.
 const ROW_LENGTH: usize = 17;
 
-// How rows stand to each other: lower, the same, higher.
-const LOWER: u8 = 0;
-
-const SAME: u8 = 1;
-
-const HIGHER: u8 = 2;
-
-// No row: what is carried on once a row is found to be there.
-const NONE: u8 = 255;
-
 // How so many kept numbers stand to as many others: the first that differ decide.
-fn compare(kept: &[u32], a: usize, b: usize, count: usize) -> u8
+fn compare(kept: &[u32], a: usize, b: usize, count: usize) -> Ordering
     requires { (a + count ≤ length kept.now) × (b + count ≤ length kept.now) }
     ensures { result ≡ standing (order (kept_numbers kept.now a count) (kept_numbers kept.now b count)) }
 {
-    let mut i: usize = 0;
-    while i < count {
-        let x = kept[a + i];
-        let y = kept[b + i];
-        if x < y {
-            return LOWER;
-        }
-        if y < x {
-            return HIGHER;
-        }
-        i += 1;
-    }
-    SAME
+    kept[a..a + count].cmp(&kept[b..b + count])
 }
 
 // Where row k stands.
 pub(crate) fn row_base(k: u8) -> usize
     ensures { result ≡ 17 * k }
 {
-    ROW_LENGTH * k as usize
+    ROW_LENGTH * usize::from(k)
 }
 
 // A row that is carried meets the one at a place of the order: the lower of them stays there, the other is carried on. None is carried on
 // where they are the same.
-fn meet(kept: &[u32], sorted: &mut [u8], i: usize, carried: u8, count: usize) -> u8
+fn meet(kept: &[u32], sorted: &mut [u8], i: usize, carried: u8, count: usize) -> Option<u8>
     requires in_bounds { (136 ≤ length kept.now) × (count ≤ 17) }
     requires i_in_bounds { (i < length sorted.old) × ((carried < 8) × (get_or sorted.old i 0 < 8)) }
     ensures value { result ≡ carried_on (order (kept_numbers kept.now (17 * carried) count) (kept_numbers kept.now (17 * get_or sorted.old i 0) count)) carried (get_or sorted.old i 0) }
     ensures sorted_after { sorted.new ≡ set sorted.old i (left_behind (order (kept_numbers kept.now (17 * carried) count) (kept_numbers kept.now (17 * get_or sorted.old i 0) count)) carried (get_or sorted.old i 0)) }
 {
     let met = sorted[i];
-    let stands = compare(kept, row_base(carried), row_base(met), count);
-    if stands == HIGHER {
-        return carried;
+    match compare(kept, row_base(carried), row_base(met), count) {
+        Ordering::Less => {
+            sorted[i] = carried;
+            Some(met)
+        }
+        Ordering::Equal => None,
+        Ordering::Greater => Some(carried),
     }
-    if stands == SAME {
-        return NONE;
-    }
-    sorted[i] = carried;
-    met
 }
 
 // Row k, with n coefficients, takes its place among the first rows of the order. How many there are then.
@@ -72,13 +51,11 @@ pub(crate) fn insert(kept: &[u32], sorted: &mut [u8], count: usize, k: u8, n: us
     ensures upper_bound { result ≤ count + 1 }
 {
     let mut carried = k;
-    let mut i: usize = 0;
-    while i < count {
-        carried = meet(kept, sorted, i, carried, n + 1);
-        if carried == NONE {
+    for i in 0..count {
+        let Some(next) = meet(kept, sorted, i, carried, n + 1) else {
             return count;
-        }
-        i += 1;
+        };
+        carried = next;
     }
     sorted[count] = carried;
     count + 1

@@ -17,7 +17,7 @@ use Rattle.second_sheets.specs.declared.Step as coded
 use Rattle.second_sheets.specs.declared.Step.TheVariants as step
 use Rattle.formats.specs.Model.{Component, Model, has_event, Switch}
 use Rattle.formats.specs.Locations.{modes_at, location_of}
-use Rattle.formats.specs.Joint.{stays, switch_of, leaves, moves, scope_mask, mover_count, part_in, members_move, all_stay, one_moves, is_joint, modes_after, bit}
+use Rattle.formats.specs.Joint.{stays, switch_of, leaves, moves, scope_mask, mover_count, part_in, members_move, all_stay, one_moves, is_joint, modes_after}
 use Rattle.models.specs.Index.{entry, components_from, model_from, GoodIndex}
 use Rattle.models.specs.Counts.{component_at, per_component, KnownSwitches}
 use Rattle.formats.specs.RunSheet.{Step}
@@ -33,7 +33,11 @@ use Rattle.papers.proofs.StandingLaws.{have-modes, stands_at_lem}
 use Rattle.steps.proofs.StandLaws.{numbers-end, known-all, modes-all, stands-in}
 use Rattle.rules.proofs.ListFacts.{first-fails, first_passes}
 use Rattle.rules.proofs.Movers.{moved-together}
-use Rattle.farkas.specs.Lists.{All, none, more}
+use Rattle.farkas.specs.Lists.{every, All, none, more}
+use Rattle.std.specs.List.{count_by}
+use Rattle.std.proofs.lemmas.List.Sums.{sum_by-cons}
+use Rattle.formats.specs.Joint.{count_up}
+use Rattle.steps.proofs.ValueLoops.{each-step}
 use Rattle.formats.proofs.WellFormed.{GoodComponent}
 
 -- a component's part
@@ -68,38 +72,25 @@ module _ (s index switches : List ℕ) (wide : entry index 1 ≤ length switches
   unfolding all_stay
   stay-next k h = rw (components-drop s index k h, per-component-drop index switches wide k h) refl
 
-  pub stay-goes-on : (whole : Bool) (k : ℕ) → k < entry index 1 → get_or switches k 0 ≡ stays → stay_on s index switches k ≡ whole → stay_on s index switches (k + 1) ≡ whole
-  stay-goes-on whole k h p w =
-      sym (stay-next k h ∙ ap (λ b. b && stay_on s index switches (k + 1)) (eq-eqb (get_or switches k 0) stays p)) ∙ w
-
-  pub stay-stops : (whole : Bool) (k : ℕ) → k < entry index 1 → (get_or switches k 0 ≡ stays → ⊥) → stay_on s index switches k ≡ whole → false ≡ whole
-  stay-stops whole k h p w =
-      sym (stay-next k h ∙ ap (λ b. b && stay_on s index switches (k + 1)) (ne_eqb (get_or switches k 0) stays p)) ∙ w
-
-  pub stay-ends : (whole : Bool) (k : ℕ) → k ≡ entry index 1 → stay_on s index switches k ≡ whole → true ≡ whole
+  stay-last : stay_on s index switches (entry index 1) ≡ true
   unfolding all_stay
-  stay-ends whole k h w =
-      let last : stay_on s index switches (entry index 1) ≡ true = rw (components-end s index, numbers-end index switches wide) refl in
-      sym (ap (λ (i : ℕ). stay_on s index switches i) h ∙ last) ∙ w
+  stay-last = rw (components-end s index, numbers-end index switches wide) refl
+
+  pub stay-each : (k left : ℕ) → k + left ≡ entry index 1 → every (λ i. eqb (get_or switches i 0) stays) (count_up k left) ≡ stay_on s index switches k
+  stay-each = each-step (λ i. eqb (get_or switches i 0) stays) (λ i. stay_on s index switches i) (entry index 1) stay-last stay-next
 
   module _ (modes : List ℕ) (long : entry index 1 ≤ length modes) where
     part-next : (e k : ℕ) → k < entry index 1 → members_on s index modes e switches k ≡ (part_in (component_at s index k) (get_or modes k 0) e (get_or switches k 0) && members_on s index modes e switches (k + 1))
     unfolding members_move
     part-next e k h = rw (components-drop s index k h, per-component-drop index modes long k h, per-component-drop index switches wide k h) refl
 
-    pub members-go-on : (whole : Bool) (e k : ℕ) → k < entry index 1 → true ≡ part_in (component_at s index k) (get_or modes k 0) e (get_or switches k 0) → members_on s index modes e switches k ≡ whole → members_on s index modes e switches (k + 1) ≡ whole
-    members-go-on whole e k h p w =
-        sym (part-next e k h ∙ ap (λ b. b && members_on s index modes e switches (k + 1)) (sym p)) ∙ w
-
-    pub members-stop : (whole : Bool) (e k : ℕ) → k < entry index 1 → false ≡ part_in (component_at s index k) (get_or modes k 0) e (get_or switches k 0) → members_on s index modes e switches k ≡ whole → false ≡ whole
-    members-stop whole e k h p w =
-        sym (part-next e k h ∙ ap (λ b. b && members_on s index modes e switches (k + 1)) (sym p)) ∙ w
-
-    pub members-end : (whole : Bool) (e k : ℕ) → k ≡ entry index 1 → members_on s index modes e switches k ≡ whole → true ≡ whole
+    part-last : (e : ℕ) → members_on s index modes e switches (entry index 1) ≡ true
     unfolding members_move
-    members-end whole e k h w =
-        let last : members_on s index modes e switches (entry index 1) ≡ true = rw (components-end s index, numbers-end index modes long, numbers-end index switches wide) refl in
-        sym (ap (λ (i : ℕ). members_on s index modes e switches i) h ∙ last) ∙ w
+    part-last e = rw (components-end s index, numbers-end index modes long, numbers-end index switches wide) refl
+
+    pub members-each : (e : ℕ) → every (λ i. part_in (component_at s index i) (get_or modes i 0) e (get_or switches i 0)) (count_up 0 (entry index 1)) ≡ members_on s index modes e switches 0
+    members-each e =
+        each-step (λ i. part_in (component_at s index i) (get_or modes i 0) e (get_or switches i 0)) (λ i. members_on s index modes e switches i) (entry index 1) (part-last e) (part-next e) 0 (entry index 1) (omega arith)
 
     one-next : (k : ℕ) → k < entry index 1 → one_on s index modes switches k ≡ cond (eqb (get_or switches k 0) stays) (one_on s index modes switches (k + 1)) (moves (component_at s index k) (get_or modes k 0) 0 (get_or switches k 0) && stay_on s index switches (k + 1))
     unfolding one_moves
@@ -165,29 +156,21 @@ joint-many {model} {index} g modes switches (suc e) mask h p f =
     is-not (is_joint (components_from model index) modes (suc e) switches)
     (λ q. f (moved-together e (components_from model index) modes switches (few-switches (good-components g)) (subst T (sym q) tt) ∙ ap ones (sym p)))
 
--- the components that move, from one on
-abbrev pub movers_on : List ℕ → List ℕ → List ℕ → ℕ → List Switch
-movers_on s index switches k = movers (components_on s index k) (numbers_on index switches k)
+-- the components that move are those whose number is not the one of staying
+movers-counted : (components : List Component) (numbers : List ℕ) → length components ≡ length numbers → count_by (λ i. not (eqb i stays)) numbers ≡ length (movers components numbers)
+unfolding movers
+movers-counted [] [] e = refl
+movers-counted [] (i ∷ rest) e = absurd (omega arith)
+movers-counted (c ∷ components) [] e = absurd (omega arith)
+movers-counted (c ∷ components) (i ∷ rest) e = sum_by-cons (λ j. cond (not (eqb j stays)) 1 0) i rest ∙ go (eqb i stays) (movers-counted components rest (omega arith))
+  where
+    go : (b : Bool) → count_by (λ j. not (eqb j stays)) rest ≡ length (movers components rest) → cond (not b) 1 0 + count_by (λ j. not (eqb j stays)) rest ≡ length {A = Switch} (elim b as (λ _. List Switch) [ true ↦ movers components rest | false ↦ switch_of c i ∷ movers components rest ])
+    go true later = omega (arith, later)
+    go false later = omega (arith, later)
 
-module _ (s index switches : List ℕ) (wide : entry index 1 ≤ length switches) where
-  mover-more : (c : Component) (components : List Component) (i : ℕ) (rest : List ℕ) (a : Bool) → not (eqb i stays) ≡ a → length (movers (c ∷ components) (i ∷ rest)) ≡ bit a + length (movers components rest)
-  unfolding movers bit
-  mover-more c components i rest a e = go (eqb i stays) a e
-    where
-      go : (b a : Bool) → not b ≡ a → length {A = Switch} (elim b as (λ _. List Switch) [ true ↦ movers components rest | false ↦ switch_of c i ∷ movers components rest ]) ≡ bit a + length (movers components rest)
-      go true true e = let z : ◌≡◌ {A = ℕ} 0 1 = cc in absurd (omega arith)
-      go true false e = omega arith
-      go false true e = omega arith
-      go false false e = let z : ◌≡◌ {A = ℕ} 0 1 = cc in absurd (omega arith)
-
-  pub movers-turn : (k : ℕ) (a : Bool) → k < entry index 1 → not (eqb (get_or switches k 0) stays) ≡ a → length (movers_on s index switches k) ≡ bit a + length (movers_on s index switches (k + 1))
-  movers-turn k a h e =
-      ap₂ (λ components numbers. length (movers components numbers)) (components-drop s index k h) (per-component-drop index switches wide k h)
-      ∙ mover-more (component_at s index k) (components_on s index (k + 1)) (get_or switches k 0) (numbers_on index switches (k + 1)) a e
-
-  pub movers-end : (k : ℕ) → k ≡ entry index 1 → length (movers_on s index switches k) ≡ 0
-  unfolding movers
-  movers-end k h = ap (λ (components : List Component). length (movers components (numbers_on index switches k))) (ap (λ (i : ℕ). components_on s index i) h ∙ components-end s index)
+pub movers-told : (s index switches : List ℕ) → entry index 1 ≤ length switches → count_by (λ i. not (eqb i stays)) (per_component index switches) ≡ length (movers (components_from s index) (per_component index switches))
+movers-told s index switches wide =
+    movers-counted (components_from s index) (per_component index switches) (components-length s index ∙ sym (per-component-length index switches wide))
 
 -- The modes after a jump, component by component
 after-length : (components : List Component) (modes switches : List ℕ) → length modes ≡ length components → length switches ≡ length components → length (modes_after components modes switches) ≡ length components

@@ -2,7 +2,7 @@
 use mathlib.Core.Path.{◌≡◌, refl, sym, ap, ap₂, ◌∙◌}
 use mathlib.Core.List.{List, [], ◌∷◌, ◌++◌, append_assoc}
 use Prim.Native.Nat.{ℕ, zero, suc, ◌+◌, ◌*◌, ◌-◌, ◌^◌, ◌≤◌, ◌<◌}
-use native.Mathlib.Nat.{mul-le-mul, zero-add}
+use native.Mathlib.Nat.{mul-le-mul}
 use native.Mathlib.Numerals.{add-one}
 use native.Mathlib.Omega.{arith}
 use lib.IntN.{ℤ, pos, neg_ℤ, nat_abs, ◌-ℤ◌}
@@ -38,12 +38,6 @@ module _ (d : List ℤ) (at : ℕ) (s : List ℤ) (n : ℕ) (room : at + n ≤ l
   pasted-before : (i : ℕ) → i < at → get_or (paste d at s n) i (pos 0) ≡ get_or d i (pos 0)
   pasted-before i h =
       sym (get_or-take at (paste d at s n) i (pos 0) h) ∙ ap (λ xs. get_or xs i (pos 0)) pasted-front ∙ get_or-take at d i (pos 0) h
-
-  pasted-behind : (i : ℕ) → get_or (paste d at s n) (at + n + i) (pos 0) ≡ get_or d (at + n + i) (pos 0)
-  pasted-behind i =
-      sym (get_or-drop (at + n) (paste d at s n) i (pos 0))
-      ∙ ap (λ xs. get_or xs i (pos 0)) (drop-paste d at s n (omega arith) few)
-      ∙ get_or-drop (at + n) d i (pos 0)
 
 -- The change of values: as long as they are, and each the difference of two
 difference-length : (xs ys : List ℤ) → length xs ≡ length ys → length (difference xs ys) ≡ length xs
@@ -155,34 +149,8 @@ module _ (n : ℕ) (state : List ℤ) (room : 3 * n ≤ length state) where
             rw same (omega (arith, mul-le-mul (change-small v i h) few));
       }
 
--- The values after put one after the other in the place of those before: so many of them
-abbrev pub Moved : ℕ → List ℤ → ℕ → List ℤ
-Moved n state i = paste state 0 (drop n state) i
-
+-- The values after, in the place of those before
 module _ (n : ℕ) (state : List ℤ) (room : 2 * n ≤ length state) where
-  pub moved_none : state ≡ Moved n state 0
-  moved_none = paste-zero state 0 (drop n state)
-
-  pub moved_length : (i : ℕ) → i ≤ n → length (Moved n state i) ≡ length state
-  moved_length i h = length-paste state 0 (drop n state) i (omega arith) (omega (arith, length-drop n state))
-
-  -- what is still to be moved is as it was
-  pub moved-ahead : (i : ℕ) → i < n → get_or (Moved n state i) (n + i) (pos 0) ≡ get_or state (n + i) (pos 0)
-  moved-ahead i h =
-      ap (λ (k : ℕ). get_or (Moved n state i) k (pos 0)) (split n i)
-      ∙ pasted-behind state 0 (drop n state) i (omega arith) (omega (arith, length-drop n state)) n
-      ∙ ap (λ (k : ℕ). get_or state k (pos 0)) (sym (split n i))
-    where
-      split : (n i : ℕ) → n + i ≡ 0 + i + n
-      split n i = omega arith
-
-  pub moved_more : (i : ℕ) → i < n → set (Moved n state i) i (get_or state (n + i) (pos 0)) ≡ Moved n state (i + 1)
-  moved_more i h =
-      ap (set (Moved n state i) i) (sym (get_or-drop n state i (pos 0)))
-      ∙ ap (λ (k : ℕ). set (Moved n state i) k (get_or (drop n state) i (pos 0))) (sym (zero-add i))
-      ∙ paste-suc state 0 (drop n state) i (pos 0) (omega arith) (omega (arith, length-drop n state))
-      ∙ ap (Moved n state) (sym (add-one i))
-
   pub moved-taken : take n (moved_on n state) ≡ take n (drop n state)
   moved-taken = pasted-part state 0 (drop n state) n (omega arith) (omega (arith, length-drop n state))
 

@@ -3,7 +3,7 @@
 use mathlib.Core.Path.{◌≡◌, refl, sym, ap, ◌∙◌, subst}
 use mathlib.Core.Bool.{Bool, true, false, not, ◌&&◌, ◌||◌, or-true, or-false}
 use mathlib.Core.List.{List, [], ◌∷◌}
-use Prim.Native.Nat.{ℕ, zero, suc, ◌+◌, ◌*◌, ◌-◌, ◌^◌, ◌≤◌, ◌<◌}
+use Prim.Native.Nat.{ℕ, zero, suc, ◌+◌, ◌*◌, ◌^◌, ◌≤◌, ◌<◌}
 use native.Mathlib.Nat.{mul-le-mul, le_of_mul-le-mul_right}
 use native.Mathlib.Decide.{ℕ_discrete}
 use native.Mathlib.Numerals.{add-one}
@@ -21,7 +21,6 @@ use Rattle.farkas.proofs.Promise.{same-means}
 use Rattle.fields.specs.Places.{signed_at, numbers_at, row_at, rows_from}
 use Rattle.farkas.specs.Lists.{every}
 use Rattle.formats.specs.Joint.{stays, count_up}
-use Rattle.formats.specs.Rows.{SheetRow}
 use Rattle.models.specs.Index.{entry, component_place, mode_place, switch_place, unsafe_place, span_rows, GoodSpan, GoodIndex}
 use Rattle.rules.specs.Runs.{condition_holds}
 use Rattle.papers.specs.Standing.{GoodModes}
@@ -91,28 +90,8 @@ pub row-compared : (s : List ℕ) (at version n q : ℕ) (ps : List ℤ) (sum b 
 unfolding row_holds row_at
 row-compared s at version n q ps sum b p r = rw (p, r, dot-take s at n ps) refl
 
--- the rows that are left hold exactly when all do: a row that holds is passed, one that fails decides, and after the last all hold
+-- rows one after the other, from a place on
 module _ (s : List ℕ) (version n q : ℕ) (ps : List ℤ) where
-  holds : SheetRow → Bool
-  holds r = row_holds q ps r.row
-
-  module _ (whole : Bool) where
-    pub rows_pass : (at rows j : ℕ) (r : Bool) → j < rows → r ≡ row_holds q ps (row_at s version n at).row → r ≡ true → condition_holds q ps (rows_from s version n at (rows - j)) ≡ whole → condition_holds q ps (rows_from s version n (at + row_bytes version n) (rows - (j + 1))) ≡ whole
-    unfolding condition_holds holds
-    rows_pass = loops.rows_pass holds s version n whole
-
-    pub rows-fail : (at rows j : ℕ) (r : Bool) → j < rows → r ≡ row_holds q ps (row_at s version n at).row → r ≡ false → condition_holds q ps (rows_from s version n at (rows - j)) ≡ whole → false ≡ whole
-    unfolding condition_holds holds
-    rows-fail = loops.rows-fail holds s version n whole
-
-    pub rows_none : (at rows j : ℕ) → rows ≤ j → condition_holds q ps (rows_from s version n at (rows - j)) ≡ whole → true ≡ whole
-    unfolding condition_holds holds
-    rows_none = loops.rows_none holds s version n whole
-
-  pub rows_start : (index : List ℕ) (place at rows : ℕ) → at ≡ entry index place → rows ≡ entry index (place + 1) → condition_holds q ps (rows_from s version n at (rows - 0)) ≡ condition_holds q ps (span_rows s version n index place)
-  unfolding condition_holds holds
-  rows_start = loops.rows_start holds s version n
-
   -- a row of each number of a range
   rows-counted : (from at k rows : ℕ) → at ≡ from + row_bytes version n * k → every (λ j. row_holds q ps (row_at s version n (from + row_bytes version n * j)).row) (count_up k rows) ≡ condition_holds q ps (rows_from s version n at rows)
   unfolding condition_holds every count_up rows_from
@@ -137,25 +116,12 @@ same_test a b f g = go (ℕ_discrete (of_z w64 a) (of_z w64 b))
     go (yes e) = eq-eqb (of_z w64 a) (of_z w64 b) e ∙ sym (is_true (same_z a b) ((same-means a b).1 (same_bits a b f g e)))
     go (no d) = ne_eqb (of_z w64 a) (of_z w64 b) d ∙ sym (told-false (same_z a b) (λ t. d (ap (of_z w64) ((same-means a b).0 t))))
 
-pub same-yes : (a b : ℤ) → SFits w64 a → SFits w64 b → of_z w64 a ≡ of_z w64 b → same_z a b ≡ true
-same-yes a b f g e = sym (same_test a b f g) ∙ eq-eqb (of_z w64 a) (of_z w64 b) e
-
-pub same-no : (a b : ℤ) → (of_z w64 a ≡ of_z w64 b → ⊥) → same_z a b ≡ false
-same-no a b d = told-false (same_z a b) (λ t. d (ap (of_z w64) ((same-means a b).0 t)))
-
 -- one of two tests, where the first is settled
 pub first-true : (a b : Bool) → a ≡ true → true ≡ (a || b)
 first-true a b e = ap (λ x. x || b) (sym e)
 
 pub first-false : (a b c : Bool) → a ≡ false → c ≡ b → c ≡ (a || b)
 first-false a b c e p = p ∙ ap (λ x. x || b) (sym e)
-
--- a variable that is not kept is free
-pub kept-moves : (a b : Bool) → a ≡ false → true ≡ (not a || b)
-kept-moves a b e = ap (λ x. not x || b) (sym e)
-
-pub kept-stays : (a b c : Bool) → a ≡ true → c ≡ b → c ≡ (not a || b)
-kept-stays a b c e p = p ∙ ap (λ x. not x || b) (sym e)
 
 -- a value that is the same is kept; one that is not is where nothing asks that it be
 pub kept_same : (test : ℕ → Bool) (n : ℕ) (state : List ℤ) (v : ℕ) (same : Bool) → same ≡ same_at n state v → same ≡ true → true ≡ kept_at test n state v
@@ -165,9 +131,6 @@ kept_same test n state v same p e = sym (or-true (not (test v))) ∙ ap (λ x. n
 pub kept-changed : (test : ℕ → Bool) (n : ℕ) (state : List ℤ) (v : ℕ) (same kept : Bool) → same ≡ same_at n state v → same ≡ false → kept ≡ test v → not kept ≡ kept_at test n state v
 unfolding kept_at
 kept-changed test n state v same kept p e q = ap not q ∙ sym (or-false (not (test v))) ∙ ap (λ x. not (test v) || x) (sym e ∙ p)
-
-pub kept_of : (test : ℕ → Bool) (m n : ℕ) (state : List ℤ) (v : ℕ) (r : Bool) → m ≡ n → r ≡ kept_at test m state v → r ≡ kept_at test n state v
-kept_of test m n state v r e q = q ∙ ap (λ (k : ℕ). kept_at test k state v) e
 
 -- where a good index keeps rows: at an offset from a mode, of a switch, of an unsafe condition
 pub point-for : {n m : ℕ} {point : List ℤ} → n ≡ m → SmallPoint m point → SmallPoint n point

@@ -17,22 +17,12 @@ use Rattle.farkas.specs.Lists.{every, some}
 use Rattle.formats.specs.Joint.{count_up}
 use Rattle.papers.proofs.RowLoops.{left_less, left-none, one_less}
 
--- what is left of so many
-left-all : (n m : ℕ) → n ≡ m → n - 0 ≡ m
-left-all n m e = omega arith
-
 count-first : (k left : ℕ) → 0 < left → count_up k left ≡ k ∷ count_up (k + 1) (left - 1)
 unfolding count_up
 count-first k zero h = absurd (omega arith)
 count-first k (suc left) h = rw (add-one k) (ap (λ (m : ℕ). k ∷ count_up (suc k) m) (one_less left))
 
 module _ (f : ℕ → Bool) where
-  pub each_start : (n m : ℕ) → n ≡ m → every f (count_up 0 (n - 0)) ≡ every f (count_up 0 m)
-  each_start n m e = ap (λ (k : ℕ). every f (count_up 0 k)) (left-all n m e)
-
-  pub some-start : (n m : ℕ) → n ≡ m → some f (count_up 0 (n - 0)) ≡ some f (count_up 0 m)
-  some-start n m e = ap (λ (k : ℕ). some f (count_up 0 k)) (left-all n m e)
-
   module _ (n k : ℕ) (whole r : Bool) (h : k < n) (p : r ≡ f k) where
     each_first : every f (count_up k (n - k)) ≡ (r && every f (count_up (k + 1) (n - (k + 1))))
     unfolding every
@@ -47,26 +37,9 @@ module _ (f : ℕ → Bool) where
     pub each-fail : r ≡ false → every f (count_up k (n - k)) ≡ whole → false ≡ whole
     each-fail t e = ap (λ b. b && every f (count_up (k + 1) (n - (k + 1)))) (sym t) ∙ sym each_first ∙ e
 
-    some_first : some f (count_up k (n - k)) ≡ (r || some f (count_up (k + 1) (n - (k + 1))))
-    unfolding some
-    some_first =
-        ap (some f) (count-first k (n - k) (omega arith))
-        ∙ ap (λ b. b || some f (count_up (k + 1) (n - k - 1))) (sym p)
-        ∙ ap (λ (m : ℕ). r || some f (count_up (k + 1) m)) (sym (left_less n k h))
-
-    pub some-pass : r ≡ false → some f (count_up k (n - k)) ≡ whole → some f (count_up (k + 1) (n - (k + 1))) ≡ whole
-    some-pass t e = ap (λ b. b || some f (count_up (k + 1) (n - (k + 1)))) (sym t) ∙ sym some_first ∙ e
-
-    pub some-found : r ≡ true → some f (count_up k (n - k)) ≡ whole → true ≡ whole
-    some-found t e = ap (λ b. b || some f (count_up (k + 1) (n - (k + 1)))) (sym t) ∙ sym some_first ∙ e
-
   pub each_none : (n k : ℕ) (whole : Bool) → n ≤ k → every f (count_up k (n - k)) ≡ whole → true ≡ whole
   unfolding every count_up
   each_none n k whole h e = ap (λ (m : ℕ). every f (count_up k m)) (left-none n k h) ∙ e
-
-  pub some-none : (n k : ℕ) (whole : Bool) → n ≤ k → some f (count_up k (n - k)) ≡ whole → false ≡ whole
-  unfolding some count_up
-  some-none n k whole h e = ap (λ (m : ℕ). some f (count_up k m)) (left-none n k h) ∙ e
 
 -- `all` and `any` over a range answer as the tests of the numbers that are counted up, where the closure answers each as the test does
 all-counted : (f : ℕ → Bool) (k n : ℕ) → list_all f (range_with_len k n) ≡ every f (count_up k n)
@@ -79,12 +52,25 @@ unfolding some count_up
 any-counted f k zero = refl
 any-counted f k (suc n) = ap (λ (m : ℕ). f k || list_any f (range_with_len m n)) (add-one k) ∙ ap (λ b. f k || b) (any-counted f (suc k) n)
 
-module _ {F : Type 0} {g : Mut F (ℕ × Unit {0}) Bool} {f : F} {r : Bool} {u : Range ℕ} (test : ℕ → Bool) (m n : ℕ) (all : m ≡ n) where
-  pub all-range : ChecksAll nat_range_steps g (record { start = 0; end = m }) f r u → ((x : ℕ) (b : Bool) (q : F) → Called g f (x, tt) b q → (q ≡ f) × (b ≡ test x)) → r ≡ every test (count_up 0 n)
-  all-range ran same = all_from_yields_List test _ _ _ ran (YieldsList-from_range 0 m n refl (omega arith)) same ∙ all-counted test 0 n
+module _ {F : Type 0} {g : Mut F (ℕ × Unit {0}) Bool} {f : F} {r : Bool} {u : Range ℕ} (test : ℕ → Bool) where
+  pub all-from : (k m n : ℕ) → m - k ≡ n → ChecksAll nat_range_steps g (record { start = k; end = m }) f r u → ((x : ℕ) (b : Bool) (q : F) → Called g f (x, tt) b q → (q ≡ f) × (b ≡ test x)) → r ≡ every test (count_up k n)
+  all-from k m n e ran same = all_from_yields_List test _ _ _ ran (YieldsList-from_range k m n refl e) same ∙ all-counted test k n
 
-  pub any-range : ChecksAny nat_range_steps g (record { start = 0; end = m }) f r u → ((x : ℕ) (b : Bool) (q : F) → Called g f (x, tt) b q → (q ≡ f) × (b ≡ test x)) → r ≡ some test (count_up 0 n)
-  any-range ran same = any_from_yields_List test _ _ _ ran (YieldsList-from_range 0 m n refl (omega arith)) same ∙ any-counted test 0 n
+  pub all-range : (m n : ℕ) → m ≡ n → ChecksAll nat_range_steps g (record { start = 0; end = m }) f r u → ((x : ℕ) (b : Bool) (q : F) → Called g f (x, tt) b q → (q ≡ f) × (b ≡ test x)) → r ≡ every test (count_up 0 n)
+  all-range m n e = all-from 0 m n (omega (arith, e))
+
+  pub any-range : (m n : ℕ) → m ≡ n → ChecksAny nat_range_steps g (record { start = 0; end = m }) f r u → ((x : ℕ) (b : Bool) (q : F) → Called g f (x, tt) b q → (q ≡ f) × (b ≡ test x)) → r ≡ some test (count_up 0 n)
+  any-range m n e ran same = any_from_yields_List test _ _ _ ran (YieldsList-from_range 0 m n refl (omega (arith, e))) same ∙ any-counted test 0 n
+
+-- a test of all that are left, told step by step, is that of each number that is left
+pub each-step : (test whole : ℕ → Bool) (n : ℕ) → whole n ≡ true → ((k : ℕ) → k < n → whole k ≡ (test k && whole (k + 1))) → (k left : ℕ) → k + left ≡ n → every test (count_up k left) ≡ whole k
+unfolding every count_up
+each-step test whole n last next k zero e = sym last ∙ ap whole (here n k e)
+  where
+    here : (n k : ℕ) → k + zero ≡ n → n ≡ k
+    here n k e = omega arith
+each-step test whole n last next k (suc left) e =
+    ap (λ b. test k && b) (each-step test whole n last next (suc k) left (omega arith) ∙ ap whole (sym (add-one k))) ∙ sym (next k (omega arith))
 
 -- tests that agree on the numbers
 agree-from : (f g : ℕ → Bool) (k n : ℕ) → ((i : ℕ) → k ≤ i → i < k + n → f i ≡ g i) → every f (count_up k n) ≡ every g (count_up k n)

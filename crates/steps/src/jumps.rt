@@ -9,7 +9,7 @@ ghost use Rattle.steps.specs.Held.{Located, SmallValues, SmallState, KnownStep, 
 
 use crate::rows::modes_hold;
 use crate::values::{flow_rule, jump_rows, staying_kept};
-use joint_switches::joints::{bit_of, in_scope, leaves_by, mode_after, scope_mask};
+use joint_switches::joints::{in_scope, leaves_by, mode_after, scope_mask};
 use models::layout::{
     BLOCK_LENGTH, COMPONENTS_AT, FIRST_BLOCK, INVARIANT_AT, Index, SWITCH_COUNT_AT, VARIABLES_AT,
 };
@@ -22,10 +22,9 @@ fn moves_by(model: &[u8], index: &Index, k: usize, mode: u8, e: u32, i: u8) -> b
     requires k_bound { k < components_in index.now }
     ensures { result ≡ moves (component_at model.now index.now k) mode e i }
 {
-    if index[FIRST_BLOCK + BLOCK_LENGTH * k + SWITCH_COUNT_AT] as usize <= i as usize {
-        return false;
-    }
-    leaves_by(model, index, k, i as usize, mode, e)
+    let count = number_at(index, FIRST_BLOCK + BLOCK_LENGTH * k + SWITCH_COUNT_AT);
+    let switch = usize::from(i);
+    switch < count && leaves_by(model, index, k, switch, mode, e)
 }
 
 // A component's part in an event: a member of the scope moves by this number, any other component stays.
@@ -47,15 +46,8 @@ fn members_move(model: &[u8], index: &Index, modes: [u8; 4], e: u32, switches: [
     requires e_bound { e ≤ 15 }
     ensures { result ≡ members_move (components_from model.now index.now) (per_component index.now modes) e (per_component index.now switches) }
 {
-    let components = index[COMPONENTS_AT] as usize;
-    let mut k: usize = 0;
-    while k < components {
-        if !part_in(model, index, k, modes[k], e, switches[k]) {
-            return false;
-        }
-        k += 1;
-    }
-    true
+    let components = number_at(index, COMPONENTS_AT);
+    (0..components).all(|k| part_in(model, index, k, modes[k], e, switches[k]))
 }
 
 // Whether every component from one on stays.
@@ -64,15 +56,8 @@ fn all_stay(model: &[u8], index: &Index, switches: [u8; 4], from: usize) -> bool
     requires from_bound { from ≤ components_in index.now }
     ensures { result ≡ all_stay (drop from (components_from model.now index.now)) (drop from (per_component index.now switches)) }
 {
-    let components = index[COMPONENTS_AT] as usize;
-    let mut k = from;
-    while k < components {
-        if switches[k] != 255 {
-            return false;
-        }
-        k += 1;
-    }
-    true
+    let components = number_at(index, COMPONENTS_AT);
+    (from..components).all(|k| switches[k] == 255)
 }
 
 // Whether one component moves, by a switch with label 0, and every other stays.
@@ -80,32 +65,23 @@ fn one_moves(model: &[u8], index: &Index, modes: [u8; 4], switches: [u8; 4]) -> 
     requires { GoodIndex model.now index.now }
     ensures { result ≡ one_moves (components_from model.now index.now) (per_component index.now modes) (per_component index.now switches) }
 {
-    let components = index[COMPONENTS_AT] as usize;
-    let mut k: usize = 0;
-    while k < components {
+    let components = number_at(index, COMPONENTS_AT);
+    for k in 0..components {
         if switches[k] != 255 {
-            if !moves_by(model, index, k, modes[k], 0, switches[k]) {
-                return false;
-            }
-            return all_stay(model, index, switches, k + 1);
+            return moves_by(model, index, k, modes[k], 0, switches[k])
+                && all_stay(model, index, switches, k + 1);
         }
-        k += 1;
     }
     false
 }
 
 // How many components move: those whose number is not 255.
-fn mover_count(model: &[u8], index: &Index, switches: [u8; 4]) -> u32
+fn mover_count(model: &[u8], index: &Index, switches: [u8; 4]) -> usize
     requires { GoodIndex model.now index.now }
     ensures { result ≡ length (runs.movers (components_from model.now index.now) (per_component index.now switches)) }
 {
-    let mut count: u32 = 0;
-    let mut k = index[COMPONENTS_AT] as usize;
-    while 0 < k {
-        k -= 1;
-        count = bit_of(switches[k] != 255) + count;
-    }
-    count
+    let components = number_at(index, COMPONENTS_AT);
+    switches[..components].iter().filter(|i| **i != 255).count()
 }
 
 // Whether switch numbers, one per component, are a joint switch of an event from a location with these modes. As many components
@@ -118,14 +94,10 @@ pub fn is_joint(model: &[u8], index: &Index, modes: [u8; 4], e: u32, switches: [
     if e == 0 {
         return one_moves(model, index, modes, switches);
     }
-    let members = u32::count_ones(scope_mask(model, index, e));
-    if members == 0 {
-        return false;
-    }
-    if mover_count(model, index, switches) != members {
-        return false;
-    }
-    members_move(model, index, modes, e, switches)
+    let members = scope_mask(model, index, e).count_ones() as usize;
+    members != 0
+        && mover_count(model, index, switches) == members
+        && members_move(model, index, modes, e, switches)
 }
 
 // Whether a jump meets its rule: a joint switch from the present location, whose rows hold, and staying components keep their values.
@@ -143,13 +115,9 @@ pub fn jump_rule(
     requires small_values { SmallValues (2 * variables_in index.now) state.now × (q < 2 ^ 24) }
     ensures { result ≡ runs.jump_rule (model_from model.now index.now) q (state_in model.now index.now modes state.now) e (per_component index.now switches) (values_after index.now state.now) }
 {
-    if !is_joint(model, index, modes, e, switches) {
-        return false;
-    }
-    if !jump_rows(model, index, q, switches, state) {
-        return false;
-    }
-    staying_kept(model, index, switches, state)
+    is_joint(model, index, modes, e, switches)
+        && jump_rows(model, index, q, switches, state)
+        && staying_kept(model, index, switches, state)
 }
 
 // Whether a step meets its rule. The numbers behind the values after are free then.
@@ -190,10 +158,8 @@ pub fn step_allowed(
     ensures kept_values { KeptValues (2 * variables_in index.now) (3 * variables_in index.now) state.old state.new }
 {
     let n = number_at(index, VARIABLES_AT);
-    if !modes_hold(model, index, targets, INVARIANT_AT, &state[n..], q) {
-        return false;
-    }
-    rule_met(model, index, modes, q, by, state)
+    modes_hold(model, index, targets, INVARIANT_AT, &state[n..], q)
+        && rule_met(model, index, modes, q, by, state)
 }
 
 // The modes after a joint switch with these switches.
@@ -203,10 +169,8 @@ fn modes_by(model: &[u8], index: &Index, modes: [u8; 4], switches: [u8; 4]) -> [
 {
     let components = number_at(index, COMPONENTS_AT);
     let mut after = modes;
-    let mut k: usize = 0;
-    while k < components {
+    for k in 0..components {
         after[k] = mode_after(model, index, k, modes[k], switches[k]);
-        k += 1;
     }
     after
 }

@@ -12,20 +12,6 @@ use Rattle.fair_conditions.proofs.PutLaws.{condition-written}
 use native.Mathlib.Omega.{arith}
 use Rattle.fair_conditions.proofs.conditions.put_condition.Goals as goal
 
-pub gather-count-requires : goal.gather-count-requires
-gather-count-requires c = let g = c.requires.good_stretch in record { by_index = (g.within, (g.short, (g.wide, g.few))); in_bounds = (c.requires.at_bound.1.0, c.requires.at_bound.1.1) }
-
-pub overflow_cast-count : goal.overflow_cast-count
-overflow_cast-count c = omega (arith, c.gather-count.ensures.upper_bound.0, c.requires.good_stretch.few)
-
-pub put_byte-first-requires : goal.put_byte-first-requires
-put_byte-first-requires c = omega (arith, c.requires.at_bound.0)
-
-pub put_rows-requires : goal.put_rows-requires
-put_rows-requires c =
-    let p = c.requires in
-    let g = c.gather-count in record { at_bound = (omega (arith, c.put_byte-first.ensures.0, p.at_bound.0), (omega (arith, g.ensures.upper_bound.0, p.good_stretch.few), p.good_stretch.wide)); in_bounds = (omega (arith, g.auto.kept, p.at_bound.1.0), (omega (arith, g.ensures.upper_bound.0, p.good_stretch.few, g.auto.sorted, p.at_bound.1.1), g.ensures.upper_bound.1)) }
-
 pub returns : goal.returns
 returns c =
     let a = c.args in

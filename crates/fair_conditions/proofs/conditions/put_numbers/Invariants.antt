@@ -1,9 +1,5 @@
-use Prim.Native.Nat.{◌-◌}
 use Rattle.fair_conditions.proofs.PutLaws.{NumbersPut}
 use Rattle.fair_conditions.proofs.conditions.put_numbers.Given as goal
 
 abbrev pub invariant-loop-i : goal.invariant-loop-i
 invariant-loop-i l = NumbersPut l.initial.out l.at l.kept l.base l.count l.out l.next l.i
-
-abbrev pub decreases-loop-i : goal.decreases-loop-i
-decreases-loop-i l = l.count - l.i

@@ -1,18 +1,11 @@
 -- Row by row, what is left is written after what is there. Assumes nothing.
 use Prim.Native.Nat.{◌<◌}
 use lib.ListN.{get_or}
-use Rattle.buffers.proofs.WritingLaws.{written-length}
 use Rattle.fair_conditions.proofs.SortLaws.{among-at}
-use Rattle.fair_conditions.proofs.PutLaws.{rows_start, rows-go-on, rows_end}
+use Rattle.fair_conditions.proofs.PutLaws.{rows-go-on, rows_end}
 use native.Mathlib.Omega.{arith}
 use Rattle.fair_conditions.proofs.conditions.put_rows.Goals.{After-row_base}
 use Rattle.fair_conditions.proofs.conditions.put_rows.Goals as goal
-
-pub loop-i-init : goal.loop-i-init
-loop-i-init c = rows_start _ _ _ _ _ _ _
-
-pub bounds-sorted-i : goal.bounds-sorted-i
-bounds-sorted-i c = omega (arith, c.requires.at_bound, c.requires.in_bounds, c.loop-i-test.true)
 
 -- the row that is written stands among those that are kept
 below : (c : After-row_base) → get_or c.args.sorted.now c.loop-i.i 0 < 8
@@ -30,10 +23,8 @@ loop-i-preserved c =
     let w = c.put_numbers-next in
     rows-go-on a.out.now a.at a.kept.now a.sorted.now a.count a.version a.n l.out w.new.out l.next w.result l.i c.row_base.result c.loop-i-test.true c.requires.in_bounds.1.0 c.requires.at_bound.1.1 c.row_base.ensures w.ensures.written w.ensures.value l.invariant
 
-pub shape_of-out : goal.shape_of-out
-shape_of-out c = written-length (rows_end _ _ _ _ _ _ _ c.loop-i.out c.loop-i.next c.loop-i.i c.loop-i-test.false c.requires.in_bounds.1.0 c.loop-i.invariant).0
-
-pub returns : goal.returns
-returns c =
+pub returns-clause-written : goal.returns-clause-written
+returns-clause-written c =
     let a = c.args in
-    let l = c.loop-i in let both = rows_end a.out.now a.at a.kept.now a.sorted.now a.count a.version a.n l.out l.next l.i c.loop-i-test.false c.requires.in_bounds.1.0 l.invariant in record { written = both.0; upper_bound = both.1 }
+    let l = c.loop-i in
+    (rows_end a.out.now a.at a.kept.now a.sorted.now a.count a.version a.n l.out l.next l.i (omega arith) c.requires.in_bounds.1.0 l.invariant).0

@@ -10,17 +10,10 @@ use Rattle.fair_conditions.proofs.GatherLaws.{row-dropped, row-taken, among-stay
 use native.Mathlib.Omega.{arith}
 use Rattle.fair_conditions.proofs.conditions.take_row.Goals as goal
 
-pub row_divisor-divisor-requires : goal.row_divisor-divisor-requires
-row_divisor-divisor-requires c = c.requires.numbers_in.0
-
 pub returns-then-divisor-eq0 : goal.returns-then-divisor-eq0
 returns-then-divisor-eq0 c =
     let a = c.args in
     let d = c.row_divisor-divisor in record { result_after = λ rows e. row-dropped a.s.now a.at a.n d.result rows _ d.ensures c.if-divisor-eq0.true e; upper_bound = (omega arith, among-stays c.requires.in_bounds.1.1) }
-
-pub keep_divided-requires : goal.keep_divided-requires
-keep_divided-requires c =
-    (c.requires.numbers_in.0, (omega (arith, c.if-divisor-eq0.false), omega (arith, c.row_base.ensures, c.requires.numbers_in, c.requires.in_bounds)))
 
 pub insert-requires : goal.insert-requires
 insert-requires c = record { in_bounds = (omega (arith, c.keep_divided.auto.kept, c.requires.numbers_in, c.requires.in_bounds), c.requires.numbers_in.1.0); count_in_bounds = (c.requires.in_bounds.1.0, (c.requires.numbers_in.1.1, among-all c.requires.in_bounds.1.1)) }

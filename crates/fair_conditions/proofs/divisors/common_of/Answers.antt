@@ -5,23 +5,14 @@ use Prim.Native.Nat.{ℕ, ◌+◌, ◌*◌, ◌-◌}
 use lib.IntN.{ℤ, nat_abs}
 use Rattle.farkas.specs.Words.{signed, signed_at}
 use Rattle.fair_conditions.specs.Held.{Common, CommonOf}
-use Rattle.fair_conditions.proofs.CommonLaws.{common-none, common-turn, numbers-none, numbers-all}
+use Rattle.fair_conditions.proofs.CommonLaws.{common-none, common-turn, numbers-none}
 use native.Mathlib.Omega.{arith}
 use Rattle.fair_conditions.proofs.divisors.common_of.Goals as goal
 
 pub loop-i-init : goal.loop-i-init
 loop-i-init c =
     let a = c.args in
-    (omega arith, subst (λ (xs : List ℤ). CommonOf xs 0) (sym (numbers-none a.s.now (a.at + 4 * a.count) a.count)) common-none)
-
-pub overflow_mul-i : goal.overflow_mul-i
-overflow_mul-i c = omega (arith, c.requires, c.loop-i.invariant.0)
-
-pub overflow_add-at : goal.overflow_add-at
-overflow_add-at c = omega (arith, c.requires, c.loop-i.invariant.0)
-
-pub number-requires : goal.number-requires
-number-requires c = omega (arith, c.requires, c.loop-i.invariant.0)
+    subst (λ (xs : List ℤ). CommonOf xs 0) (sym (numbers-none a.s.now (a.at + 4 * a.count) a.count)) common-none
 
 pub loop-i-preserved : goal.loop-i-preserved
 unfolding signed_at
@@ -29,10 +20,4 @@ loop-i-preserved c =
     let a = c.args in
     let l = c.loop-i in
     let size : c.magnitude.result ≡ nat_abs (signed_at a.s.now (a.at + 4 * (l.i - 1))) = c.magnitude.ensures ∙ ap (λ (n : ℕ). nat_abs (signed n)) c.number.ensures in
-    (omega arith, common-turn a.s.now a.at a.count l.i (l.i - 1) l.divisor c.common-divisor.result (omega arith) l.invariant.0 l.invariant.1 (subst (λ (k : ℕ). Common l.divisor k c.common-divisor.result) size c.common-divisor.ensures))
-
-pub returns : goal.returns
-returns c =
-    let a = c.args in
-    let l = c.loop-i in
-    subst (λ (xs : List ℤ). CommonOf xs l.divisor) (numbers-all a.s.now a.at a.count l.i c.loop-i-test.false) l.invariant.1
+    common-turn a.s.now a.at a.count l.i (l.i - 1) l.divisor c.common-divisor.result (omega arith) (omega arith) l.invariant (subst (λ (k : ℕ). Common l.divisor k c.common-divisor.result) size c.common-divisor.ensures)

@@ -10,18 +10,6 @@ use Rattle.fair_conditions.proofs.CommonLaws.{divisor-dropped, divisor-below, di
 use native.Mathlib.Omega.{arith}
 use Rattle.fair_conditions.proofs.divisors.row_divisor.Goals as goal
 
-pub common_of-coefficients-requires : goal.common_of-coefficients-requires
-common_of-coefficients-requires c = (omega (arith, c.requires.0), c.requires.1)
-
-pub overflow_mul-n : goal.overflow_mul-n
-overflow_mul-n c = omega (arith, c.requires.0, c.requires.1)
-
-pub overflow_add-at : goal.overflow_add-at
-overflow_add-at c = omega (arith, c.requires.0, c.requires.1)
-
-pub number-bound-requires : goal.number-bound-requires
-number-bound-requires c = omega (arith, c.requires.0)
-
 pub returns-then-bound-lt-SIGN_BIT : goal.returns-then-bound-lt-SIGN_BIT
 unfolding signed_at
 returns-then-bound-lt-SIGN_BIT c =

@@ -1,36 +1,18 @@
--- What is left stands as the whole does. Assumes nothing.
-use mathlib.Core.Path.{sym, ap, ◌∙◌}
-use Rattle.fair_conditions.specs.Held.{standing}
-use Rattle.fair_conditions.proofs.SortLaws.{order-starts, order-lower, order-higher, order-goes-on, order-ends}
-use native.Mathlib.Omega.{arith}
+-- The library's order of two parts. Assumes nothing.
+use Rattle.std.proofs.Common.{rules, ◌≡◌, ◌∙◌, ap₂, ℕ, ◌+◌, ◌-◌, take, drop, arith}
+use Rattle.std.specs.Ordering.{nat_cmp}
+use Rattle.std.specs.Cmp.Lexicographic.{slice_cmp}
+use Rattle.fair_conditions.proofs.SortLaws.{compared}
 use Rattle.fair_conditions.proofs.sorting.compare.Goals as goal
 
-pub loop-i-init : goal.loop-i-init
-loop-i-init c = (omega arith, order-starts _ _ _ _)
-
-pub returns-then-x-y : goal.returns-then-x-y
-unfolding standing
-returns-then-x-y c =
-    let a = c.args in
-    let l = c.loop-i in
-    ap standing (sym (order-lower a.kept.now a.a a.b a.count l.i c.loop-i-test.true c.if-x-y.true) ∙ l.invariant.1)
-
-pub returns-then-y-x : goal.returns-then-y-x
-unfolding standing
-returns-then-y-x c =
-    let a = c.args in
-    let l = c.loop-i in
-    ap standing (sym (order-higher a.kept.now a.a a.b a.count l.i c.loop-i-test.true c.if-y-x.true) ∙ l.invariant.1)
-
-pub loop-i-preserved : goal.loop-i-preserved
-loop-i-preserved c =
-    let a = c.args in
-    let l = c.loop-i in
-    (omega arith, sym (order-goes-on a.kept.now a.a a.b a.count l.i c.loop-i-test.true c.if-x-y.false c.if-y-x.false) ∙ l.invariant.1)
+some_long : (at count : ℕ) → at + count - at ≡ count
+some_long at count = omega arith
 
 pub returns : goal.returns
-unfolding standing
 returns c =
     let a = c.args in
-    let l = c.loop-i in
-    ap standing (sym (order-ends a.kept.now a.a a.b a.count l.i c.loop-i-test.false) ∙ l.invariant.1)
+    let kept = a.kept.now in
+    let parts : c.cmp.result ≡ slice_cmp nat_cmp (take (a.a + a.count - a.a) (drop a.a kept)) (take (a.b + a.count - a.b) (drop a.b kept)) = search rules in
+    parts
+    ∙ ap₂ (λ (i j : ℕ). slice_cmp nat_cmp (take i (drop a.a kept)) (take j (drop a.b kept))) (some_long a.a a.count) (some_long a.b a.count)
+    ∙ compared kept a.a a.b a.count c.requires.0 c.requires.1

@@ -5,39 +5,41 @@ use lib.ListN.{get_or, set}
 use lib.Seq.{set-get_or}
 use Rattle.fair_rows.specs.FairRows.{Order, order}
 use Rattle.fair_conditions.specs.Held.{kept_numbers, standing, carried_on, left_behind}
-use Rattle.fair_conditions.proofs.SortLaws.{stands-as}
-use native.Mathlib.Omega.{arith}
-use Rattle.fair_conditions.proofs.sorting.meet.Goals.{After-compare-stands}
+use Rattle.fair_conditions.proofs.SortLaws.{stands-lower, stands-same, stands-higher}
+use Rattle.fair_conditions.proofs.sorting.meet.Goals.{After-compare}
 use Rattle.fair_conditions.proofs.sorting.meet.Goals as goal
 
-pub compare-stands-requires : goal.compare-stands-requires
-compare-stands-requires c = (omega (arith, c.row_base.ensures), omega (arith, c.row_base-2.ensures))
-
 -- how the two rows stand to each other
-abbrev stood : After-compare-stands → Order
+abbrev stood : After-compare → Order
 stood c =
     let a = c.args in
     order (kept_numbers a.kept.now (17 * a.carried) a.count) (kept_numbers a.kept.now (17 * get_or a.sorted.now a.i 0) a.count)
 
-told : (c : After-compare-stands) → c.compare-stands.result ≡ standing (stood c)
+told : (c : After-compare) → c.compare.result ≡ standing (stood c)
 told c =
     let a = c.args in
-    c.compare-stands.ensures ∙ ap₂ (λ (x y : ℕ). standing (order (kept_numbers a.kept.now x a.count) (kept_numbers a.kept.now y a.count))) c.row_base.ensures c.row_base-2.ensures
+    c.compare.ensures ∙ ap₂ (λ (x y : ℕ). standing (order (kept_numbers a.kept.now x a.count) (kept_numbers a.kept.now y a.count))) c.row_base.ensures c.row_base-2.ensures
 
-pub returns-then-stands-eq-HIGHER : goal.returns-then-stands-eq-HIGHER
+pub returns-in-Less : goal.returns-in-Less
 unfolding carried_on left_behind
-returns-then-stands-eq-HIGHER c =
+returns-in-Less c =
     let a = c.args in
-    let o = (stands-as (stood (goal.at.returns-then-stands-eq-HIGHER c).After-compare-stands) c.compare-stands.result (told (goal.at.returns-then-stands-eq-HIGHER c).After-compare-stands)).0 c.if-stands-eq-HIGHER.true in record { value = ap (λ (x : Order). carried_on x a.carried (get_or a.sorted.now a.i 0)) (sym o); sorted_after = sym (set-get_or a.sorted.now a.i 0) ∙ ap (λ (x : Order). set a.sorted.now a.i (left_behind x a.carried (get_or a.sorted.now a.i 0))) (sym o) }
+    let met = get_or a.sorted.now a.i 0 in
+    let after = (goal.at.returns-in-Less c).After-compare in
+    let o = stands-lower (stood after) (sym c.in-Less.is ∙ told after) in record { value = ap (λ (x : Order). carried_on x a.carried met) (sym o); sorted_after = ap (λ (x : Order). set a.sorted.now a.i (left_behind x a.carried met)) (sym o) }
 
-pub returns-then-stands-eq-SAME : goal.returns-then-stands-eq-SAME
+pub returns-in-Equal : goal.returns-in-Equal
 unfolding carried_on left_behind
-returns-then-stands-eq-SAME c =
+returns-in-Equal c =
     let a = c.args in
-    let o = (stands-as (stood (goal.at.returns-then-stands-eq-SAME c).After-compare-stands) c.compare-stands.result (told (goal.at.returns-then-stands-eq-SAME c).After-compare-stands)).1.0 c.if-stands-eq-SAME.true in record { value = ap (λ (x : Order). carried_on x a.carried (get_or a.sorted.now a.i 0)) (sym o); sorted_after = sym (set-get_or a.sorted.now a.i 0) ∙ ap (λ (x : Order). set a.sorted.now a.i (left_behind x a.carried (get_or a.sorted.now a.i 0))) (sym o) }
+    let met = get_or a.sorted.now a.i 0 in
+    let after = (goal.at.returns-in-Equal c).After-compare in
+    let o = stands-same (stood after) (sym c.in-Equal.is ∙ told after) in record { value = ap (λ (x : Order). carried_on x a.carried met) (sym o); sorted_after = sym (set-get_or a.sorted.now a.i 0) ∙ ap (λ (x : Order). set a.sorted.now a.i (left_behind x a.carried met)) (sym o) }
 
-pub returns : goal.returns
+pub returns-in-Greater : goal.returns-in-Greater
 unfolding carried_on left_behind
-returns c =
+returns-in-Greater c =
     let a = c.args in
-    let o = (stands-as (stood (goal.at.returns c).After-compare-stands) c.compare-stands.result (told (goal.at.returns c).After-compare-stands)).1.1 c.if-stands-eq-HIGHER.false c.if-stands-eq-SAME.false in record { value = ap (λ (x : Order). carried_on x a.carried (get_or a.sorted.now a.i 0)) (sym o); sorted_after = ap (λ (x : Order). set a.sorted.now a.i (left_behind x a.carried (get_or a.sorted.now a.i 0))) (sym o) }
+    let met = get_or a.sorted.now a.i 0 in
+    let after = (goal.at.returns-in-Greater c).After-compare in
+    let o = stands-higher (stood after) (sym c.in-Greater.is ∙ told after) in record { value = ap (λ (x : Order). carried_on x a.carried met) (sym o); sorted_after = sym (set-get_or a.sorted.now a.i 0) ∙ ap (λ (x : Order). set a.sorted.now a.i (left_behind x a.carried met)) (sym o) }

@@ -1,6 +1,6 @@
 -- The joint test, the rows, the values that stay, by the first that fails. Assumes nothing.
-use mathlib.Core.Bool.{not}
-use mathlib.Core.Path.{◌≡◌, ap}
+use mathlib.Core.Bool.{true≢false}
+use mathlib.Core.Path.{◌≡◌, sym, ◌∙◌}
 use Prim.Native.Nat.{◌≤◌}
 use native.Mathlib.Omega.{arith}
 use borrow.Author.Rules.{rules}
@@ -9,10 +9,9 @@ use Rattle.formats.specs.Locations.{location_of}
 use Rattle.models.specs.Index.{entry, components_from}
 use Rattle.models.specs.Counts.{per_component}
 use Rattle.papers.specs.Standing.{Stands}
-use Rattle.rules.proofs.ListFacts.{test-failed, test-passed}
 use Rattle.steps.proofs.StandLaws.{stands-in}
 use Rattle.steps.proofs.JumpLaws.{rule-joint, rule-rows, rule-kept}
-use Rattle.steps.proofs.jumps.jump_rule.Goals.{Start}
+use Rattle.steps.proofs.jumps.jump_rule.Goals.{Start, then-is_joint, else-is_joint}
 use Rattle.steps.proofs.jumps.jump_rule.Goals as goal
 
 modes-length : (c : Start) → length c.args.modes ≡ 4
@@ -24,27 +23,20 @@ stands c =
     let long : entry c.args.index.now 1 ≤ length c.args.modes = omega (arith, modes-length c, w.good.few) in
     stands-in c.args.modes w.good w.known long
 
-pub returns-then-not-is_joint : goal.returns-then-not-is_joint
-returns-then-not-is_joint c =
+pub returns-then-jump_rows : goal.returns-then-jump_rows
+returns-then-jump_rows c =
     let a = c.args in
-    rule-joint _ a.modes (stands (goal.at.returns-then-not-is_joint c).Start) a.switches a.q a.e a.state.now (test-failed c.is_joint.result (ap not c.if-not-is_joint.true) c.is_joint.ensures)
+    elim c.if-is_joint.branch [
+      | then-is_joint w ↦ rule-kept _ a.modes (stands (goal.at.returns-then-jump_rows c).Start) a.switches a.q a.e a.state.now (sym w.if-is_joint.true ∙ c.is_joint.ensures) c.staying_kept.result (sym c.if-jump_rows.true ∙ w.value-is ∙ w.jump_rows.ensures _) (c.staying_kept.ensures _)
+      | else-is_joint w ↦ absurd (true≢false (sym c.if-jump_rows.true ∙ w.value-is ∙ w.if-is_joint.false))
+    ]
 
-pub returns-then-not-jump_rows : goal.returns-then-not-jump_rows
-returns-then-not-jump_rows c =
+pub returns-else-jump_rows : goal.returns-else-jump_rows
+returns-else-jump_rows c =
     let a = c.args in
-    let joint = c.is_joint in
-    let rows = c.jump_rows in
-    rule-rows _ a.modes (stands (goal.at.returns-then-not-jump_rows c).Start) a.switches a.q a.e a.state.now
-    (test-passed joint.result (ap not c.if-not-is_joint.false) joint.ensures)
-    (test-failed rows.result (ap not c.if-not-jump_rows.true) (rows.ensures _))
-
-pub returns : goal.returns
-returns c =
-    let a = c.args in
-    let joint = c.is_joint in
-    let rows = c.jump_rows in
-    rule-kept _ a.modes (stands (goal.at.returns c).Start) a.switches a.q a.e a.state.now
-    (test-passed joint.result (ap not c.if-not-is_joint.false) joint.ensures)
-    c.staying_kept.result
-    (test-passed rows.result (ap not c.if-not-jump_rows.false) (rows.ensures _))
-    (c.staying_kept.ensures _)
+    let lost = c.if-jump_rows.false in
+    lost
+    ∙ elim c.if-is_joint.branch [
+      | then-is_joint w ↦ rule-rows _ a.modes (stands (goal.at.returns-else-jump_rows c).Start) a.switches a.q a.e a.state.now (sym w.if-is_joint.true ∙ c.is_joint.ensures) (sym lost ∙ w.value-is ∙ w.jump_rows.ensures _)
+      | else-is_joint w ↦ rule-joint _ a.modes (stands (goal.at.returns-else-jump_rows c).Start) a.switches a.q a.e a.state.now (sym w.if-is_joint.false ∙ c.is_joint.ensures)
+    ]

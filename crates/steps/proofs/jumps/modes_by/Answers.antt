@@ -7,7 +7,7 @@ use borrow.Author.Rules.{rules}
 use lib.ListN.{length, set}
 use Rattle.models.specs.Index.{entry}
 use Rattle.models.proofs.GoodIndexLaws.{switch-length}
-use Rattle.steps.proofs.JumpLaws.{landed_none, landed-more, landed-all}
+use Rattle.steps.proofs.JumpLaws.{landed-more, landed-all}
 use Rattle.steps.proofs.jumps.modes_by.Goals.{In-loop-k, Start}
 use Rattle.steps.proofs.jumps.modes_by.Goals as goal
 
@@ -31,41 +31,19 @@ below c = omega (arith, c.loop-k-test.true, c.number_at-components.ensures)
 few : (c : In-loop-k) → c.loop-k.k < 4
 few c = omega (arith, below c, c.requires.0.few)
 
-pub number_at-components-requires : goal.number_at-components-requires
-number_at-components-requires c = omega arith
-
-pub loop-k-init : goal.loop-k-init
-loop-k-init c =
-    (omega arith, landed_none c.args.model.now c.args.index.now c.args.modes c.args.switches (long (goal.at.loop-k-init c).Start) (wide (goal.at.loop-k-init c).Start))
-
-pub bounds-modes-k : goal.bounds-modes-k
-bounds-modes-k c = omega (arith, c.loop-k-test.true, c.number_at-components.ensures, c.requires.0.few)
-
-pub bounds-switches-k : goal.bounds-switches-k
-bounds-switches-k c = omega (arith, c.loop-k-test.true, c.number_at-components.ensures, c.requires.0.few)
-
 pub mode_after-requires : goal.mode_after-requires
 mode_after-requires c =
     let k = c.loop-k.k in record { good_index = c.requires.0; k_bound = below c; i_in_bounds = λ q. omega (arith, c.requires.1.known k (below c) q, switch-length c.args.model.now c.args.index.now k) }
-
-pub bounds-after-k : goal.bounds-after-k
-bounds-after-k c = omega (arith, few (goal.at.bounds-after-k c).In-loop-k)
-
-pub overflow_add-k : goal.overflow_add-k
-overflow_add-k c = omega (arith, few (goal.at.overflow_add-k c).In-loop-k)
-
-pub loop-k-smaller : goal.loop-k-smaller
-loop-k-smaller c = omega arith
 
 pub loop-k-preserved : goal.loop-k-preserved
 loop-k-preserved c =
     let a = c.args in
     let l = c.loop-k in
-    (omega arith, ap (λ (xs : List ℕ). set xs l.k c.mode_after.result) l.invariant.1 ∙ landed-more a.model.now a.index.now a.modes a.switches (long (goal.at.loop-k-preserved c).Start) (wide (goal.at.loop-k-preserved c).Start) l.k c.mode_after.result (below (goal.at.loop-k-preserved c).In-loop-k) c.mode_after.ensures)
+    ap (λ (xs : List ℕ). set xs l.k c.mode_after.result) l.invariant ∙ landed-more a.model.now a.index.now a.modes a.switches (long (goal.at.loop-k-preserved c).Start) (wide (goal.at.loop-k-preserved c).Start) l.k c.mode_after.result (below (goal.at.loop-k-preserved c).In-loop-k) c.mode_after.ensures
 
 pub returns : goal.returns
 returns c =
     let a = c.args in
     let l = c.loop-k in
     let whole : l.k ≡ entry a.index.now 1 = omega (arith, c.number_at-components.ensures) in
-    l.invariant.1 ∙ landed-all a.model.now a.index.now a.modes a.switches (long (goal.at.returns c).Start) (wide (goal.at.returns c).Start) l.k whole
+    l.invariant ∙ landed-all a.model.now a.index.now a.modes a.switches (long (goal.at.returns c).Start) (wide (goal.at.returns c).Start) l.k whole

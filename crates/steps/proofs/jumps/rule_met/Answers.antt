@@ -12,9 +12,6 @@ use Rattle.steps.specs.Held.{state_in, step_with}
 use Rattle.steps.proofs.SliceLaws.{changes-kept}
 use Rattle.steps.proofs.jumps.rule_met.Goals as goal
 
-pub flow_rule-requires : goal.flow_rule-requires
-flow_rule-requires c = let p = c.requires in record { located = (p.located.0, p.located.1.time c.in-Flow.time c.in-Flow.is); small_state = p.small_state.0 }
-
 pub jump_rule-requires : goal.jump_rule-requires
 unfolding switches_in
 jump_rule-requires c =

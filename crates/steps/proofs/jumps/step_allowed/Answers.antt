@@ -1,8 +1,7 @@
 -- The state after the step, then its rule. Assumes nothing.
-use mathlib.Core.Bool.{not}
 use mathlib.Core.Path.{◌≡◌, sym, ap, ◌∙◌, subst}
 use mathlib.Core.List.{List}
-use Prim.Native.Nat.{ℕ, ◌*◌, ◌-◌, ◌≤◌}
+use Prim.Native.Nat.{ℕ, ◌-◌, ◌≤◌}
 use native.Mathlib.Omega.{arith}
 use borrow.Author.Rules.{rules}
 use lib.IntN.{ℤ}
@@ -13,8 +12,6 @@ use Rattle.models.specs.Index.{entry, model_from}
 use Rattle.rules.specs.Runs as runs
 use Rattle.papers.specs.Standing.{KnownModes}
 use Rattle.papers.proofs.StandingLaws.{invariant-good}
-use Rattle.rules.proofs.ListFacts.{test-failed, test-passed}
-use Rattle.second_sheets.proofs.RunLaws.{kept_same}
 use Rattle.steps.specs.Held.{SmallPoint, state_in, step_with, mode_holds}
 use Rattle.steps.proofs.SliceLaws.{part-rest, small-after, small-point}
 use Rattle.steps.proofs.StandLaws.{stands-in}
@@ -54,11 +51,16 @@ point-is c =
     let state = c.args.state.now in
     part-rest c.number_at-n.result state ∙ ap (λ (k : ℕ). drop k state) c.number_at-n.ensures
 
-pub modes_hold-requires : goal.modes_hold-requires
-modes_hold-requires c =
+pub modes_hold-requires-clause-model_len_bound : goal.modes_hold-requires-clause-model_len_bound
+modes_hold-requires-clause-model_len_bound c =
     let a = c.args in
     let w = c.requires.located.0 in
-    let n = entry a.index.now 0 in record { model_len_bound = (w.short, (w.good.few, (omega arith, invariant-good a.model.now a.index.now a.targets w.good (known (goal.at.modes_hold-requires c).Start)))); small_point = (subst (SmallPoint n) (sym (point-is (goal.at.modes_hold-requires c).After-number_at-n)) (small-point (small-after c.requires.small_state.0.values) (omega (arith, w.good.most))), c.requires.small_state.1) }
+    (w.short, (w.good.few, (omega arith, invariant-good a.model.now a.index.now a.targets w.good (known (goal.at.modes_hold-requires-clause-model_len_bound c).Start))))
+
+pub modes_hold-requires-clause-small_point : goal.modes_hold-requires-clause-small_point
+modes_hold-requires-clause-small_point c =
+    let n = entry c.args.index.now 0 in
+    (subst (SmallPoint n) (sym (point-is (goal.at.modes_hold-requires-clause-small_point c).After-number_at-n)) (small-point (small-after c.requires.small_state.0.values) (omega (arith, c.requires.located.0.good.most))), c.requires.small_state.1)
 
 -- the first test is that of an admissible state
 admissible-is : (c : After-modes_hold) → c.modes_hold.result ≡ runs.admissible (model_from c.args.model.now c.args.index.now) c.args.q (state_in c.args.model.now c.args.index.now c.args.targets (drop (entry c.args.index.now 0) c.args.state.now))
@@ -72,18 +74,21 @@ admissible-is c =
     ∙ ap (λ (xs : List ℤ). every (mode_holds model index a.targets 3 a.q xs) (count_up 0 (entry index 1))) (point-is (goal.at.After-modes_hold c).After-number_at-n)
     ∙ admissible-told w.good _ a.targets (stands-in a.targets w.good (known (goal.at.After-modes_hold c).Start) broad) broad a.q (drop (entry index 0) a.state.now) (small-after c.requires.small_state.0.values).long
 
-pub returns-then-not-modes_hold : goal.returns-then-not-modes_hold
-returns-then-not-modes_hold c =
+pub returns-then-modes_hold-clause-value : goal.returns-then-modes_hold-clause-value
+returns-then-modes_hold-clause-value c =
     let a = c.args in
     let model = a.model.now in
     let index = a.index.now in
     let state = a.state.now in
-    let n = entry index 0 in record { value = step-inadmissible (model_from model index) a.q (state_in model index a.modes state) (step_with index a.by state) (state_in model index a.targets (drop n state)) (leads (goal.at.returns-then-not-modes_hold c).Start) (test-failed c.modes_hold.result (ap not c.if-not-modes_hold.true) (admissible-is (goal.at.returns-then-not-modes_hold c).After-modes_hold)); kept_values = kept_same (2 * n) (3 * n) state }
+    let rule = c.rule_met in
+    step-by-rule (model_from model index) a.q (state_in model index a.modes state) (step_with index a.by state) (state_in model index a.targets (drop (entry index 0) state)) (leads (goal.at.returns-then-modes_hold-clause-value c).Start) rule.result (sym c.if-modes_hold.true ∙ admissible-is (goal.at.returns-then-modes_hold-clause-value c).After-modes_hold) rule.ensures.value
 
-pub returns : goal.returns
-returns c =
+pub returns-else-modes_hold-clause-value : goal.returns-else-modes_hold-clause-value
+returns-else-modes_hold-clause-value c =
     let a = c.args in
     let model = a.model.now in
     let index = a.index.now in
     let state = a.state.now in
-    let rule = c.rule_met in record { value = step-by-rule (model_from model index) a.q (state_in model index a.modes state) (step_with index a.by state) (state_in model index a.targets (drop (entry index 0) state)) (leads (goal.at.returns c).Start) rule.result (test-passed c.modes_hold.result (ap not c.if-not-modes_hold.false) (admissible-is (goal.at.returns c).After-modes_hold)) rule.ensures.value; kept_values = rule.ensures.kept_values }
+    let lost = c.if-modes_hold.false in
+    lost
+    ∙ step-inadmissible (model_from model index) a.q (state_in model index a.modes state) (step_with index a.by state) (state_in model index a.targets (drop (entry index 0) state)) (leads (goal.at.returns-else-modes_hold-clause-value c).Start) (sym lost ∙ admissible-is (goal.at.returns-else-modes_hold-clause-value c).After-modes_hold)

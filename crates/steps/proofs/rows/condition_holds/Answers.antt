@@ -1,5 +1,5 @@
 -- Every row's test, at its place. Assumes nothing.
-use Rattle.std.proofs.Common.{rules, tests, ◌≡◌, ◌∙◌, ap, arith, ℕ, ◌*◌, ◌+◌, ◌≤◌, ◌<◌, length, subst, sym, refl, take, Bool}
+use Rattle.std.proofs.Common.{rules, tests, ◌∙◌, ap, arith, ℕ, ◌*◌, ◌+◌, ◌≤◌, ◌<◌, length, subst, sym, take, Bool}
 use Rattle.std.proofs.lemmas.Iterator.{serves_from_Range}
 use Rattle.formats.specs.Versions.{row_bytes}
 use Rattle.models.specs.Index.{entry}

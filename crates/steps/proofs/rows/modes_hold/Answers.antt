@@ -1,7 +1,7 @@
 -- Every component's test. Assumes nothing.
-use Rattle.std.proofs.Common.{rules, tests, ◌≡◌, ◌+◌, ◌<◌, ℕ, arith, slice_index_or}
+use Rattle.std.proofs.Common.{rules, tests, ◌<◌, arith}
 use Rattle.std.proofs.lemmas.Iterator.{serves_from_Range}
-use Rattle.models.specs.Index.{entry, component_place, mode_place, GoodSpan}
+use Rattle.models.specs.Index.{entry}
 use Rattle.steps.specs.Held.{mode_holds}
 use Rattle.steps.proofs.ValueLoops.{all-range}
 use Rattle.steps.proofs.ValueLaws.{point-for, mode-place, mode-span, mode-told}
@@ -12,8 +12,8 @@ all-requires-clause-callable c =
     let good = c.requires.model_len_bound.1.1 in
     serves_from_Range (λ x q k. search (rules, tests))
     (λ x low high.
-        let below : x < entry c.args.index.now 1 = omega (arith, high, c.number_at-components.ensures) in
-        search (rules, mode-place, mode-span, point-for))
+    let below : x < entry c.args.index.now 1 = omega (arith, high, c.number_at-components.ensures) in
+    search (rules, mode-place, mode-span, point-for))
 
 pub returns : goal.returns
 returns c =

@@ -3,17 +3,16 @@
 use mathlib.Core.Path.{◌≡◌, refl, ap, ◌∙◌}
 use Prim.Native.Nat.{ℕ, ◌*◌, ◌+◌}
 use native.Mathlib.Omega.{arith}
-use lib.IntN.{ℤ, pos, nat_abs, ◌+ℤ◌, ◌*ℤ◌, +ℤ_idl}
+use lib.IntN.{ℤ, pos, ◌+ℤ◌, ◌*ℤ◌, +ℤ_idl}
 use lib.ListN.{length, get_or}
 use mir.Syntax.{w64}
 use mir.Val.{to_z, of_z}
 use mir.Facts.{to_z-of_z}
-use mir.ValLaws.{to_z_pos}
 use mathlib.Core.Bool.{Bool}
 use Rattle.farkas.specs.Rows.{item, dot, compared}
 use Rattle.formats.proofs.Versions.{numbers-within}
 use Rattle.fields.specs.Places.{signed_at, numbers_at}
-use Rattle.steps.proofs.ValueLaws.{dot-goes-on, sum_room, sum-grows, bound-room, row-compared}
+use Rattle.steps.proofs.ValueLaws.{dot-goes-on, sum_room, sum-grows, row-compared}
 use Rattle.steps.proofs.rows.row_holds.Goals.{After-multiply_add-bound, After-multiply_add-sum}
 use Rattle.steps.proofs.rows.row_holds.Goals as goal
 

@@ -4,11 +4,11 @@ use mathlib.Core.List.{List}
 use Prim.Native.Nat.{ℕ, ◌+◌, ◌*◌, ◌^◌, ◌<◌, ◌≤◌}
 use native.Mathlib.Omega.{arith}
 use lib.IntN.{ℤ, pos, nat_abs, ◌-ℤ◌}
-use lib.ListN.{length, get_or, set}
+use lib.ListN.{get_or, set}
 use mir.Syntax.{w64}
 use mir.Val.{to_z, of_z}
 use Rattle.farkas.specs.Rows.{item}
-use Rattle.steps.proofs.SliceLaws.{difference-fits, difference-read, changes-none, changes-more, changes-length, changes-apart, changes-all}
+use Rattle.steps.proofs.SliceLaws.{difference-fits, difference-read, changes-more, changes-apart}
 use Rattle.steps.proofs.values.changes_into.Goals.{At-loop-i}
 use Rattle.steps.proofs.values.changes_into.Goals as goal
 
@@ -37,4 +37,3 @@ loop-i-preserved c =
     let change : to_z w64 (of_z w64 (to_z w64 (of_z w64 x) -ℤ to_z w64 (of_z w64 y))) ≡ get_or old (n + i) (pos 0) -ℤ get_or old i (pos 0) =
     difference-read x y (small (goal.at.loop-i-preserved c).At-loop-i (n + i) (omega arith)) (small (goal.at.loop-i-preserved c).At-loop-i i (omega arith)) ∙ ap₂ (λ (v w : ℤ). v -ℤ w) (as_it_was (goal.at.loop-i-preserved c).At-loop-i (n + i) (omega arith)) (as_it_was (goal.at.loop-i-preserved c).At-loop-i i (omega arith)) in
     ap₂ (λ (xs : List ℤ) (v : ℤ). set xs (2 * n + i) v) c.loop-i.invariant change ∙ changes-more n old c.requires.1 i c.loop-i-test.true
-

@@ -13,10 +13,9 @@ use Rattle.farkas.specs.Lists.{every}
 use Rattle.formats.specs.Joint.{count_up}
 use Rattle.models.specs.Index.{model_from, entry}
 use Rattle.rules.specs.Runs as runs
-use Rattle.steps.specs.Held.{SmallValues, SmallPoint, state_in, values_after, with_changes, mode_holds, same_at, kept_at}
+use Rattle.steps.specs.Held.{SmallPoint, state_in, values_after, with_changes, mode_holds, same_at, kept_at}
 use Rattle.steps.proofs.ValueLaws.{flow-fails, flow-drifts, flow-lasts, flow-stands}
 use Rattle.papers.specs.Blanks.{still_at}
-use Rattle.papers.proofs.StandingLaws.{flow-good}
 use Rattle.steps.proofs.SliceLaws.{part-rest, changes-small}
 use Rattle.steps.proofs.StandLaws.{stands-in}
 use Rattle.steps.proofs.ValueStates.{changes-same, changes-kept, flow-told}
@@ -76,7 +75,7 @@ blanks-are c r e =
 passed : (c : Then-still_kept) → (c.modes_hold.result ≡ true) × (blanks (goal.at.Then-still_kept c).Start ≡ true)
 passed c =
     elim c.if-modes_hold.branch [
-      then-modes_hold w ↦ (w.if-modes_hold.true, sym (blanks-are (goal.at.Then-still_kept c).After-changes_into w.still_kept.result w.still_kept.ensures) ∙ sym w.value-is ∙ c.if-still_kept.true)
+      | then-modes_hold w ↦ (w.if-modes_hold.true, sym (blanks-are (goal.at.Then-still_kept c).After-changes_into w.still_kept.result w.still_kept.ensures) ∙ sym w.value-is ∙ c.if-still_kept.true)
       | else-modes_hold w ↦ absurd (true≢false (sym c.if-still_kept.true ∙ w.value-is ∙ w.if-modes_hold.false))
     ]
 
@@ -109,7 +108,7 @@ returns-else-still_kept-clause-value c =
     let lost = c.if-still_kept.false in
     lost
     ∙ elim c.if-modes_hold.branch [
-      then-modes_hold w ↦ flow-drifts c.modes_hold.result (blanks start) (eqb c.args.time 0) (still start) w.if-modes_hold.true (sym (blanks-are (goal.at.returns-else-still_kept-clause-value c).After-changes_into w.still_kept.result w.still_kept.ensures) ∙ sym w.value-is ∙ lost)
+      | then-modes_hold w ↦ flow-drifts c.modes_hold.result (blanks start) (eqb c.args.time 0) (still start) w.if-modes_hold.true (sym (blanks-are (goal.at.returns-else-still_kept-clause-value c).After-changes_into w.still_kept.result w.still_kept.ensures) ∙ sym w.value-is ∙ lost)
       | else-modes_hold w ↦ flow-fails c.modes_hold.result (blanks start) (eqb c.args.time 0) (still start) w.if-modes_hold.false
     ]
     ∙ rule-is after (blanks start) (still start) refl refl

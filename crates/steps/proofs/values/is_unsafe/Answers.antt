@@ -4,7 +4,6 @@ use Prim.Native.Nat.{◌≤◌}
 use native.Mathlib.Omega.{arith}
 use borrow.Author.Rules.{rules}
 use borrow.Author.Tests.{tests}
-use Rattle.std.proofs.lemmas.Iterator.{serves_from_Range}
 use lib.ListN.{length}
 use Rattle.farkas.specs.Lists.{some}
 use Rattle.formats.specs.Joint.{count_up}
@@ -12,7 +11,6 @@ use Rattle.models.specs.Index.{model_from, entry}
 use Rattle.rules.specs.Runs as runs
 use Rattle.steps.specs.Held.{state_in, unsafe_at}
 use Rattle.steps.proofs.ValueLoops.{any-range}
-use Rattle.steps.proofs.SliceLaws.{small-point}
 use Rattle.steps.proofs.StandLaws.{stands-in}
 use Rattle.steps.proofs.ValueStates.{unsafe-told}
 use Rattle.steps.proofs.values.is_unsafe.Goals.{Start}
@@ -27,9 +25,6 @@ whole_is c =
     let w = c.requires.located in
     let long : entry c.args.index.now 1 ≤ length c.args.modes = omega (arith, modes-length c, w.good.few) in
     unsafe-told w.good _ c.args.modes (stands-in c.args.modes w.good w.known long) long c.args.q c.args.state.now c.requires.small_values.0.long
-
-pub any-requires-clause-callable : goal.any-requires-clause-callable
-any-requires-clause-callable c = serves_from_Range (λ x q k. search (rules, tests)) (λ x low high. search (rules, small-point))
 
 pub returns : goal.returns
 returns c =

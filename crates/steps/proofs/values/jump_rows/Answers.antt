@@ -1,6 +1,6 @@
 -- Every component's test. Assumes nothing.
 use mathlib.Core.Path.{◌≡◌, ◌∙◌}
-use Prim.Native.Nat.{ℕ, ◌≤◌, ◌<◌}
+use Prim.Native.Nat.{ℕ, ◌≤◌}
 use native.Mathlib.Omega.{arith}
 use borrow.Author.Rules.{rules}
 use borrow.Author.Tests.{tests}
@@ -12,7 +12,6 @@ use Rattle.models.specs.Counts.{per_component}
 use Rattle.rules.specs.Runs as runs
 use Rattle.steps.specs.Held.{state_of, values_after, move_at}
 use Rattle.steps.proofs.ValueLoops.{all-range}
-use Rattle.steps.proofs.SliceLaws.{small-point}
 use Rattle.steps.proofs.ValueStates.{jump-told}
 use Rattle.steps.proofs.values.jump_rows.Goals.{Start}
 use Rattle.steps.proofs.values.jump_rows.Goals as goal

@@ -2,7 +2,6 @@
 use mathlib.Core.Path.{◌≡◌, refl, ap}
 use mathlib.Core.Bool.{false}
 use Prim.Native.Nat.{ℕ, ◌+◌, ◌*◌, ◌<◌}
-use native.Mathlib.Omega.{arith}
 use borrow.Author.Tests.{eq-eqb, ne_eqb}
 use lib.Dec.{eqb}
 use Rattle.formats.specs.Joint.{stays}
@@ -29,12 +28,6 @@ known c = c.requires.k_bound.1 (moves c)
 room : (c : After-switch_place-place) → c.switch_place-place.result + 1 < 1004
 room c =
     switch-place c.requires.good_index.0 (entry c.args.index.now 0) c.args.k c.args.i c.switch_place-place.result c.requires.k_bound.0 (known (goal.at.After-switch_place-place c).Else-i-eq255) refl c.switch_place-place.ensures
-
-pub switch_place-place-requires : goal.switch_place-place-requires
-switch_place-place-requires c = omega (arith, c.requires.k_bound.0, c.requires.good_index.0.few)
-
-pub overflow_mul-number_at : goal.overflow_mul-number_at
-overflow_mul-number_at c = omega (arith, c.number_at.ensures, c.requires.good_index.0.most)
 
 pub condition_holds-requires : goal.condition_holds-requires
 condition_holds-requires c =

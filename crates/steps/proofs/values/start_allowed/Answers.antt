@@ -1,5 +1,5 @@
 -- Invariants, start modes, initial rows, by the first that fails. Assumes nothing.
-use mathlib.Core.Path.{◌≡◌, refl, sym, ap, ◌∙◌}
+use mathlib.Core.Path.{◌≡◌, refl, sym, ◌∙◌}
 use mathlib.Core.Bool.{Bool, ◌&&◌, true≢false}
 use lib.Dec.{eqb}
 use Rattle.farkas.specs.Lists.{every}
@@ -14,10 +14,8 @@ use Rattle.models.specs.Counts.{per_component}
 use Rattle.rules.specs.Runs as runs
 use Rattle.rules.specs.Runs.{present}
 use Rattle.papers.specs.Standing.{Stands}
-use Rattle.papers.proofs.StandingLaws.{initial-good, invariant-good}
 use Rattle.steps.specs.Held.{state_in, mode_holds}
 use Rattle.steps.proofs.ValueLaws.{third-fails, third-left}
-use Rattle.steps.proofs.SliceLaws.{small-point}
 use Rattle.steps.proofs.StandLaws.{stands-in}
 use Rattle.steps.proofs.ValueStates.{admissible-told, start-told, start-refused}
 use Rattle.steps.proofs.values.start_allowed.Goals.{After-modes_hold, Start, then-modes_hold, else-modes_hold}
@@ -48,13 +46,13 @@ pub returns-then-all_start : goal.returns-then-all_start
 returns-then-all_start c =
     let last = c.modes_hold-then-all_start in
     elim c.if-modes_hold.branch [
-      then-modes_hold w ↦ third-left c.modes_hold.result w.all_start.result last.result w.if-modes_hold.true (sym w.value-is ∙ c.if-all_start.true) ∙ told (goal.at.returns-then-all_start c).After-modes_hold w.all_start.result last.result w.all_start.ensures last.ensures
+      | then-modes_hold w ↦ third-left c.modes_hold.result w.all_start.result last.result w.if-modes_hold.true (sym w.value-is ∙ c.if-all_start.true) ∙ told (goal.at.returns-then-all_start c).After-modes_hold w.all_start.result last.result w.all_start.ensures last.ensures
       | else-modes_hold w ↦ absurd (true≢false (sym c.if-all_start.true ∙ w.value-is ∙ w.if-modes_hold.false))
     ]
 
 pub returns-else-all_start : goal.returns-else-all_start
 returns-else-all_start c =
     elim c.if-modes_hold.branch [
-      then-modes_hold w ↦ c.if-all_start.false ∙ third-fails c.modes_hold.result w.all_start.result _ w.if-modes_hold.true (sym w.value-is ∙ c.if-all_start.false) ∙ told (goal.at.returns-else-all_start c).After-modes_hold w.all_start.result _ w.all_start.ensures refl
+      | then-modes_hold w ↦ c.if-all_start.false ∙ third-fails c.modes_hold.result w.all_start.result _ w.if-modes_hold.true (sym w.value-is ∙ c.if-all_start.false) ∙ told (goal.at.returns-else-all_start c).After-modes_hold w.all_start.result _ w.all_start.ensures refl
       | else-modes_hold w ↦ c.if-all_start.false ∙ start-refused _ c.args.q _ c.modes_hold.result (admissible-is (goal.at.returns-else-all_start c).After-modes_hold) w.if-modes_hold.false
     ]

@@ -12,7 +12,6 @@ use Rattle.formats.specs.Versions.{keeps_blanks}
 use Rattle.models.specs.Index.{model_from, entry}
 use Rattle.models.specs.Counts.{per_component}
 use Rattle.papers.specs.Blanks.{rests_at, stays_at, KnownIn, keeps_at}
-use Rattle.papers.proofs.BlankLaws.{owners-known}
 use Rattle.rules.specs.Runs as runs
 use Rattle.steps.specs.Held.{state_of, values_after, kept_at}
 use Rattle.steps.proofs.ValueStates.{owned-all, staying-told}

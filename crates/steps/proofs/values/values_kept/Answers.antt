@@ -1,7 +1,7 @@
 -- The variables that are left keep their values exactly when all do. Assumes nothing.
 use mathlib.Core.Path.{◌≡◌, refl, sym, ap, ◌∙◌}
-use mathlib.Core.Bool.{Bool, true, false, not}
-use Prim.Native.Nat.{ℕ, ◌-◌}
+use mathlib.Core.Bool.{true, false, not}
+use Prim.Native.Nat.{ℕ}
 use native.Mathlib.Omega.{arith}
 use Rattle.farkas.specs.Lists.{every}
 use Rattle.formats.specs.Joint.{count_up}
@@ -28,7 +28,7 @@ loop-v-preserved g c = λ test told.
     let f = kept_at test n state in
     let same = c.same_value in
     let passed : true ≡ f l.v = elim c.else-not-same_value.branch [
-      else-not-same_value-via-then-not-same_value+else-keeps w ↦ ap not (sym w.if-keeps.false) ∙ kept-changed test n state l.v same.result w.keeps.result same.ensures w.if-not-same_value.true (told _ _ w.keeps.ensures)
+      | else-not-same_value-via-then-not-same_value+else-keeps w ↦ ap not (sym w.if-keeps.false) ∙ kept-changed test n state l.v same.result w.keeps.result same.ensures w.if-not-same_value.true (told _ _ w.keeps.ensures)
       | else-not-same_value-via-else-not-same_value w ↦ kept_same test n state l.v same.result same.ensures w.if-not-same_value.false
     ] in
     each-pass f n l.v (every f (count_up 0 n)) true c.loop-v-test.true passed refl (l.invariant test told)
