@@ -5,6 +5,7 @@ use Rattle.formats.specs.Reading.{got, refused, Got}
 use Rattle.formats.specs.Rows.{Condition}
 use Rattle.formats.specs.Locations.{location_count}
 use Rattle.formats.specs.Joint.{joints, JointSwitch}
+use Rattle.papers.specs.declared.Paper as declared
 use Rattle.models.specs.Index.{version_in, entry, components_from, GoodIndex, model_from}
 use Rattle.joint_switches.specs.Counted.{Counted}
 use Rattle.second_sheets.specs.CertificateAnswers.{regions_from, GoodRegions}
@@ -46,3 +47,13 @@ jumps_obligations_for model index second regions = jumps_obligations (model_from
 unfoldable pub held_next : {A : Type 0} → Got A → Got (Unit {0})
 held_next (got a p) = got tt p
 held_next (refused number place) = refused number place
+
+-- what is said of a paper's sheets, said of the paper as the code hands it on: a value, or a fact
+abbrev pub of_paper : {A : Type 0} → (List ℕ → List ℕ → List ℕ → List ℕ → A) → declared.Paper → A
+of_paper f p = f p.model.now p.index.now p.second.now p.regions.now
+
+abbrev pub on_paper : {A : Type 1} → (List ℕ → List ℕ → List ℕ → List ℕ → A) → declared.Paper → A
+on_paper f p = f p.model.now p.index.now p.second.now p.regions.now
+
+abbrev pub PaperRead : declared.Paper → Type 0
+PaperRead p = on_paper GoodPaper p

@@ -7,3 +7,15 @@ pub mod blanks;
 pub mod opening;
 pub mod regions;
 pub mod standing;
+
+use models::layout::Index;
+use second_sheets::ranges::Regions;
+
+// A certificate's paper once its sheets are read: the model and its index, the second sheet and its regions.
+#[derive(Clone, Copy)]
+pub struct Paper<'a> {
+    pub model: &'a [u8],
+    pub index: &'a Index,
+    pub second: &'a [u8],
+    pub regions: &'a Regions,
+}

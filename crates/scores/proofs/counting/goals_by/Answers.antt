@@ -16,9 +16,9 @@ unfolding sum_over count_up
 loop-location-init c = refl
 
 -- the modes are those of the location
-here : (c : After-modes_at-modes) → Stands c.args.model.now c.args.index.now c.loop-location.location c.modes_at-modes.result
+here : (c : After-modes_at-modes) → Stands c.args.paper.model.now c.args.paper.index.now c.loop-location.location c.modes_at-modes.result
 here c =
-    stands_at_lem c.args.model.now c.args.index.now c.loop-location.location c.modes_at-modes.result _ c.requires.good_paper.0.good (omega arith) c.modes_at-modes.ensures
+    stands_at_lem c.args.paper.model.now c.args.paper.index.now c.loop-location.location c.modes_at-modes.result _ c.requires.good_paper.0.good (omega arith) c.modes_at-modes.ensures
 
 pub goals_here-here-requires-clause-stands : goal.goals_here-here-requires-clause-stands
 goals_here-here-requires-clause-stands c = here (goal.at.goals_here-here-requires-clause-stands c).After-modes_at-modes
@@ -28,12 +28,12 @@ goals_into-requires-clause-stands c =
     (here (goal.at.goals_into-requires-clause-stands c).After-modes_at-modes, c.requires.good_paper.1)
 
 -- a turn, and that the sum is small
-next : (c : After-goals_into) → c.loop-location.count + (c.goals_here-here.result + c.goals_into.result) ≡ sum_over (goals_for c.args.model.now c.args.index.now c.args.second.now c.args.regions.now) (count_up 0 (c.loop-location.location + 1))
+next : (c : After-goals_into) → c.loop-location.count + (c.goals_here-here.result + c.goals_into.result) ≡ sum_over (goals_for c.args.paper.model.now c.args.paper.index.now c.args.paper.second.now c.args.paper.regions.now) (count_up 0 (c.loop-location.location + 1))
 next c =
     let a = c.args in
     let l = c.loop-location in
-    sum-next (goals_for a.model.now a.index.now a.second.now a.regions.now) l.location _ l.count
-    (goals-sum a.model.now a.index.now a.second.now a.regions.now l.location c.goals_here-here.result c.goals_into.result c.goals_here-here.ensures c.goals_into.ensures)
+    sum-next (goals_for a.paper.model.now a.paper.index.now a.paper.second.now a.paper.regions.now) l.location _ l.count
+    (goals-sum a.paper.model.now a.paper.index.now a.paper.second.now a.paper.regions.now l.location c.goals_here-here.result c.goals_into.result c.goals_here-here.ensures c.goals_into.ensures)
     l.invariant
 
 pub overflow_add-count : goal.overflow_add-count
@@ -55,5 +55,5 @@ returns c =
     let l = c.loop-location in
     let whole : l.location ≡ a.locations = omega arith in
     l.invariant
-    ∙ ap (λ (n : ℕ). sum_over (goals_for a.model.now a.index.now a.second.now a.regions.now) (count_up 0 n)) whole
-    ∙ goals-all a.second.now a.regions.now c.requires.good_paper.0.good a.locations c.requires.locations_value.0
+    ∙ ap (λ (n : ℕ). sum_over (goals_for a.paper.model.now a.paper.index.now a.paper.second.now a.paper.regions.now) (count_up 0 n)) whole
+    ∙ goals-all a.paper.second.now a.paper.regions.now c.requires.good_paper.0.good a.locations c.requires.locations_value.0

@@ -5,4 +5,4 @@ use Rattle.scores.proofs.CountGoals.{goals_for}
 use Rattle.scores.proofs.counting.goals_by.Given as goal
 
 abbrev pub invariant-loop-location : goal.invariant-loop-location
-invariant-loop-location l = l.count ≡ sum_over (goals_for l.model l.index l.second l.regions) (count_up 0 l.location)
+invariant-loop-location l = l.count ≡ sum_over (goals_for l.paper.model.now l.paper.index.now l.paper.second.now l.paper.regions.now) (count_up 0 l.location)

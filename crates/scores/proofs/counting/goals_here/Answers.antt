@@ -12,11 +12,11 @@ use Rattle.scores.proofs.counting.goals_here.Goals.{After-from-starts}
 use Rattle.scores.proofs.counting.goals_here.Goals as goal
 
 -- the sum, and that it is small
-sum : (c : After-from-starts) → c.from-starts.result * c.region_rows-rows.result + (c.region_rows-rows.result + c.fitting_count-fitting.result) ≡ length (location_obligations (model_from c.args.model.now c.args.index.now) (regions_of c.args.model.now c.args.index.now c.args.second.now c.args.regions.now) c.args.location)
+sum : (c : After-from-starts) → c.from-starts.result * c.region_rows-rows.result + (c.region_rows-rows.result + c.fitting_count-fitting.result) ≡ length (location_obligations (model_from c.args.paper.model.now c.args.paper.index.now) (regions_of c.args.paper.model.now c.args.paper.index.now c.args.paper.second.now c.args.paper.regions.now) c.args.location)
 unfolding bit
 sum c =
     let a = c.args in
-    location-sum a.model.now a.index.now a.second.now a.regions.now a.location a.modes c.requires.stands.here _ _ _ c.all_start.ensures c.from-starts.ensures c.region_rows-rows.ensures c.fitting_count-fitting.ensures
+    location-sum a.paper.model.now a.paper.index.now a.paper.second.now a.paper.regions.now a.location a.modes c.requires.stands.here _ _ _ c.all_start.ensures c.from-starts.ensures c.region_rows-rows.ensures c.fitting_count-fitting.ensures
 
 pub overflow_add-result : goal.overflow_add-result
 overflow_add-result c = omega (arith, sum c, location-few c.requires.good_paper c.args.location)

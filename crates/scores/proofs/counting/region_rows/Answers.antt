@@ -5,4 +5,4 @@ use Rattle.scores.proofs.counting.region_rows.Goals as goal
 
 pub returns : goal.returns
 returns c =
-    c.region_rows.ensures ∙ sym (region-length c.args.model.now c.args.index.now c.args.second.now c.args.regions.now c.args.location c.requires.location_bound)
+    c.region_rows.ensures ∙ sym (region-length c.args.paper.model.now c.args.paper.index.now c.args.paper.second.now c.args.paper.regions.now c.args.location c.requires.location_bound)
