@@ -6,7 +6,7 @@ ghost use Rattle.models.specs.Counts.{per_component, KnownSwitches};
 ghost use Rattle.hypotheses.specs.Tables.{segment, Stacked, lines_in, Onto};
 ghost use Rattle.hypotheses.specs.Listing.{here_lines, start_lines, still_lines, flow_lines, unsafe_lines, landing_lines, tasks_of, GoodGroup, empty_group, region_group, group_tasks_for, jump_tasks_for, HereIn};
 ghost use Rattle.papers.specs.Standing.{KnownModes, Stands};
-ghost use Rattle.papers.specs.Paper.{GoodPaper};
+ghost use Rattle.papers.specs.Paper.{PaperRead, of_paper};
 
 use crate::Group;
 use crate::tables::{lines, push, push_kept, push_modes, push_staying, push_still, push_switches};
@@ -16,10 +16,10 @@ use models::layout::{
     FIRST_UNSAFE, FLOW_AT, INITIAL_AT, INVARIANT_AT, Index, UNSAFE_LENGTH, UNSAFE_ROWS_AT,
     VARIABLES_AT,
 };
+use papers::Paper;
 use papers::opening::version_of;
 use papers::regions::region_rows;
 use papers::standing::{all_start, modes_fit};
-use second_sheets::ranges::Regions;
 
 // The forms of hypotheses that are pushed here, as specs/Tables.antt has them.
 const INITIAL_FORM: u16 = 0;
@@ -40,21 +40,14 @@ const TIME_FORM: u16 = 6;
 const NO_OWNER: u16 = 0;
 
 // A location's region and invariants, on x.
-pub fn push_here(
-    model: &[u8],
-    index: &Index,
-    second: &[u8],
-    regions: &Regions,
-    location: u32,
-    modes: [u8; 4],
-    table: &mut [u16],
-) -> usize
-    requires good_paper { GoodPaper model.now index.now second.now regions.now }
-    requires location_bound { (location < location_count (components_from model.now index.now)) × KnownModes index.now modes }
+pub fn push_here(paper: Paper, location: u32, modes: [u8; 4], table: &mut [u16]) -> usize
+    requires good_paper { PaperRead paper }
+    requires location_bound { (location < location_count (components_from paper.model.now paper.index.now)) × KnownModes paper.index.now modes }
     requires in_bounds { (96 ≤ length table.old) × Stacked table.old 0 }
-    ensures result_after { lines_in table.new result ≡ lines_in table.old 0 ++ (here_lines index.now regions.now location (per_component index.now modes)) }
+    ensures result_after { lines_in table.new result ≡ lines_in table.old 0 ++ (here_lines paper.entry.index.now paper.entry.regions.now location (per_component paper.entry.index.now modes)) }
     ensures onto { Onto table.old 0 5 table.new result }
 {
+    let regions = paper.regions;
     let at = push_kept(
         regions,
         2 * (location as usize),
@@ -63,7 +56,7 @@ pub fn push_here(
         table,
         0,
     );
-    push_modes(index, modes, INVARIANT_AT, INVARIANT_FORM, table, at)
+    push_modes(paper.index, modes, INVARIANT_AT, INVARIANT_FORM, table, at)
 }
 
 // The table of a start: initial rows, invariants.
@@ -89,45 +82,35 @@ fn push_time(model: &[u8], index: &Index, modes: [u8; 4], table: &mut [u16], at:
 }
 
 // The table of a flow: region and invariants on x, invariants on x', flow rows, the time, and the rows of variables that keep their value.
-pub fn flow_table(
-    model: &[u8],
-    index: &Index,
-    second: &[u8],
-    regions: &Regions,
-    location: u32,
-    modes: [u8; 4],
-    table: &mut [u16],
-) -> usize
-    requires good_paper { GoodPaper model.now index.now second.now regions.now }
-    requires location_bound { (location < location_count (components_from model.now index.now)) × KnownModes index.now modes }
+pub fn flow_table(paper: Paper, location: u32, modes: [u8; 4], table: &mut [u16]) -> usize
+    requires good_paper { PaperRead paper }
+    requires location_bound { (location < location_count (components_from paper.model.now paper.index.now)) × KnownModes paper.index.now modes }
     requires in_bounds { (96 ≤ length table.old) × Stacked table.old 0 }
-    ensures result_after { lines_in table.new result ≡ lines_in table.old 0 ++ (flow_lines model.now index.now regions.now location modes) }
+    ensures result_after { lines_in table.new result ≡ lines_in table.old 0 ++ (flow_lines paper.entry.model.now paper.entry.index.now paper.entry.regions.now location modes) }
     ensures onto { Onto table.old 0 22 table.new result }
 {
-    let here = push_here(model, index, second, regions, location, modes, table);
-    let after = push_modes(index, modes, INVARIANT_AT, NEXT_FORM, table, here);
-    let rates = push_modes(index, modes, FLOW_AT, RATE_FORM, table, after);
-    push_time(model, index, modes, table, rates)
+    let here = push_here(paper, location, modes, table);
+    let after = push_modes(paper.index, modes, INVARIANT_AT, NEXT_FORM, table, here);
+    let rates = push_modes(paper.index, modes, FLOW_AT, RATE_FORM, table, after);
+    push_time(paper.model, paper.index, modes, table, rates)
 }
 
 // The table of an unsafe condition: region, invariants, unsafe rows.
 pub fn unsafe_table(
-    model: &[u8],
-    index: &Index,
-    second: &[u8],
-    regions: &Regions,
+    paper: Paper,
     location: u32,
     modes: [u8; 4],
     u: usize,
     table: &mut [u16],
 ) -> usize
-    requires good_paper { GoodPaper model.now index.now second.now regions.now }
-    requires location_bound { (location < location_count (components_from model.now index.now)) × KnownModes index.now modes }
-    requires u_bound { (u < conditions_in index.now) × ((96 ≤ length table.old) × Stacked table.old 0) }
-    ensures result_after { lines_in table.new result ≡ lines_in table.old 0 ++ (unsafe_lines index.now regions.now location (per_component index.now modes) u) }
+    requires good_paper { PaperRead paper }
+    requires location_bound { (location < location_count (components_from paper.model.now paper.index.now)) × KnownModes paper.index.now modes }
+    requires u_bound { (u < conditions_in paper.index.now) × ((96 ≤ length table.old) × Stacked table.old 0) }
+    ensures result_after { lines_in table.new result ≡ lines_in table.old 0 ++ (unsafe_lines paper.entry.index.now paper.entry.regions.now location (per_component paper.entry.index.now modes) u) }
     ensures onto { Onto table.old 0 6 table.new result }
 {
-    let here = push_here(model, index, second, regions, location, modes, table);
+    let index = paper.index;
+    let here = push_here(paper, location, modes, table);
     push_kept(
         index,
         FIRST_UNSAFE + UNSAFE_LENGTH * u + UNSAFE_ROWS_AT,
@@ -206,27 +189,21 @@ fn region_group(
 
 // The proofs from the start of a location, where all its modes are start modes. Where its region has no rows there is nothing to prove,
 // and no table is built.
-fn start_group(
-    model: &[u8],
-    index: &Index,
-    second: &[u8],
-    regions: &Regions,
-    location: u32,
-    modes: [u8; 4],
-    table: &mut [u16],
-) -> Group
-    requires good_paper { GoodPaper model.now index.now second.now regions.now }
-    requires stands { Stands model.now index.now location modes × ((96 ≤ length table.old) × Stacked table.old 0) }
-    ensures result_after { tasks_of model.now second.now (variables_in index.now) table.new result ≡ group_tasks_for model.now index.now second.now regions.now location 0 }
-    ensures good_group { GoodGroup model.now second.now (variables_in index.now) table.new result }
+fn start_group(paper: Paper, location: u32, modes: [u8; 4], table: &mut [u16]) -> Group
+    requires good_paper { PaperRead paper }
+    requires stands { Stands paper.model.now paper.index.now location modes × ((96 ≤ length table.old) × Stacked table.old 0) }
+    ensures result_after { tasks_of paper.entry.model.now paper.entry.second.now (variables_in paper.entry.index.now) table.new result ≡ of_paper group_tasks_for paper.entry location 0 }
+    ensures good_group { GoodGroup paper.entry.model.now paper.entry.second.now (variables_in paper.entry.index.now) table.new result }
 {
+    let index = paper.index;
+    let regions = paper.regions;
     if region_rows(regions, location) == 0 {
         return no_group();
     }
-    if !all_start(model, index, modes) {
+    if !all_start(paper.model, index, modes) {
         return no_group();
     }
-    let segments = start_table(model, index, modes, table);
+    let segments = start_table(paper.model, index, modes, table);
     region_group(
         index,
         regions,
@@ -239,50 +216,35 @@ fn start_group(
 }
 
 // The proofs after a flow in a location.
-fn flow_group(
-    model: &[u8],
-    index: &Index,
-    second: &[u8],
-    regions: &Regions,
-    location: u32,
-    modes: [u8; 4],
-    table: &mut [u16],
-) -> Group
-    requires good_paper { GoodPaper model.now index.now second.now regions.now }
-    requires stands { Stands model.now index.now location modes × ((96 ≤ length table.old) × Stacked table.old 0) }
-    ensures result_after { tasks_of model.now second.now (variables_in index.now) table.new result ≡ group_tasks_for model.now index.now second.now regions.now location 1 }
-    ensures good_group { GoodGroup model.now second.now (variables_in index.now) table.new result }
+fn flow_group(paper: Paper, location: u32, modes: [u8; 4], table: &mut [u16]) -> Group
+    requires good_paper { PaperRead paper }
+    requires stands { Stands paper.model.now paper.index.now location modes × ((96 ≤ length table.old) × Stacked table.old 0) }
+    ensures result_after { tasks_of paper.entry.model.now paper.entry.second.now (variables_in paper.entry.index.now) table.new result ≡ of_paper group_tasks_for paper.entry location 1 }
+    ensures good_group { GoodGroup paper.entry.model.now paper.entry.second.now (variables_in paper.entry.index.now) table.new result }
 {
+    let index = paper.index;
+    let regions = paper.regions;
     if region_rows(regions, location) == 0 {
         return no_group();
     }
-    let segments = flow_table(model, index, second, regions, location, modes, table);
+    let segments = flow_table(paper, location, modes, table);
     let n = usize::from(index[VARIABLES_AT]);
     region_group(index, regions, location, table, segments, n, n + n + 1)
 }
 
 // The proof that an unsafe condition is not met in a location, where the location's modes fit it.
-fn unsafe_group(
-    model: &[u8],
-    index: &Index,
-    second: &[u8],
-    regions: &Regions,
-    location: u32,
-    modes: [u8; 4],
-    u: usize,
-    table: &mut [u16],
-) -> Group
-    requires good_paper { GoodPaper model.now index.now second.now regions.now }
-    requires stands { Stands model.now index.now location modes × ((u < conditions_in index.now) × ((96 ≤ length table.old) × Stacked table.old 0)) }
-    ensures result_after { tasks_of model.now second.now (variables_in index.now) table.new result ≡ group_tasks_for model.now index.now second.now regions.now location (2 + u) }
-    ensures good_group { GoodGroup model.now second.now (variables_in index.now) table.new result }
+fn unsafe_group(paper: Paper, location: u32, modes: [u8; 4], u: usize, table: &mut [u16]) -> Group
+    requires good_paper { PaperRead paper }
+    requires stands { Stands paper.model.now paper.index.now location modes × ((u < conditions_in paper.index.now) × ((96 ≤ length table.old) × Stacked table.old 0)) }
+    ensures result_after { tasks_of paper.entry.model.now paper.entry.second.now (variables_in paper.entry.index.now) table.new result ≡ of_paper group_tasks_for paper.entry location (2 + u) }
+    ensures good_group { GoodGroup paper.entry.model.now paper.entry.second.now (variables_in paper.entry.index.now) table.new result }
 {
-    if !modes_fit(model, index, u, modes) {
+    if !modes_fit(paper.model, paper.index, u, modes) {
         return no_group();
     }
-    let segments = unsafe_table(model, index, second, regions, location, modes, u, table);
+    let segments = unsafe_table(paper, location, modes, u, table);
     let hypotheses = lines(table, segments);
-    let version = version_of(index);
+    let version = version_of(paper.index);
     Group {
         version,
         segments,
@@ -290,33 +252,24 @@ fn unsafe_group(
         goals: 1,
         from: 0,
         shift: 0,
-        width: usize::from(index[VARIABLES_AT]),
+        width: usize::from(paper.index[VARIABLES_AT]),
         zero: true,
     }
 }
 
 // A group of proofs of a location, by its number.
-pub fn group_at(
-    model: &[u8],
-    index: &Index,
-    second: &[u8],
-    regions: &Regions,
-    location: u32,
-    modes: [u8; 4],
-    g: u32,
-    table: &mut [u16],
-) -> Group
-    requires good_paper { GoodPaper model.now index.now second.now regions.now }
-    requires stands { Stands model.now index.now location modes × ((g < 2 + conditions_in index.now) × ((96 ≤ length table.old) × Stacked table.old 0)) }
-    ensures result_after { tasks_of model.now second.now (variables_in index.now) table.new result ≡ group_tasks_for model.now index.now second.now regions.now location g }
-    ensures good_group { GoodGroup model.now second.now (variables_in index.now) table.new result }
+pub fn group_at(paper: Paper, location: u32, modes: [u8; 4], g: u32, table: &mut [u16]) -> Group
+    requires good_paper { PaperRead paper }
+    requires stands { Stands paper.model.now paper.index.now location modes × ((g < 2 + conditions_in paper.index.now) × ((96 ≤ length table.old) × Stacked table.old 0)) }
+    ensures result_after { tasks_of paper.entry.model.now paper.entry.second.now (variables_in paper.entry.index.now) table.new result ≡ of_paper group_tasks_for paper.entry location g }
+    ensures good_group { GoodGroup paper.entry.model.now paper.entry.second.now (variables_in paper.entry.index.now) table.new result }
 {
     match g {
-        0 => start_group(model, index, second, regions, location, modes, table),
-        1 => flow_group(model, index, second, regions, location, modes, table),
+        0 => start_group(paper, location, modes, table),
+        1 => flow_group(paper, location, modes, table),
         _ => {
             let u = (g - 2) as usize;
-            unsafe_group(model, index, second, regions, location, modes, u, table)
+            unsafe_group(paper, location, modes, u, table)
         }
     }
 }
@@ -324,25 +277,24 @@ pub fn group_at(
 // The proofs after a joint switch from a location, by the region of its target: its table goes on from the location's segments, which
 // stay.
 pub fn jump_group(
-    model: &[u8],
-    index: &Index,
-    second: &[u8],
-    regions: &Regions,
+    paper: Paper,
     location: u32,
     landing: Landing,
     here: usize,
     table: &mut [u16],
 ) -> Group
-    requires good_paper { GoodPaper model.now index.now second.now regions.now }
-    requires target_bound { (landing.target < location_count (components_from model.now index.now)) × KnownSwitches index.now landing.switches }
-    requires in_bounds { (96 ≤ length table.old) × HereIn model.now index.now regions.now location here table.old }
-    ensures result_after { tasks_of model.now second.now (variables_in index.now) table.new result ≡ jump_tasks_for model.now index.now second.now regions.now location (per_component index.now landing.switches) landing.target }
-    ensures good_group { GoodGroup model.now second.now (variables_in index.now) table.new result }
+    requires good_paper { PaperRead paper }
+    requires target_bound { (landing.target < location_count (components_from paper.model.now paper.index.now)) × KnownSwitches paper.index.now landing.switches }
+    requires in_bounds { (96 ≤ length table.old) × HereIn paper.model.now paper.index.now paper.regions.now location here table.old }
+    ensures result_after { tasks_of paper.entry.model.now paper.entry.second.now (variables_in paper.entry.index.now) table.new result ≡ of_paper jump_tasks_for paper.entry location (per_component paper.entry.index.now landing.switches) landing.target }
+    ensures good_group { GoodGroup paper.entry.model.now paper.entry.second.now (variables_in paper.entry.index.now) table.new result }
     ensures kept { Kept (4 * here + 4) 96 table.old table.new }
 {
-    let targets = modes_at(model, index, landing.target);
+    let index = paper.index;
+    let regions = paper.regions;
+    let targets = modes_at(paper.model, index, landing.target);
     let switches = landing.switches;
-    let segments = jump_table(model, index, targets, switches, here, table);
+    let segments = jump_table(paper.model, index, targets, switches, here, table);
     let n = usize::from(index[VARIABLES_AT]);
     region_group(index, regions, landing.target, table, segments, n, n + n)
 }

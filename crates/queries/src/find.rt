@@ -20,21 +20,14 @@ use second_sheets::ranges::Regions;
 use std::ops::ControlFlow;
 
 // The location that has the obligation, or the number of locations where none has.
-fn find_location(
-    model: &[u8],
-    index: &Index,
-    second: &[u8],
-    regions: &Regions,
-    locations: u32,
-    o: u32,
-) -> Spot
-    requires good_paper { GoodPaper model.now index.now second.now regions.now }
-    requires locations_value { locations ≡ location_count (components_from model.now index.now) }
-    ensures { LeadsToLocation model.now index.now second.now regions.now locations o result }
+fn find_location(paper: Paper, locations: u32, o: u32,) -> Spot
+    requires good_paper { PaperRead paper }
+    requires locations_value { locations ≡ location_count (components_from paper.model.now paper.index.now) }
+    ensures { on_paper LeadsToLocation paper.entry locations o result }
 {
     let mut left = o;
     for at in 0..locations {
-        let goals = location_goals(model, index, second, regions, at);
+        let goals = location_goals(paper, at);
         if left < goals {
             return Spot { at, left };
         }
@@ -47,27 +40,19 @@ fn find_location(
 }
 
 // How many goals a group of a location has.
-fn group_goals(
-    model: &[u8],
-    index: &Index,
-    second: &[u8],
-    regions: &Regions,
-    location: u32,
-    modes: [u8; 4],
-    g: u32,
-) -> u32
-    requires good_paper { GoodPaper model.now index.now second.now regions.now }
-    requires stands { Stands model.now index.now location modes × (g < 2 + conditions_in index.now) }
-    ensures { result ≡ length (group_obligations_for model.now index.now second.now regions.now location g) }
+fn group_goals(paper: Paper, location: u32, modes: [u8; 4], g: u32,) -> u32
+    requires good_paper { PaperRead paper }
+    requires stands { Stands paper.model.now paper.index.now location modes × (g < 2 + conditions_in paper.index.now) }
+    ensures { result ≡ length (of_paper group_obligations_for paper.entry location g) }
 {
     if 1 < g {
-        return bit_of(modes_fit(model, index, (g - 2) as usize, modes));
+        return bit_of(modes_fit(paper.model, paper.index, (g - 2) as usize, modes));
     }
-    let rows = region_rows(model, index, second, regions, location);
+    let rows = region_rows(paper, location);
     if g == 1 {
         return rows;
     }
-    if all_start(model, index, modes) {
+    if all_start(paper.model, paper.index, modes) {
         rows
     } else {
         0
@@ -75,25 +60,18 @@ fn group_goals(
 }
 
 // The group that has one of a location's obligations, and its line there.
-fn find_group(
-    model: &[u8],
-    index: &Index,
-    second: &[u8],
-    regions: &Regions,
-    location: u32,
-    o: u32,
-) -> Spot
-    requires good_paper { GoodPaper model.now index.now second.now regions.now }
-    requires location_bound { location < location_count (components_from model.now index.now) }
-    requires o_in_bounds { o < length (location_obligations (model_from model.now index.now) (regions_of model.now index.now second.now regions.now) location) }
-    ensures leads_to_group { LeadsToGroup model.now index.now second.now regions.now location o result }
-    ensures at_bound { result.at < 2 + conditions_in index.now }
+fn find_group(paper: Paper, location: u32, o: u32,) -> Spot
+    requires good_paper { PaperRead paper }
+    requires location_bound { location < location_count (components_from paper.model.now paper.index.now) }
+    requires o_in_bounds { o < length (location_obligations (model_from paper.model.now paper.index.now) (of_paper regions_of paper) location) }
+    ensures leads_to_group { on_paper LeadsToGroup paper.entry location o result }
+    ensures at_bound { result.at < 2 + conditions_in paper.entry.index.now }
 {
-    let modes = modes_at(model, index, location);
-    let groups = 2 + index[CONDITIONS_AT] as u32;
+    let modes = modes_at(paper.model, paper.index, location);
+    let groups = 2 + paper.index[CONDITIONS_AT] as u32;
     let mut left = o;
     for at in 0..groups {
-        let goals = group_goals(model, index, second, regions, location, modes, at);
+        let goals = group_goals(paper, location, modes, at);
         if left < goals {
             return Spot { at, left };
         }
@@ -103,27 +81,18 @@ fn find_group(
 }
 
 // The obligation with a number among those of an event's joint switches, from the table that lists them.
-fn find_switch(
-    model: &[u8],
-    index: &Index,
-    second: &[u8],
-    regions: &Regions,
-    location: u32,
-    slot: Slot,
-    ways: &[u8],
-    from: Spot,
-) -> ControlFlow<JumpLine, Spot>
-    requires good_paper { GoodPaper model.now index.now second.now regions.now }
-    requires location_bound { (location < location_count (components_from model.now index.now)) × ListedFrom model.now index.now location ways.now slot }
-    requires e_bound { (slot.e ≤ 15) × (from.at + length (joints_of (components_from model.now index.now) location slot.e) ≤ 4096) }
-    ensures { SoughtInFor model.now index.now second.now regions.now (joints_of (components_from model.now index.now) location slot.e) from result }
+fn find_switch(paper: Paper, location: u32, slot: Slot, ways: &[u8], from: Spot,) -> ControlFlow<JumpLine, Spot>
+    requires good_paper { PaperRead paper }
+    requires location_bound { (location < location_count (components_from paper.model.now paper.index.now)) × ListedFrom paper.model.now paper.index.now location ways.now slot }
+    requires e_bound { (slot.e ≤ 15) × (from.at + length (joints_of (components_from paper.model.now paper.index.now) location slot.e) ≤ 4096) }
+    ensures { on_paper SoughtInFor paper.entry (joints_of (components_from paper.entry.model.now paper.entry.index.now) location slot.e) from result }
 {
     let count = slot.count;
     let first = from.at;
     let mut left = from.left;
     for at in 0..count {
-        let landing = landing_at(index, slot, ways, at);
-        let goals = region_rows(model, index, second, regions, landing.target);
+        let landing = landing_at(paper.index, slot, ways, at);
+        let goals = region_rows(paper, landing.target);
         if left < goals {
             return ControlFlow::Break(JumpLine {
                 number: first + at,
@@ -142,82 +111,59 @@ fn find_switch(
 }
 
 // The same from the location: where the event has joint switches they are listed once.
-fn find_event(
-    model: &[u8],
-    index: &Index,
-    second: &[u8],
-    regions: &Regions,
-    location: u32,
-    modes: [u8; 4],
-    e: u32,
-    from: Spot,
-) -> ControlFlow<JumpLine, Spot>
-    requires good_paper { GoodPaper model.now index.now second.now regions.now }
-    requires stands { Stands model.now index.now location modes × ((e ≤ 15) × (from.at + length (joints_of (components_from model.now index.now) location e) ≤ 4096)) }
-    ensures { SoughtInFor model.now index.now second.now regions.now (joints_of (components_from model.now index.now) location e) from result }
+fn find_event(paper: Paper, location: u32, modes: [u8; 4], e: u32, from: Spot,) -> ControlFlow<JumpLine, Spot>
+    requires good_paper { PaperRead paper }
+    requires stands { Stands paper.model.now paper.index.now location modes × ((e ≤ 15) × (from.at + length (joints_of (components_from paper.model.now paper.index.now) location e) ≤ 4096)) }
+    ensures { on_paper SoughtInFor paper.entry (joints_of (components_from paper.entry.model.now paper.entry.index.now) location e) from result }
 {
-    if index[FIRST_TOTAL + e as usize] == 0 {
+    if paper.index[FIRST_TOTAL + e as usize] == 0 {
         return ControlFlow::Continue(from);
     }
     let mut ways = [0u8; WAYS_LENGTH];
-    let slot = list_slot(model, index, location, modes, e, &mut ways);
-    find_switch(model, index, second, regions, location, slot, &ways, from)
+    let slot = list_slot(paper.model, paper.index, location, modes, e, &mut ways);
+    find_switch(paper, location, slot, &ways, from)
 }
 
 // The obligation with a number among those of the joint switches that leave a location, event by event.
-fn find_leaving(
-    model: &[u8],
-    index: &Index,
-    second: &[u8],
-    regions: &Regions,
-    location: u32,
-    from: Spot,
-) -> ControlFlow<JumpLine, Spot>
-    requires good_paper { GoodPaper model.now index.now second.now regions.now }
-    requires location_bound { (location < location_count (components_from model.now index.now)) × (from.at + length (leaving_from model.now index.now location) ≤ 4096) }
-    ensures { SoughtInFor model.now index.now second.now regions.now (leaving_from model.now index.now location) from result }
+fn find_leaving(paper: Paper, location: u32, from: Spot,) -> ControlFlow<JumpLine, Spot>
+    requires good_paper { PaperRead paper }
+    requires location_bound { (location < location_count (components_from paper.model.now paper.index.now)) × (from.at + length (leaving_from paper.model.now paper.index.now location) ≤ 4096) }
+    ensures { on_paper SoughtInFor paper.entry (leaving_from paper.entry.model.now paper.entry.index.now location) from result }
 {
-    let modes = modes_at(model, index, location);
+    let modes = modes_at(paper.model, paper.index, location);
     let mut spot = from;
     for e in 0..16 {
-        spot = find_event(model, index, second, regions, location, modes, e, spot)?;
+        spot = find_event(paper, location, modes, e, spot)?;
     }
     ControlFlow::Continue(spot)
 }
 
 // The obligation with a number among those of all joint switches, location by location.
-fn find_jump(
-    model: &[u8],
-    index: &Index,
-    second: &[u8],
-    regions: &Regions,
-    locations: u32,
-    o: u32,
-) -> ControlFlow<JumpLine, Spot>
-    requires good_paper { GoodPaper model.now index.now second.now regions.now }
-    requires locations_value { (locations ≡ location_count (components_from model.now index.now)) × (length (joints (components_from model.now index.now)) ≤ 4096) }
-    ensures { SoughtInFor model.now index.now second.now regions.now (joints (components_from model.now index.now)) (record { at = 0; left = o }) result }
+fn find_jump(paper: Paper, locations: u32, o: u32,) -> ControlFlow<JumpLine, Spot>
+    requires good_paper { PaperRead paper }
+    requires locations_value { (locations ≡ location_count (components_from paper.model.now paper.index.now)) × (length (joints (components_from paper.model.now paper.index.now)) ≤ 4096) }
+    ensures { on_paper SoughtInFor paper.entry (joints (components_from paper.entry.model.now paper.entry.index.now)) (record { at = 0; left = o }) result }
 {
     let mut spot = Spot { at: 0, left: o };
     for location in 0..locations {
-        spot = find_leaving(model, index, second, regions, location, spot)?;
+        spot = find_leaving(paper, location, spot)?;
     }
     ControlFlow::Continue(spot)
 }
 
 // The obligation with a number, if there is one: those of the locations first, then those of the joint switches.
-pub fn find(model: &[u8], index: &Index, second: &[u8], regions: &Regions, o: u32) -> Option<Sought>
-    requires good_paper { GoodPaper model.now index.now second.now regions.now }
-    requires index_len_bound { length (joints (components_from model.now index.now)) ≤ 4096 }
-    ensures result_value { sought_in_for model.now index.now second.now regions.now result ≡ one_at (paper_obligations model.now index.now second.now regions.now) o }
-    ensures known_sought { IfSome result (KnownSought model.now index.now) }
+pub fn find(paper: Paper, o: u32) -> Option<Sought>
+    requires good_paper { PaperRead paper }
+    requires index_len_bound { length (joints (components_from paper.model.now paper.index.now)) ≤ 4096 }
+    ensures result_value { of_paper sought_in_for paper.entry result ≡ one_at (of_paper paper_obligations paper.entry) o }
+    ensures known_sought { IfSome result (KnownSought paper.entry.model.now paper.entry.index.now) }
 {
-    let locations = index[LOCATIONS_AT] as u32;
-    let place = find_location(model, index, second, regions, locations, o);
+    let locations = paper.index[LOCATIONS_AT] as u32;
+    let place = find_location(paper, locations, o);
     if locations <= place.at {
-        let found = find_jump(model, index, second, regions, locations, place.left);
+        let found = find_jump(paper, locations, place.left);
         return found.break_value().map(Sought::AtJoint);
     }
-    let group = find_group(model, index, second, regions, place.at, place.left);
+    let group = find_group(paper, place.at, place.left);
     Some(Sought::AtLocation(place.at, group.at, group.left))
 }

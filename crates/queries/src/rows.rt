@@ -22,32 +22,20 @@ use sums::Line;
 use sums::lines::{line_at, row_place, segment_of};
 
 // The table of a location's group.
-fn table_at(
-    model: &[u8],
-    index: &Index,
-    second: &[u8],
-    regions: &Regions,
-    location: u32,
-    modes: [u8; 4],
-    g: u32,
-    table: &mut [u16],
-) -> usize
-    requires good_paper { GoodPaper model.now index.now second.now regions.now }
-    requires stands { Stands model.now index.now location modes × ((g < 2 + conditions_in index.now) × ((96 ≤ length table.old) × Stacked table.old 0)) }
-    ensures group_held { GroupHeld model.now index.now second.now regions.now location g table.new result }
+fn table_at(paper: Paper, location: u32, modes: [u8; 4], g: u32, table: &mut [u16],) -> usize
+    requires good_paper { PaperRead paper }
+    requires stands { Stands paper.model.now paper.index.now location modes × ((g < 2 + conditions_in paper.index.now) × ((96 ≤ length table.old) × Stacked table.old 0)) }
+    ensures group_held { on_paper GroupHeld paper.entry location g table.new result }
     ensures stacked { Stacked table.new result × (result ≤ 23) }
 {
     if g == 0 {
-        return start_table(model, index, modes, table);
+        return start_table(paper.model, paper.index, modes, table);
     }
     if g == 1 {
-        return flow_table(model, index, second, regions, location, modes, table);
+        return flow_table(paper, location, modes, table);
     }
     unsafe_table(
-        model,
-        index,
-        second,
-        regions,
+        paper,
         location,
         modes,
         (g - 2) as usize,
@@ -129,100 +117,64 @@ fn row_in(
 }
 
 // Where the row of a hypothesis of a location's group stands, and its role and owner.
-fn location_row(
-    model: &[u8],
-    index: &Index,
-    second: &[u8],
-    regions: &Regions,
-    location: u32,
-    g: u32,
-    h: u32,
-) -> Located
-    requires good_paper { GoodPaper model.now index.now second.now regions.now }
-    requires location_bound { (location < location_count (components_from model.now index.now)) × (g < 2 + conditions_in index.now) }
-    ensures { result ≡ group_row_for model.now index.now second.now regions.now location g h }
+fn location_row(paper: Paper, location: u32, g: u32, h: u32,) -> Located
+    requires good_paper { PaperRead paper }
+    requires location_bound { (location < location_count (components_from paper.model.now paper.index.now)) × (g < 2 + conditions_in paper.index.now) }
+    ensures { result ≡ of_paper group_row_for paper.entry location g h }
 {
-    let modes = modes_at(model, index, location);
-    let version = index[VERSION_AT] as u32;
-    let n = index[VARIABLES_AT] as usize;
+    let modes = modes_at(paper.model, paper.index, location);
+    let version = paper.index[VERSION_AT] as u32;
+    let n = paper.index[VARIABLES_AT] as usize;
     let mut table = [0u16; TABLE_LENGTH];
     let segments = table_at(
-        model, index, second, regions, location, modes, g, &mut table,
+        paper, location, modes, g, &mut table,
     );
-    row_in(model, second, version, n, &table, segments, h)
+    row_in(paper.model, paper.second, version, n, &table, segments, h)
 }
 
 // The table of a joint switch, by its number among those of its event.
-fn joint_table(
-    model: &[u8],
-    index: &Index,
-    second: &[u8],
-    regions: &Regions,
-    location: u32,
-    e: u32,
-    x: u32,
-    table: &mut [u16],
-) -> usize
-    requires good_paper { GoodPaper model.now index.now second.now regions.now }
-    requires location_bound { (location < location_count (components_from model.now index.now)) × ((e ≤ 15) × (x < length (switches_of (components_from model.now index.now) (modes_at (components_from model.now index.now) location) e))) }
+fn joint_table(paper: Paper, location: u32, e: u32, x: u32, table: &mut [u16],) -> usize
+    requires good_paper { PaperRead paper }
+    requires location_bound { (location < location_count (components_from paper.model.now paper.index.now)) × ((e ≤ 15) × (x < length (switches_of (components_from paper.model.now paper.index.now) (modes_at (components_from paper.model.now paper.index.now) location) e))) }
     requires in_bounds { (96 ≤ length table.old) × Stacked table.old 0 }
-    ensures joint_held { JointHeld model.now index.now second.now regions.now (joint_here model.now index.now location e x) table.new result }
+    ensures joint_held { on_paper JointHeld paper.entry (joint_here paper.entry.model.now paper.entry.index.now location e x) table.new result }
     ensures stacked { Stacked table.new result × (result ≤ 23) }
 {
-    let modes = modes_at(model, index, location);
+    let modes = modes_at(paper.model, paper.index, location);
     let mut ways = [0u8; WAYS_LENGTH];
-    let slot = list_slot(model, index, location, modes, e, &mut ways);
-    let landing = landing_at(index, slot, &ways, x);
+    let slot = list_slot(paper.model, paper.index, location, modes, e, &mut ways);
+    let landing = landing_at(paper.index, slot, &ways, x);
     let switches = landing.switches;
-    let targets = modes_at(model, index, landing.target);
-    let here = push_here(model, index, second, regions, location, modes, table);
-    jump_table(model, index, targets, switches, here, table)
+    let targets = modes_at(paper.model, paper.index, landing.target);
+    let here = push_here(paper, location, modes, table);
+    jump_table(paper.model, paper.index, targets, switches, here, table)
 }
 
 // Where the row of a hypothesis of a joint switch stands, and its role and owner.
-fn joint_row(
-    model: &[u8],
-    index: &Index,
-    second: &[u8],
-    regions: &Regions,
-    location: u32,
-    e: u32,
-    x: u32,
-    h: u32,
-) -> Located
-    requires good_paper { GoodPaper model.now index.now second.now regions.now }
-    requires location_bound { (location < location_count (components_from model.now index.now)) × ((e ≤ 15) × (x < length (switches_of (components_from model.now index.now) (modes_at (components_from model.now index.now) location) e))) }
-    ensures { result ≡ joint_row_for model.now index.now second.now regions.now (joint_here model.now index.now location e x) h }
+fn joint_row(paper: Paper, location: u32, e: u32, x: u32, h: u32,) -> Located
+    requires good_paper { PaperRead paper }
+    requires location_bound { (location < location_count (components_from paper.model.now paper.index.now)) × ((e ≤ 15) × (x < length (switches_of (components_from paper.model.now paper.index.now) (modes_at (components_from paper.model.now paper.index.now) location) e))) }
+    ensures { result ≡ of_paper joint_row_for paper.entry (joint_here paper.entry.model.now paper.entry.index.now location e x) h }
 {
-    let version = index[VERSION_AT] as u32;
-    let n = index[VARIABLES_AT] as usize;
+    let version = paper.index[VERSION_AT] as u32;
+    let n = paper.index[VARIABLES_AT] as usize;
     let mut table = [0u16; TABLE_LENGTH];
-    let segments = joint_table(model, index, second, regions, location, e, x, &mut table);
-    row_in(model, second, version, n, &table, segments, h)
+    let segments = joint_table(paper, location, e, x, &mut table);
+    row_in(paper.model, paper.second, version, n, &table, segments, h)
 }
 
 // Where the row of a hypothesis of what was found stands, and its role and owner.
-pub fn sought_row(
-    model: &[u8],
-    index: &Index,
-    second: &[u8],
-    regions: &Regions,
-    sought: Sought,
-    h: u32,
-) -> Located
-    requires good_paper { GoodPaper model.now index.now second.now regions.now }
-    requires known_sought { KnownSought model.now index.now sought }
-    ensures { result ≡ sought_row_for model.now index.now second.now regions.now sought h }
+pub fn sought_row(paper: Paper, sought: Sought, h: u32,) -> Located
+    requires good_paper { PaperRead paper }
+    requires known_sought { KnownSought paper.model.now paper.index.now sought }
+    ensures { result ≡ of_paper sought_row_for paper.entry sought h }
 {
     match sought {
         Sought::AtLocation(location, g, _) => location_row(
-            model, index, second, regions, location, g, h,
+            paper, location, g, h,
         ),
         Sought::AtJoint(jump) => joint_row(
-            model,
-            index,
-            second,
-            regions,
+            paper,
             jump.location,
             jump.event,
             jump.nth,

@@ -41,17 +41,11 @@ fn group_which(size: u32, location: u32, g: u32, line: u32) -> Which
 }
 
 // Which obligation was found.
-fn sought_which(
-    model: &[u8],
-    index: &Index,
-    second: &[u8],
-    regions: &Regions,
-    sought: Sought,
-) -> Which
-    requires { GoodPaper model.now index.now second.now regions.now }
-    ensures { result ≡ which_of (length second.now) (sought_one_for model.now index.now second.now regions.now sought) }
+fn sought_which(paper: Paper, sought: Sought,) -> Which
+    requires { PaperRead paper }
+    ensures { result ≡ which_of (length paper.entry.second.now) (of_paper sought_one_for paper.entry sought) }
 {
-    let size = second.len() as u32;
+    let size = paper.second.len() as u32;
     match sought {
         Sought::AtLocation(location, g, line) => group_which(size, location, g, line),
         Sought::AtJoint(jump) => Which {

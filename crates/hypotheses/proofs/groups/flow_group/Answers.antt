@@ -1,4 +1,6 @@
 -- Nothing where the region has no rows, else the region's rows on x'. Assumes nothing.
+use Rattle.std.proofs.Common.{rules}
+use mathlib.Core.Path.{◌≡◌}
 use mathlib.Core.Path.{sym, ap, ◌∙◌}
 use Prim.Native.Nat.{ℕ, ◌+◌, ◌≤◌}
 use native.Mathlib.Omega.{arith}
@@ -12,9 +14,11 @@ use Rattle.hypotheses.proofs.groups.flow_group.Goals.{Start}
 use Rattle.hypotheses.proofs.groups.flow_group.Goals as goal
 
 -- there is a mode for each component
-long : (s : Start) → entry s.args.index.now 1 ≤ length s.args.modes
+long : (s : Start) → entry s.args.paper.index.now 1 ≤ length s.args.modes
 unfolding entry
-long s = omega (arith, s.requires.good_paper.good.few, s.well_formed.1.1.1.1.1.0.1.0.1)
+long s =
+    let four : ◌≡◌ {A = ℕ} (length s.args.modes) 4 = search rules in
+    omega (arith, s.requires.good_paper.good.few, four)
 
 pub returns : goal.returns
 unfolding entry
@@ -22,7 +26,7 @@ returns c =
     let p = c.requires in
     let k = c.flow_table-segments in
     let lines = lines_start (pushed (k.ensures.result_after, k.ensures.onto)) in
-    let told = c.region_group.ensures ∙ ap (λ (n : ℕ). region_group (entry c.args.index.now 11) c.args.regions.now c.args.location k.new.table k.result n (n + n + 1)) c.from-n.ensures in
+    let told = c.region_group.ensures ∙ ap (λ (n : ℕ). region_group (entry c.args.paper.index.now 11) c.args.paper.regions.now c.args.location k.new.table k.result n (n + n + 1)) c.from-n.ensures in
     let both = same-group _ _ _ _ told (flow-tasks _ _ _ _ c.args.modes _ (long (goal.at.returns c).Start) p.stands.0 _ k.result _ p.good_paper.good lines)
     (region-good _ _ _ _ _ _ k.result _ _ _ p.good_paper p.stands.0.below k.ensures.onto.stacked (omega (arith, k.ensures.onto.few)) lines (flow-fine _ _ _ _ _ _ (long (goal.at.returns c).Start) p.stands.0.known p.good_paper p.stands.0.below) (omega arith) (omega (arith, p.good_paper.good.most))) in record { result_after = both.0; good_group = both.1 }
 

@@ -26,10 +26,10 @@ switches-length c = search rules
 pub returns : goal.returns
 unfolding entry jump_lines
 returns c =
-    let model = c.args.model.now in
-    let index = c.args.index.now in
-    let second = c.args.second.now in
-    let regions = c.args.regions.now in
+    let model = c.args.paper.model.now in
+    let index = c.args.paper.index.now in
+    let second = c.args.paper.second.now in
+    let regions = c.args.paper.regions.now in
     let location = c.args.location in
     let to = c.args.landing.target in
     let switches = c.args.landing.switches in
@@ -52,4 +52,4 @@ returns c =
 pub jump_table-segments-requires : goal.jump_table-segments-requires
 jump_table-segments-requires c =
     let told = c.modes_at-targets in
-    let there = stands_at_lem c.args.model.now c.args.index.now c.args.landing.target told.result _ c.requires.good_paper.good c.requires.target_bound.0 told.ensures in record { good_index = (c.requires.good_paper.good, (c.requires.good_paper.short, (there.known, c.requires.target_bound.1))); in_bounds = (c.requires.in_bounds.0, (c.requires.in_bounds.1.few, c.requires.in_bounds.1.stacked)) }
+    let there = stands_at_lem c.args.paper.model.now c.args.paper.index.now c.args.landing.target told.result _ c.requires.good_paper.good c.requires.target_bound.0 told.ensures in record { good_index = (c.requires.good_paper.good, (c.requires.good_paper.short, (there.known, c.requires.target_bound.1))); in_bounds = (c.requires.in_bounds.0, (c.requires.in_bounds.1.few, c.requires.in_bounds.1.stacked)) }

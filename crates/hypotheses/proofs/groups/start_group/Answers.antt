@@ -1,4 +1,7 @@
 -- Nothing where the region has no rows or a mode is no start mode, else the region's rows. Assumes nothing.
+use Rattle.std.proofs.Common.{rules}
+use Prim.Native.Nat.{ℕ}
+use mathlib.Core.Path.{◌≡◌}
 use mathlib.Core.Bool.{not}
 use mathlib.Core.Path.{sym, ◌∙◌, ap}
 use Prim.Native.Nat.{◌≤◌}
@@ -14,9 +17,11 @@ use Rattle.hypotheses.proofs.groups.start_group.Goals.{Start}
 use Rattle.hypotheses.proofs.groups.start_group.Goals as goal
 
 -- there is a mode for each component
-long : (s : Start) → entry s.args.index.now 1 ≤ length s.args.modes
+long : (s : Start) → entry s.args.paper.index.now 1 ≤ length s.args.modes
 unfolding entry
-long s = omega (arith, s.requires.good_paper.good.few, s.well_formed.1.1.1.1.1.0.1.0.1)
+long s =
+    let four : ◌≡◌ {A = ℕ} (length s.args.modes) 4 = search rules in
+    omega (arith, s.requires.good_paper.good.few, four)
 
 pub returns : goal.returns
 unfolding entry
@@ -25,9 +30,9 @@ returns c =
     let k = c.start_table-segments in
     let lines = lines_start (pushed (k.ensures.result_after, k.ensures.onto)) in
     let all = c.all_start in
-    let told = c.region_group.ensures ∙ ap (region_group (entry c.args.index.now 11) c.args.regions.now c.args.location k.new.table k.result 0) c.from.ensures in
+    let told = c.region_group.ensures ∙ ap (region_group (entry c.args.paper.index.now 11) c.args.paper.regions.now c.args.location k.new.table k.result 0) c.from.ensures in
     let both = same-group _ _ _ _ told (start-tasks _ _ _ _ c.args.modes _ (long (goal.at.returns c).Start) p.stands.0 _ k.result _ lines (sym (test-passed all.result (ap not c.if-not-all_start.false) all.ensures)))
-    (region-good _ _ _ _ _ _ k.result _ _ _ p.good_paper p.stands.0.below k.ensures.onto.stacked (omega (arith, k.ensures.onto.few)) lines (start_fine _ _ c.args.second.now c.args.regions.now _ c.args.location (long (goal.at.returns c).Start) p.stands.0.known p.good_paper) (omega arith) (omega (arith, p.good_paper.good.most))) in record { result_after = both.0; good_group = both.1 }
+    (region-good _ _ _ _ _ _ k.result _ _ _ p.good_paper p.stands.0.below k.ensures.onto.stacked (omega (arith, k.ensures.onto.few)) lines (start_fine _ _ c.args.paper.second.now c.args.paper.regions.now _ c.args.location (long (goal.at.returns c).Start) p.stands.0.known p.good_paper) (omega arith) (omega (arith, p.good_paper.good.most))) in record { result_after = both.0; good_group = both.1 }
 
 pub returns-then-region_rows-eq0 : goal.returns-then-region_rows-eq0
 returns-then-region_rows-eq0 c = let p = c.requires in let both = same-group _ _ _ _ c.no_group.ensures (no-rows-start _ _ _ _ _ _ p.stands.0.below (sym c.region_rows.ensures ∙ c.if-region_rows-eq0.true)) (empty-good _ _ _ _ p.good_paper.good.most p.stands.1.1) in record { result_after = both.0; good_group = both.1 }

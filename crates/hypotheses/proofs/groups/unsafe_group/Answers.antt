@@ -1,4 +1,7 @@
 -- Nothing where the modes do not fit, else the proof that has no goal. Assumes nothing.
+use Rattle.std.proofs.Common.{rules}
+use Prim.Native.Nat.{ℕ}
+use mathlib.Core.Path.{◌≡◌}
 use mathlib.Core.Bool.{not}
 use mathlib.Core.Path.{sym, ap}
 use Prim.Native.Nat.{◌≤◌}
@@ -14,9 +17,11 @@ use Rattle.hypotheses.proofs.groups.unsafe_group.Goals.{Start}
 use Rattle.hypotheses.proofs.groups.unsafe_group.Goals as goal
 
 -- there is a mode for each component
-long : (s : Start) → entry s.args.index.now 1 ≤ length s.args.modes
+long : (s : Start) → entry s.args.paper.index.now 1 ≤ length s.args.modes
 unfolding entry
-long s = omega (arith, s.requires.good_paper.good.few, s.well_formed.1.1.1.1.1.0.1.0.1)
+long s =
+    let four : ◌≡◌ {A = ℕ} (length s.args.modes) 4 = search rules in
+    omega (arith, s.requires.good_paper.good.few, four)
 
 pub returns : goal.returns
 unfolding entry unsafe_group
@@ -25,10 +30,10 @@ returns c =
     let k = c.unsafe_table-segments in
     let lines = lines_start (pushed (k.ensures.result_after, k.ensures.onto)) in
     let fits = c.modes_fit in
-    let fine = unsafe-fine c.args.model.now c.args.index.now c.args.second.now c.args.regions.now c.args.modes c.args.location (long (goal.at.returns c).Start) p.stands.0.known p.good_paper p.stands.0.below c.args.u p.stands.1.0 in
+    let fine = unsafe-fine c.args.paper.model.now c.args.paper.index.now c.args.paper.second.now c.args.paper.regions.now c.args.modes c.args.location (long (goal.at.returns c).Start) p.stands.0.known p.good_paper p.stands.0.below c.args.u p.stands.1.0 in
     record {
       result_after = rw (c.lines-hypotheses.ensures, c.version_of-version.ensures, c.from.ensures) (unsafe-tasks _ _ _ _ c.args.modes _ (long (goal.at.returns c).Start) p.stands.0 _ k.result _ c.args.u p.stands.1.0 lines (sym (test-passed fits.result (ap not c.if-not-modes_fit.false) fits.ensures)));
-      good_group = rw (c.lines-hypotheses.ensures, c.version_of-version.ensures, c.from.ensures) (unsafe-good _ c.args.index.now _ _ k.result _ _ k.ensures.onto.stacked (omega (arith, k.ensures.onto.few)) lines fine (omega arith) (omega (arith, p.good_paper.good.most)));
+      good_group = rw (c.lines-hypotheses.ensures, c.version_of-version.ensures, c.from.ensures) (unsafe-good _ c.args.paper.index.now _ _ k.result _ _ k.ensures.onto.stacked (omega (arith, k.ensures.onto.few)) lines fine (omega arith) (omega (arith, p.good_paper.good.most)));
     }
 
 pub returns-then-not-modes_fit : goal.returns-then-not-modes_fit

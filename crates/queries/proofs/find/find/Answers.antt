@@ -33,11 +33,11 @@ returns-then-locations-place c =
     let same : c.map.result ≡ option_map sought.AtJoint (break_value c.find_jump-found.result) = search rules in
     record {
       result_value = ap (sought_in _ _ _) same ∙ w.value ∙ one-past _ _ _ _ _ c.if-locations-place.true place.ensures.leads;
-      known_sought = subst (λ (r : Option Sought). IfSome r (KnownSought c.args.model.now c.args.index.now)) (sym same) w.known;
+      known_sought = subst (λ (r : Option Sought). IfSome r (KnownSought c.args.paper.model.now c.args.paper.index.now)) (sym same) w.known;
     }
 
 -- the search ended at a location
-below : (c : Else-locations-place) → c.find_location-place.result.at < entry c.args.index.now 15
+below : (c : Else-locations-place) → c.find_location-place.result.at < entry c.args.paper.index.now 15
 unfolding entry
 below c = omega (arith, c.if-locations-place.false)
 

@@ -25,9 +25,9 @@ list_slot-slot-requires c = let p = c.requires in record { good_index = (p.good_
 pub find_switch-requires : goal.find_switch-requires
 find_switch-requires c =
     let p = c.requires in
-    let listed = c.list_slot-slot.ensures in record { good_paper = p.good_paper; location_bound = (p.stands.0.below, listed-there p.good_paper.good p.stands.0 listed); e_bound = (omega (arith, listed.event, p.stands.1.0), subst (λ (k : ℕ). c.args.from.at + length (joints_of (components_from c.args.model.now c.args.index.now) c.args.location k) ≤ 4096) (sym listed.event) p.stands.1.1) }
+    let listed = c.list_slot-slot.ensures in record { good_paper = p.good_paper; location_bound = (p.stands.0.below, listed-there p.good_paper.good p.stands.0 listed); e_bound = (omega (arith, listed.event, p.stands.1.0), subst (λ (k : ℕ). c.args.from.at + length (joints_of (components_from c.args.paper.model.now c.args.paper.index.now) c.args.location k) ≤ 4096) (sym listed.event) p.stands.1.1) }
 
 pub returns : goal.returns
 returns c =
     let a = c.args in
-    subst (λ (k : ℕ). SoughtInFor a.model.now a.index.now a.second.now a.regions.now (joints_of (components_from a.model.now a.index.now) a.location k) a.from c.find_switch.result) c.list_slot-slot.ensures.event c.find_switch.ensures
+    subst (λ (k : ℕ). SoughtInFor a.paper.model.now a.paper.index.now a.paper.second.now a.paper.regions.now (joints_of (components_from a.paper.model.now a.paper.index.now) a.location k) a.from c.find_switch.result) c.list_slot-slot.ensures.event c.find_switch.ensures

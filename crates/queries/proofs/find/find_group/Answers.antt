@@ -26,7 +26,7 @@ overflow_add-groups c = omega (arith, c.requires.good_paper.good.conditions)
 pub loop-at-init : goal.loop-at-init
 unfolding entry
 loop-at-init c =
-    let whole = location-groups c.args.model.now c.args.index.now (regions_of c.args.model.now c.args.index.now c.args.second.now c.args.regions.now) c.args.location (2 + entry c.args.index.now 2) refl in
+    let whole = location-groups c.args.paper.model.now c.args.paper.index.now (regions_of c.args.paper.model.now c.args.paper.index.now c.args.paper.second.now c.args.paper.regions.now) c.args.location (2 + entry c.args.paper.index.now 2) refl in
     (omega arith, (ap (λ (xs : List Obligation). one_at xs c.args.o) (append-nil _ ∙ sym whole), subst (λ (xs : List Obligation). c.args.o < length xs) whole c.requires.o_in_bounds))
 
 pub group_goals-goals-requires : goal.group_goals-goals-requires

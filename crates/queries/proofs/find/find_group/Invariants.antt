@@ -11,5 +11,5 @@ use Rattle.queries.proofs.find.find_group.Given as goal
 
 abbrev pub invariant-loop-at : goal.invariant-loop-at
 invariant-loop-at l = (l.at ≤ l.groups)
-    × ((one_at (joined_on (group_obligations (model_from l.model l.index) (regions_of l.model l.index l.second l.regions) l.location) l.groups l.at ++ []) l.left ≡ one_at (location_obligations (model_from l.model l.index) (regions_of l.model l.index l.second l.regions) l.location) l.o)
-    × (l.left < length (joined_on (group_obligations (model_from l.model l.index) (regions_of l.model l.index l.second l.regions) l.location) l.groups l.at)))
+    × ((one_at (joined_on (group_obligations (model_from l.paper.model.now l.paper.index.now) (regions_of l.paper.model.now l.paper.index.now l.paper.second.now l.paper.regions.now) l.location) l.groups l.at ++ []) l.left ≡ one_at (location_obligations (model_from l.paper.model.now l.paper.index.now) (regions_of l.paper.model.now l.paper.index.now l.paper.second.now l.paper.regions.now) l.location) l.o)
+    × (l.left < length (joined_on (group_obligations (model_from l.paper.model.now l.paper.index.now) (regions_of l.paper.model.now l.paper.index.now l.paper.second.now l.paper.regions.now) l.location) l.groups l.at)))

@@ -12,9 +12,9 @@ use Rattle.queries.proofs.find.find_jump.Goals as goal
 pub loop-location-init : goal.loop-location-init
 loop-location-init c =
     let a = c.args in
-    let components = components_from a.model.now a.index.now in
-    let m = model_from a.model.now a.index.now in
-    let region_at = regions_of a.model.now a.index.now a.second.now a.regions.now in
+    let components = components_from a.paper.model.now a.paper.index.now in
+    let m = model_from a.paper.model.now a.paper.index.now in
+    let region_at = regions_of a.paper.model.now a.paper.index.now a.paper.second.now a.paper.regions.now in
     (omega arith, subst (λ (xs : List JointSwitch). Passing m region_at (joints components) xs 0 a.o 0 a.o) (sym (joints-by-location components a.locations c.requires.locations_value.0)) (passing-starts m region_at (joints components) 0 a.o))
 
 pub find_leaving-requires : goal.find_leaving-requires

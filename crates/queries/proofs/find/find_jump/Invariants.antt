@@ -9,4 +9,4 @@ use Rattle.queries.proofs.find.find_jump.Given as goal
 abbrev pub invariant-loop-location : goal.invariant-loop-location
 invariant-loop-location l =
     (l.location ≤ l.locations)
-    × Passing (model_from l.model l.index) (regions_of l.model l.index l.second l.regions) (joints (components_from l.model l.index)) (joined_on (λ n. join_all (joints_of (components_from l.model l.index) n) (count_up 0 16)) l.locations l.location) 0 l.o l.spot.at l.spot.left
+    × Passing (model_from l.paper.model.now l.paper.index.now) (regions_of l.paper.model.now l.paper.index.now l.paper.second.now l.paper.regions.now) (joints (components_from l.paper.model.now l.paper.index.now)) (joined_on (λ n. join_all (joints_of (components_from l.paper.model.now l.paper.index.now) n) (count_up 0 16)) l.locations l.location) 0 l.o l.spot.at l.spot.left

@@ -16,15 +16,15 @@ modes_at-modes-requires c = record { good_index = c.requires.good_paper.good; lo
 pub loop-e-init : goal.loop-e-init
 loop-e-init c =
     let a = c.args in
-    let m = model_from a.model.now a.index.now in
-    let region_at = regions_of a.model.now a.index.now a.second.now a.regions.now in
-    let all = leaving_from a.model.now a.index.now a.location in
-    (omega arith, subst (λ (xs : List JointSwitch). Passing m region_at all xs a.from.at a.from.left a.from.at a.from.left) (sym (events-whole (components_from a.model.now a.index.now) a.location)) (passing-starts m region_at all a.from.at a.from.left))
+    let m = model_from a.paper.model.now a.paper.index.now in
+    let region_at = regions_of a.paper.model.now a.paper.index.now a.paper.second.now a.paper.regions.now in
+    let all = leaving_from a.paper.model.now a.paper.index.now a.location in
+    (omega arith, subst (λ (xs : List JointSwitch). Passing m region_at all xs a.from.at a.from.left a.from.at a.from.left) (sym (events-whole (components_from a.paper.model.now a.paper.index.now) a.location)) (passing-starts m region_at all a.from.at a.from.left))
 
 pub find_event-requires : goal.find_event-requires
 find_event-requires c =
     let modes = c.modes_at-modes in
-    let h = c.loop-e-test.true in record { good_paper = c.requires.good_paper; stands = (stands_at_lem c.args.model.now c.args.index.now c.args.location modes.result _ c.requires.good_paper.good c.requires.location_bound.0 modes.ensures, (omega (arith, h), few-here _ _ _ 16 _ h c.loop-e.invariant.1 c.requires.location_bound.1)) }
+    let h = c.loop-e-test.true in record { good_paper = c.requires.good_paper; stands = (stands_at_lem c.args.paper.model.now c.args.paper.index.now c.args.location modes.result _ c.requires.good_paper.good c.requires.location_bound.0 modes.ensures, (omega (arith, h), few-here _ _ _ 16 _ h c.loop-e.invariant.1 c.requires.location_bound.1)) }
 
 pub loop-e-preserved : goal.loop-e-preserved
 loop-e-preserved c =

@@ -33,7 +33,7 @@ returns c =
     let l = c.loop-at in
     let a = c.args in
     let all : l.at ≡ a.locations = omega (arith, l.invariant.0, c.loop-at-test.false) in
-    subst (λ (k : ℕ). LeadsToLocation a.model.now a.index.now a.second.now a.regions.now a.locations a.o (record { at = k; left = l.left })) all
+    subst (λ (k : ℕ). LeadsToLocation a.paper.model.now a.paper.index.now a.paper.second.now a.paper.regions.now a.locations a.o (record { at = k; left = l.left })) all
     (record {
       within = l.invariant.0;
       leads = l.invariant.1;

@@ -11,4 +11,4 @@ use Rattle.queries.proofs.find.find_location.Given as goal
 
 abbrev pub invariant-loop-at : goal.invariant-loop-at
 invariant-loop-at l = (l.at ≤ l.locations)
-    × (one_at (joined_on (location_obligations (model_from l.model l.index) (regions_of l.model l.index l.second l.regions)) l.locations l.at ++ jumps_obligations (model_from l.model l.index) (regions_of l.model l.index l.second l.regions) 0 (joints (components_from l.model l.index))) l.left ≡ one_at (paper_obligations l.model l.index l.second l.regions) l.o)
+    × (one_at (joined_on (location_obligations (model_from l.paper.model.now l.paper.index.now) (regions_of l.paper.model.now l.paper.index.now l.paper.second.now l.paper.regions.now)) l.locations l.at ++ jumps_obligations (model_from l.paper.model.now l.paper.index.now) (regions_of l.paper.model.now l.paper.index.now l.paper.second.now l.paper.regions.now) 0 (joints (components_from l.paper.model.now l.paper.index.now))) l.left ≡ one_at (paper_obligations l.paper.model.now l.paper.index.now l.paper.second.now l.paper.regions.now) l.o)

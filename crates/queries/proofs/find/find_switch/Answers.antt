@@ -20,13 +20,13 @@ use Rattle.queries.proofs.find.find_switch.Goals as goal
 -- the joint switches that the table lists
 module _ (s : Start) where
   abbrev model : List ℕ
-  model = s.args.model.now
+  model = s.args.paper.model.now
 
   abbrev index : List ℕ
-  index = s.args.index.now
+  index = s.args.paper.index.now
 
   abbrev region_at : ℕ → Condition
-  region_at = regions_of model index s.args.second.now s.args.regions.now
+  region_at = regions_of model index s.args.paper.second.now s.args.paper.regions.now
 
   abbrev size : ℕ
   size = event_size model index s.args.location s.args.slot.e
@@ -89,5 +89,5 @@ returns c =
     let l = c.loop-at in
     let a = c.args in
     let all : l.at ≡ a.slot.count = omega (arith, l.invariant.0, c.loop-at-test.false) in
-    subst (λ (k : ℕ). SoughtInFor a.model.now a.index.now a.second.now a.regions.now (joints_of (components_from a.model.now a.index.now) a.location a.slot.e) a.from (Continue (record { at = a.from.at + k; left = l.left }))) all
+    subst (λ (k : ℕ). SoughtInFor a.paper.model.now a.paper.index.now a.paper.second.now a.paper.regions.now (joints_of (components_from a.paper.model.now a.paper.index.now) a.location a.slot.e) a.from (Continue (record { at = a.from.at + k; left = l.left }))) all
     (in-none _ _ _ (size (goal.at.returns c).Start) _ (omega (arith, c.loop-at-test.false, counted (goal.at.returns c).Start)) l.invariant.1)

@@ -8,5 +8,5 @@ use Rattle.queries.proofs.find.find_switch.Given as goal
 
 abbrev pub invariant-loop-at : goal.invariant-loop-at
 invariant-loop-at l =
-    (l.at ≤ event_size l.model l.index l.location l.slot.e)
-    × Passing (model_from l.model l.index) (regions_of l.model l.index l.second l.regions) (joints_of (components_from l.model l.index) l.location l.slot.e) (each_on l.model l.index l.location l.slot.e l.at) l.first l.initial.left (l.first + l.at) l.left
+    (l.at ≤ event_size l.paper.model.now l.paper.index.now l.location l.slot.e)
+    × Passing (model_from l.paper.model.now l.paper.index.now) (regions_of l.paper.model.now l.paper.index.now l.paper.second.now l.paper.regions.now) (joints_of (components_from l.paper.model.now l.paper.index.now) l.location l.slot.e) (each_on l.paper.model.now l.paper.index.now l.location l.slot.e l.at) l.first l.initial.left (l.first + l.at) l.left

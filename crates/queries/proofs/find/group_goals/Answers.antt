@@ -15,10 +15,10 @@ use Rattle.queries.proofs.find.group_goals.Goals.{After-all_start, Else-g-eq1, S
 use Rattle.queries.proofs.find.group_goals.Goals as goal
 
 abbrev region_at : Start → ℕ → Condition
-region_at s = regions_of s.args.model.now s.args.index.now s.args.second.now s.args.regions.now
+region_at s = regions_of s.args.paper.model.now s.args.paper.index.now s.args.paper.second.now s.args.paper.regions.now
 
 abbrev goals : Start → ℕ → ℕ
-goals s g = length (group_obligations (model_from s.args.model.now s.args.index.now) (region_at s) s.args.location g)
+goals s g = length (group_obligations (model_from s.args.paper.model.now s.args.paper.index.now) (region_at s) s.args.location g)
 
 -- the group that is asked for, by another name of its number
 asked : (s : Start) (g : ℕ) {n : ℕ} → g ≡ s.args.g → n ≡ goals s g → n ≡ goals s s.args.g
@@ -28,7 +28,7 @@ asked s g e h = h ∙ ap (goals s) e
 none : (c : Else-g-eq1) → 0 ≡ c.args.g
 none c = omega (arith, c.if-g-eq1.false, c.if-g-gt1.false)
 
-starts : (c : After-all_start) → c.all_start.result ≡ every (λ mode. eqb mode.start 1) (modes_in (model_from c.args.model.now c.args.index.now) c.args.location)
+starts : (c : After-all_start) → c.all_start.result ≡ every (λ mode. eqb mode.start 1) (modes_in (model_from c.args.paper.model.now c.args.paper.index.now) c.args.location)
 starts c =
     c.all_start.ensures ∙ start-there _ _ (region_at (goal.at.After-all_start c).Start) c.args.location c.args.modes c.requires.stands.0
 
@@ -38,7 +38,7 @@ modes_fit-requires c = (c.requires.good_paper.good, omega (arith, c.requires.sta
 pub returns-then-g-gt1 : goal.returns-then-g-gt1
 returns-then-g-gt1 c =
     let u : ℕ = c.args.g - 2 in
-    let low : u < entry c.args.index.now 2 = omega (arith, c.requires.stands.1, c.if-g-gt1.true) in
+    let low : u < entry c.args.paper.index.now 2 = omega (arith, c.requires.stands.1, c.if-g-gt1.true) in
     asked (goal.at.returns-then-g-gt1 c).Start (suc (suc u)) (omega (arith, c.if-g-gt1.true)) (unsafe-goals _ _ _ u _ (c.modes_fit.ensures ∙ fits-there _ _ (region_at (goal.at.returns-then-g-gt1 c).Start) _ u _ low c.requires.stands.0) c.bit_of.ensures)
 
 pub region_rows-rows-requires : goal.region_rows-rows-requires

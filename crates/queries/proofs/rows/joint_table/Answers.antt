@@ -23,7 +23,7 @@ use Rattle.queries.proofs.rows.joint_table.Goals.{After-landing_at-landing, Afte
 use Rattle.queries.proofs.rows.joint_table.Goals as goal
 
 -- the location that the joint switch leaves
-stands : (c : After-modes_at-modes) → Stands c.args.model.now c.args.index.now c.args.location c.modes_at-modes.result
+stands : (c : After-modes_at-modes) → Stands c.args.paper.model.now c.args.paper.index.now c.args.location c.modes_at-modes.result
 stands c =
     let p = c.requires in
     stands_at_lem _ _ _ _ _ p.good_paper.good p.location_bound.0 c.modes_at-modes.ensures
@@ -31,10 +31,10 @@ stands c =
 -- where it lands, as the table tells it
 module _ (c : After-landing_at-landing) where
   abbrev model : List ℕ
-  model = c.args.model.now
+  model = c.args.paper.model.now
 
   abbrev index : List ℕ
-  index = c.args.index.now
+  index = c.args.paper.index.now
 
   abbrev lands : Landing
   lands = c.landing_at-landing.result
@@ -95,6 +95,6 @@ returns c =
     let long : entry (index (goal.at.returns c).After-landing_at-landing) 1 ≤ length modes.result = omega (arith, good.few, modes.type_inv) in
     let wide : entry (index (goal.at.returns c).After-landing_at-landing) 1 ≤ length targets.result = omega (arith, good.few, targets.type_inv) in
     let broad : entry (index (goal.at.returns c).After-landing_at-landing) 1 ≤ length (lands (goal.at.returns c).After-landing_at-landing).switches = omega (arith, good.few, switches-length (goal.at.returns c).After-landing_at-landing) in
-    let lines : lines_in _ made.result ≡ jump_lines (model (goal.at.returns c).After-landing_at-landing) (index (goal.at.returns c).After-landing_at-landing) a.regions.now a.location (per_component (index (goal.at.returns c).After-landing_at-landing) modes.result) (per_component (index (goal.at.returns c).After-landing_at-landing) targets.result) (lands (goal.at.returns c).After-landing_at-landing).switches =
+    let lines : lines_in _ made.result ≡ jump_lines (model (goal.at.returns c).After-landing_at-landing) (index (goal.at.returns c).After-landing_at-landing) a.paper.regions.now a.location (per_component (index (goal.at.returns c).After-landing_at-landing) modes.result) (per_component (index (goal.at.returns c).After-landing_at-landing) targets.result) (lands (goal.at.returns c).After-landing_at-landing).switches =
     made.ensures.result_after ∙ ap (λ (ls : List TableLine). ls ++ landing_lines (model (goal.at.returns c).After-landing_at-landing) (index (goal.at.returns c).After-landing_at-landing) (per_component (index (goal.at.returns c).After-landing_at-landing) targets.result) (lands (goal.at.returns c).After-landing_at-landing).switches) (lines_start (pushed (pushed-here.ensures.result_after, pushed-here.ensures.onto))) in
-    let held = jump-held (model (goal.at.returns c).After-landing_at-landing) (index (goal.at.returns c).After-landing_at-landing) a.second.now a.regions.now modes.result a.location long (here (goal.at.returns c).After-landing_at-landing) _ made.result (lands (goal.at.returns c).After-landing_at-landing).target a.e targets.result (lands (goal.at.returns c).After-landing_at-landing).switches wide (there (goal.at.returns c).After-modes_at-targets) broad (known (goal.at.returns c).After-landing_at-landing) good lines _ (same (goal.at.returns c).After-landing_at-landing) in record { joint_held = held; stacked = (made.ensures.onto.stacked, omega (arith, made.ensures.onto.few, pushed-here.ensures.onto.few)) }
+    let held = jump-held (model (goal.at.returns c).After-landing_at-landing) (index (goal.at.returns c).After-landing_at-landing) a.paper.second.now a.paper.regions.now modes.result a.location long (here (goal.at.returns c).After-landing_at-landing) _ made.result (lands (goal.at.returns c).After-landing_at-landing).target a.e targets.result (lands (goal.at.returns c).After-landing_at-landing).switches wide (there (goal.at.returns c).After-modes_at-targets) broad (known (goal.at.returns c).After-landing_at-landing) good lines _ (same (goal.at.returns c).After-landing_at-landing) in record { joint_held = held; stacked = (made.ensures.onto.stacked, omega (arith, made.ensures.onto.few, pushed-here.ensures.onto.few)) }

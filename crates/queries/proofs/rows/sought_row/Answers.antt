@@ -18,16 +18,16 @@ use Rattle.queries.proofs.rows.sought_row.Goals as goal
 -- what is told of what was found, and what is known of it
 module _ (s : Start) where
   abbrev m : Model
-  m = model_from s.args.model.now s.args.index.now
+  m = model_from s.args.paper.model.now s.args.paper.index.now
 
   abbrev region_at : ℕ → Condition
-  region_at = regions_of s.args.model.now s.args.index.now s.args.second.now s.args.regions.now
+  region_at = regions_of s.args.paper.model.now s.args.paper.index.now s.args.paper.second.now s.args.paper.regions.now
 
   abbrev tells : Sought → Located
-  tells x = located_of (roles_of m region_at) (sought_one s.args.model.now s.args.index.now region_at x) s.args.h
+  tells x = located_of (roles_of m region_at) (sought_one s.args.paper.model.now s.args.paper.index.now region_at x) s.args.h
 
-  known : {x : Sought} → s.args.sought ≡ x → KnownSought s.args.model.now s.args.index.now x
-  known e = subst (KnownSought s.args.model.now s.args.index.now) e s.requires.known_sought
+  known : {x : Sought} → s.args.sought ≡ x → KnownSought s.args.paper.model.now s.args.paper.index.now x
+  known e = subst (KnownSought s.args.paper.model.now s.args.paper.index.now) e s.requires.known_sought
 
 pub location_row-requires : goal.location_row-requires
 unfolding KnownSought
@@ -47,7 +47,7 @@ returns-in-AtLocation c =
 pub returns-in-AtJoint : goal.returns-in-AtJoint
 unfolding located_of sought_one jump_one joint_one roles_of kind_roles model_from KnownSought
 returns-in-AtJoint c =
-    let here = joint_here c.args.model.now c.args.index.now c.in-AtJoint.jump.location c.in-AtJoint.jump.event c.in-AtJoint.jump.nth in
+    let here = joint_here c.args.paper.model.now c.args.paper.index.now c.in-AtJoint.jump.location c.in-AtJoint.jump.event c.in-AtJoint.jump.nth in
     c.joint_row.ensures
     ∙ ap (λ (j : JointSwitch). located_at (joint_hypotheses (m (goal.at.returns-in-AtJoint c).Start) (region_at (goal.at.returns-in-AtJoint c).Start) here) (joint_roles (m (goal.at.returns-in-AtJoint c).Start) (region_at (goal.at.returns-in-AtJoint c).Start) j) c.args.h) (sym (known (goal.at.returns-in-AtJoint c).Start c.in-AtJoint.is).1)
     ∙ sym (ap (tells (goal.at.returns-in-AtJoint c).Start) c.in-AtJoint.is)

@@ -12,12 +12,12 @@ use Rattle.queries.proofs.rows.table_at.Goals.{Start}
 use Rattle.queries.proofs.rows.table_at.Goals as goal
 
 -- there is a mode for each component
-long : (s : Start) → entry s.args.index.now 1 ≤ length s.args.modes
+long : (s : Start) → entry s.args.paper.index.now 1 ≤ length s.args.modes
 unfolding entry
 long s = omega (arith, s.requires.good_paper.good.few, s.well_formed.1.1.1.1.1.0.1.0.1)
 
 -- the table of a group, by another name of its number
-held : (s : Start) {g count : ℕ} {table : List ℕ} → g ≡ s.args.g → GroupHeld s.args.model.now s.args.index.now s.args.second.now s.args.regions.now s.args.location g table count → GroupHeld s.args.model.now s.args.index.now s.args.second.now s.args.regions.now s.args.location s.args.g table count
+held : (s : Start) {g count : ℕ} {table : List ℕ} → g ≡ s.args.g → GroupHeld s.args.paper.model.now s.args.paper.index.now s.args.paper.second.now s.args.paper.regions.now s.args.location g table count → GroupHeld s.args.paper.model.now s.args.paper.index.now s.args.paper.second.now s.args.paper.regions.now s.args.location s.args.g table count
 held s e h = held_at _ _ _ _ _ _ (long s) s.requires.stands.0 _ _ e h
 
 pub start_table-requires : goal.start_table-requires

@@ -12,10 +12,10 @@ unfolding which_of which_tells sought_one group_one group_which
 returns-in-AtLocation c =
     let a = c.args in
     let p = c.requires in
-    let model = a.model.now in
-    let index = a.index.now in
-    let second = a.second.now in
-    let regions = a.regions.now in
+    let model = a.paper.model.now in
+    let index = a.paper.index.now in
+    let second = a.paper.second.now in
+    let regions = a.paper.regions.now in
     let m = model_from model index in
     let region_at = regions_of model index second regions in
     c.group_which.ensures ∙ sym (ap (λ (s : Sought). which_of (length second) (sought_one model index region_at s)) c.in-AtLocation.is)
@@ -25,10 +25,10 @@ unfolding which_of which_tells sought_one jump_one joint_one kind_number
 returns-in-AtJoint c =
     let a = c.args in
     let p = c.requires in
-    let model = a.model.now in
-    let index = a.index.now in
-    let second = a.second.now in
-    let regions = a.regions.now in
+    let model = a.paper.model.now in
+    let index = a.paper.index.now in
+    let second = a.paper.second.now in
+    let regions = a.paper.regions.now in
     let m = model_from model index in
     let region_at = regions_of model index second regions in
     sym (ap (λ (s : Sought). which_of (length second) (sought_one model index region_at s)) c.in-AtJoint.is)
