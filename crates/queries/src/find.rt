@@ -5,22 +5,22 @@ ghost use Rattle.formats.specs.Locations.{location_count};
 ghost use Rattle.formats.specs.Joint.{joints_of, joints};
 ghost use Rattle.models.specs.Index.{components_from, model_from, conditions_in};
 ghost use Rattle.rules.specs.Obligations.{location_obligations};
-ghost use Rattle.papers.specs.Paper.{GoodPaper, regions_of};
+ghost use Rattle.papers.specs.Paper.{PaperRead, of_paper, on_paper, regions_of};
 ghost use Rattle.papers.specs.Standing.{Stands};
 ghost use Rattle.queries.specs.Finding.{one_at, KnownSought, paper_obligations, group_obligations_for, sought_in_for, LeadsToLocation, LeadsToGroup, ListedFrom, leaving_from, SoughtInFor};
 
 use crate::{JumpLine, Sought, Spot};
 use joint_switches::Slot;
-use joint_switches::joints::{bit_of, modes_at};
+use joint_switches::joints::modes_at;
 use joint_switches::slots::{WAYS_LENGTH, landing_at, list_slot};
-use models::layout::{CONDITIONS_AT, FIRST_TOTAL, Index, LOCATIONS_AT};
+use models::layout::{CONDITIONS_AT, FIRST_TOTAL, LOCATIONS_AT};
+use papers::Paper;
 use papers::standing::{all_start, modes_fit};
 use scores::counting::{location_goals, region_rows};
-use second_sheets::ranges::Regions;
 use std::ops::ControlFlow;
 
 // The location that has the obligation, or the number of locations where none has.
-fn find_location(paper: Paper, locations: u32, o: u32,) -> Spot
+fn find_location(paper: Paper, locations: u32, o: u32) -> Spot
     requires good_paper { PaperRead paper }
     requires locations_value { locations ≡ location_count (components_from paper.model.now paper.index.now) }
     ensures { on_paper LeadsToLocation paper.entry locations o result }
@@ -40,13 +40,13 @@ fn find_location(paper: Paper, locations: u32, o: u32,) -> Spot
 }
 
 // How many goals a group of a location has.
-fn group_goals(paper: Paper, location: u32, modes: [u8; 4], g: u32,) -> u32
+fn group_goals(paper: Paper, location: u32, modes: [u8; 4], g: u32) -> u32
     requires good_paper { PaperRead paper }
     requires stands { Stands paper.model.now paper.index.now location modes × (g < 2 + conditions_in paper.index.now) }
     ensures { result ≡ length (of_paper group_obligations_for paper.entry location g) }
 {
     if 1 < g {
-        return bit_of(modes_fit(paper.model, paper.index, (g - 2) as usize, modes));
+        return u32::from(modes_fit(paper.model, paper.index, (g - 2) as usize, modes));
     }
     let rows = region_rows(paper, location);
     if g == 1 {
@@ -60,7 +60,7 @@ fn group_goals(paper: Paper, location: u32, modes: [u8; 4], g: u32,) -> u32
 }
 
 // The group that has one of a location's obligations, and its line there.
-fn find_group(paper: Paper, location: u32, o: u32,) -> Spot
+fn find_group(paper: Paper, location: u32, o: u32) -> Spot
     requires good_paper { PaperRead paper }
     requires location_bound { location < location_count (components_from paper.model.now paper.index.now) }
     requires o_in_bounds { o < length (location_obligations (model_from paper.model.now paper.index.now) (of_paper regions_of paper) location) }
@@ -81,7 +81,13 @@ fn find_group(paper: Paper, location: u32, o: u32,) -> Spot
 }
 
 // The obligation with a number among those of an event's joint switches, from the table that lists them.
-fn find_switch(paper: Paper, location: u32, slot: Slot, ways: &[u8], from: Spot,) -> ControlFlow<JumpLine, Spot>
+fn find_switch(
+    paper: Paper,
+    location: u32,
+    slot: Slot,
+    ways: &[u8],
+    from: Spot,
+) -> ControlFlow<JumpLine, Spot>
     requires good_paper { PaperRead paper }
     requires location_bound { (location < location_count (components_from paper.model.now paper.index.now)) × ListedFrom paper.model.now paper.index.now location ways.now slot }
     requires e_bound { (slot.e ≤ 15) × (from.at + length (joints_of (components_from paper.model.now paper.index.now) location slot.e) ≤ 4096) }
@@ -111,7 +117,13 @@ fn find_switch(paper: Paper, location: u32, slot: Slot, ways: &[u8], from: Spot,
 }
 
 // The same from the location: where the event has joint switches they are listed once.
-fn find_event(paper: Paper, location: u32, modes: [u8; 4], e: u32, from: Spot,) -> ControlFlow<JumpLine, Spot>
+fn find_event(
+    paper: Paper,
+    location: u32,
+    modes: [u8; 4],
+    e: u32,
+    from: Spot,
+) -> ControlFlow<JumpLine, Spot>
     requires good_paper { PaperRead paper }
     requires stands { Stands paper.model.now paper.index.now location modes × ((e ≤ 15) × (from.at + length (joints_of (components_from paper.model.now paper.index.now) location e) ≤ 4096)) }
     ensures { on_paper SoughtInFor paper.entry (joints_of (components_from paper.entry.model.now paper.entry.index.now) location e) from result }
@@ -125,7 +137,7 @@ fn find_event(paper: Paper, location: u32, modes: [u8; 4], e: u32, from: Spot,) 
 }
 
 // The obligation with a number among those of the joint switches that leave a location, event by event.
-fn find_leaving(paper: Paper, location: u32, from: Spot,) -> ControlFlow<JumpLine, Spot>
+fn find_leaving(paper: Paper, location: u32, from: Spot) -> ControlFlow<JumpLine, Spot>
     requires good_paper { PaperRead paper }
     requires location_bound { (location < location_count (components_from paper.model.now paper.index.now)) × (from.at + length (leaving_from paper.model.now paper.index.now location) ≤ 4096) }
     ensures { on_paper SoughtInFor paper.entry (leaving_from paper.entry.model.now paper.entry.index.now location) from result }
@@ -139,7 +151,7 @@ fn find_leaving(paper: Paper, location: u32, from: Spot,) -> ControlFlow<JumpLin
 }
 
 // The obligation with a number among those of all joint switches, location by location.
-fn find_jump(paper: Paper, locations: u32, o: u32,) -> ControlFlow<JumpLine, Spot>
+fn find_jump(paper: Paper, locations: u32, o: u32) -> ControlFlow<JumpLine, Spot>
     requires good_paper { PaperRead paper }
     requires locations_value { (locations ≡ location_count (components_from paper.model.now paper.index.now)) × (length (joints (components_from paper.model.now paper.index.now)) ≤ 4096) }
     ensures { on_paper SoughtInFor paper.entry (joints (components_from paper.entry.model.now paper.entry.index.now)) (record { at = 0; left = o }) result }

@@ -5,7 +5,7 @@ ghost use Rattle.formats.specs.Joint.{switches_of};
 ghost use Rattle.formats.specs.Versions.{row_bytes};
 ghost use Rattle.models.specs.Index.{components_from, conditions_in};
 ghost use Rattle.hypotheses.specs.Tables.{row_place, hypothesis_in, hypotheses_from, roles_from, Stacked};
-ghost use Rattle.papers.specs.Paper.{GoodPaper};
+ghost use Rattle.papers.specs.Paper.{PaperRead, of_paper, on_paper};
 ghost use Rattle.papers.specs.Standing.{Stands};
 ghost use Rattle.rules.specs.Beside.{found};
 ghost use Rattle.queries.specs.Finding.{row_found, no_row, located_at, joint_here, KnownSought, GroupHeld, JointHeld, group_row_for, joint_row_for, sought_row_for};
@@ -16,13 +16,13 @@ use hypotheses::groups::{flow_table, jump_table, push_here, start_table, unsafe_
 use hypotheses::tables::{TABLE_LENGTH, lines};
 use joint_switches::joints::modes_at;
 use joint_switches::slots::{WAYS_LENGTH, landing_at, list_slot};
-use models::layout::{Index, VARIABLES_AT, VERSION_AT};
-use second_sheets::ranges::Regions;
+use models::layout::{VARIABLES_AT, VERSION_AT};
+use papers::Paper;
 use sums::Line;
 use sums::lines::{line_at, row_place, segment_of};
 
 // The table of a location's group.
-fn table_at(paper: Paper, location: u32, modes: [u8; 4], g: u32, table: &mut [u16],) -> usize
+fn table_at(paper: Paper, location: u32, modes: [u8; 4], g: u32, table: &mut [u16]) -> usize
     requires good_paper { PaperRead paper }
     requires stands { Stands paper.model.now paper.index.now location modes × ((g < 2 + conditions_in paper.index.now) × ((96 ≤ length table.old) × Stacked table.old 0)) }
     ensures group_held { on_paper GroupHeld paper.entry location g table.new result }
@@ -34,13 +34,7 @@ fn table_at(paper: Paper, location: u32, modes: [u8; 4], g: u32, table: &mut [u1
     if g == 1 {
         return flow_table(paper, location, modes, table);
     }
-    unsafe_table(
-        paper,
-        location,
-        modes,
-        (g - 2) as usize,
-        table,
-    )
+    unsafe_table(paper, location, modes, (g - 2) as usize, table)
 }
 
 // Where the row of a hypothesis stands, one of rows with n coefficients.
@@ -117,7 +111,7 @@ fn row_in(
 }
 
 // Where the row of a hypothesis of a location's group stands, and its role and owner.
-fn location_row(paper: Paper, location: u32, g: u32, h: u32,) -> Located
+fn location_row(paper: Paper, location: u32, g: u32, h: u32) -> Located
     requires good_paper { PaperRead paper }
     requires location_bound { (location < location_count (components_from paper.model.now paper.index.now)) × (g < 2 + conditions_in paper.index.now) }
     ensures { result ≡ of_paper group_row_for paper.entry location g h }
@@ -126,14 +120,12 @@ fn location_row(paper: Paper, location: u32, g: u32, h: u32,) -> Located
     let version = paper.index[VERSION_AT] as u32;
     let n = paper.index[VARIABLES_AT] as usize;
     let mut table = [0u16; TABLE_LENGTH];
-    let segments = table_at(
-        paper, location, modes, g, &mut table,
-    );
+    let segments = table_at(paper, location, modes, g, &mut table);
     row_in(paper.model, paper.second, version, n, &table, segments, h)
 }
 
 // The table of a joint switch, by its number among those of its event.
-fn joint_table(paper: Paper, location: u32, e: u32, x: u32, table: &mut [u16],) -> usize
+fn joint_table(paper: Paper, location: u32, e: u32, x: u32, table: &mut [u16]) -> usize
     requires good_paper { PaperRead paper }
     requires location_bound { (location < location_count (components_from paper.model.now paper.index.now)) × ((e ≤ 15) × (x < length (switches_of (components_from paper.model.now paper.index.now) (modes_at (components_from paper.model.now paper.index.now) location) e))) }
     requires in_bounds { (96 ≤ length table.old) × Stacked table.old 0 }
@@ -151,7 +143,7 @@ fn joint_table(paper: Paper, location: u32, e: u32, x: u32, table: &mut [u16],) 
 }
 
 // Where the row of a hypothesis of a joint switch stands, and its role and owner.
-fn joint_row(paper: Paper, location: u32, e: u32, x: u32, h: u32,) -> Located
+fn joint_row(paper: Paper, location: u32, e: u32, x: u32, h: u32) -> Located
     requires good_paper { PaperRead paper }
     requires location_bound { (location < location_count (components_from paper.model.now paper.index.now)) × ((e ≤ 15) × (x < length (switches_of (components_from paper.model.now paper.index.now) (modes_at (components_from paper.model.now paper.index.now) location) e))) }
     ensures { result ≡ of_paper joint_row_for paper.entry (joint_here paper.entry.model.now paper.entry.index.now location e x) h }
@@ -164,21 +156,13 @@ fn joint_row(paper: Paper, location: u32, e: u32, x: u32, h: u32,) -> Located
 }
 
 // Where the row of a hypothesis of what was found stands, and its role and owner.
-pub fn sought_row(paper: Paper, sought: Sought, h: u32,) -> Located
+pub fn sought_row(paper: Paper, sought: Sought, h: u32) -> Located
     requires good_paper { PaperRead paper }
     requires known_sought { KnownSought paper.model.now paper.index.now sought }
     ensures { result ≡ of_paper sought_row_for paper.entry sought h }
 {
     match sought {
-        Sought::AtLocation(location, g, _) => location_row(
-            paper, location, g, h,
-        ),
-        Sought::AtJoint(jump) => joint_row(
-            paper,
-            jump.location,
-            jump.event,
-            jump.nth,
-            h,
-        ),
+        Sought::AtLocation(location, g, _) => location_row(paper, location, g, h),
+        Sought::AtJoint(jump) => joint_row(paper, jump.location, jump.event, jump.nth, h),
     }
 }

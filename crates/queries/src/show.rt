@@ -1,7 +1,7 @@
 // Show row: which obligation has a number, and where the row of one of its hypotheses stands, in what role and whose it is.
 ghost use Rattle.std.specs.Prelude.{◌≡◌, length};
 ghost use Rattle.formats.specs.ModelSheet.{stated};
-ghost use Rattle.papers.specs.Paper.{GoodPaper};
+ghost use Rattle.papers.specs.Paper.{PaperRead, of_paper, on_paper};
 ghost use Rattle.rules.specs.Beside.{find_hypothesis, show_answer, show_part};
 ghost use Rattle.queries.specs.Finding.{which_obligation, which_refused, group_which, row_found, hypothesis_located, hypothesis_answer, RowInside, which_of, OpensTo, PartIs, sought_one_for, row_answer};
 
@@ -10,6 +10,7 @@ use crate::rows::{refused_row, sought_row};
 use crate::{Located, RowFound, Shown, Sought, Which};
 use formats::Limits;
 use models::layout::{INDEX_LENGTH, Index, LOCATIONS_AT, VARIABLES_AT, VERSION_AT};
+use papers::Paper;
 use papers::answers::second_refused;
 use papers::opening::open_paper;
 use rules::Answer;
@@ -41,7 +42,7 @@ fn group_which(size: u32, location: u32, g: u32, line: u32) -> Which
 }
 
 // Which obligation was found.
-fn sought_which(paper: Paper, sought: Sought,) -> Which
+fn sought_which(paper: Paper, sought: Sought) -> Which
     requires { PaperRead paper }
     ensures { result ≡ which_of (length paper.entry.second.now) (of_paper sought_one_for paper.entry sought) }
 {
@@ -102,8 +103,14 @@ pub fn which(model: &[u8], second: &[u8], o: u32, limits: Limits) -> Which
     if let Err(answer) = open_regions(model, second, &mut index, &mut regions, limits) {
         return no_which(answer.number, answer.sheet, answer.place);
     }
-    match find(model, &index, second, &regions, o) {
-        Some(sought) => sought_which(model, &index, second, &regions, sought),
+    let paper = Paper {
+        model,
+        index: &index,
+        second,
+        regions: &regions,
+    };
+    match find(paper, o) {
+        Some(sought) => sought_which(paper, sought),
         None => no_which(5, 2, 0),
     }
 }
@@ -119,8 +126,14 @@ pub fn find_row(model: &[u8], second: &[u8], o: u32, h: u32, limits: Limits) -> 
     if let Err(answer) = open_regions(model, second, &mut index, &mut regions, limits) {
         return refused_row(answer.number, answer.sheet, answer.place);
     }
-    match find(model, &index, second, &regions, o) {
-        Some(sought) => sought_row(model, &index, second, &regions, sought, h),
+    let paper = Paper {
+        model,
+        index: &index,
+        second,
+        regions: &regions,
+    };
+    match find(paper, o) {
+        Some(sought) => sought_row(paper, sought, h),
         None => refused_row(5, 2, 0),
     }
 }

@@ -13,10 +13,10 @@ use Rattle.papers.proofs.LandedLaws.{listed-there}
 use Rattle.queries.proofs.FindLaws.{none-there}
 use Rattle.queries.proofs.find.find_event.Goals as goal
 
-pub returns-then-index-e-eq0 : goal.returns-then-index-e-eq0
+pub returns-then-paper-e-eq0 : goal.returns-then-paper-e-eq0
 unfolding entry
-returns-then-index-e-eq0 c =
-    let nothing = event-none (countable (good-components c.requires.good_paper.good)) c.args.e c.args.location (sym (c.requires.good_paper.counted.events c.args.e (omega (arith, c.requires.stands.1.0))) ∙ c.if-index-e-eq0.true) c.requires.stands.0.below in
+returns-then-paper-e-eq0 c =
+    let nothing = event-none (countable (good-components c.requires.good_paper.good)) c.args.e c.args.location (sym (c.requires.good_paper.counted.events c.args.e (omega (arith, c.requires.stands.1.0))) ∙ c.if-paper-e-eq0.true) c.requires.stands.0.below in
     none-there _ _ _ _ _ c.args.from.at c.args.from.left nothing
 
 pub list_slot-slot-requires : goal.list_slot-slot-requires

@@ -1,4 +1,5 @@
 -- By its number: an unsafe condition, the flow, the start. Assumes nothing.
+use Rattle.formats.specs.Joint.{bit}
 use mathlib.Core.Path.{◌≡◌, sym, ap, ◌∙◌}
 use Prim.Native.Nat.{ℕ, suc, ◌-◌, ◌<◌}
 use native.Mathlib.Omega.{arith}
@@ -36,10 +37,11 @@ pub modes_fit-requires : goal.modes_fit-requires
 modes_fit-requires c = (c.requires.good_paper.good, omega (arith, c.requires.stands.1, c.if-g-gt1.true))
 
 pub returns-then-g-gt1 : goal.returns-then-g-gt1
+unfolding bit
 returns-then-g-gt1 c =
     let u : ℕ = c.args.g - 2 in
     let low : u < entry c.args.paper.index.now 2 = omega (arith, c.requires.stands.1, c.if-g-gt1.true) in
-    asked (goal.at.returns-then-g-gt1 c).Start (suc (suc u)) (omega (arith, c.if-g-gt1.true)) (unsafe-goals _ _ _ u _ (c.modes_fit.ensures ∙ fits-there _ _ (region_at (goal.at.returns-then-g-gt1 c).Start) _ u _ low c.requires.stands.0) c.bit_of.ensures)
+    asked (goal.at.returns-then-g-gt1 c).Start (suc (suc u)) (omega (arith, c.if-g-gt1.true)) (unsafe-goals _ _ _ u _ (c.modes_fit.ensures ∙ fits-there _ _ (region_at (goal.at.returns-then-g-gt1 c).Start) _ u _ low c.requires.stands.0) c.from.ensures)
 
 pub region_rows-rows-requires : goal.region_rows-rows-requires
 region_rows-rows-requires c = record { good_paper = c.requires.good_paper; location_bound = c.requires.stands.0.below }

@@ -1,4 +1,5 @@
 -- By its number. Assumes nothing.
+use Rattle.std.proofs.Common.{rules}
 use mathlib.Core.Path.{◌≡◌, sym}
 use Prim.Native.Nat.{ℕ, suc, ◌-◌, ◌≤◌}
 use native.Mathlib.Omega.{arith}
@@ -14,7 +15,9 @@ use Rattle.queries.proofs.rows.table_at.Goals as goal
 -- there is a mode for each component
 long : (s : Start) → entry s.args.paper.index.now 1 ≤ length s.args.modes
 unfolding entry
-long s = omega (arith, s.requires.good_paper.good.few, s.well_formed.1.1.1.1.1.0.1.0.1)
+long s =
+    let four : ◌≡◌ {A = ℕ} (length s.args.modes) 4 = search rules in
+    omega (arith, s.requires.good_paper.good.few, four)
 
 -- the table of a group, by another name of its number
 held : (s : Start) {g count : ℕ} {table : List ℕ} → g ≡ s.args.g → GroupHeld s.args.paper.model.now s.args.paper.index.now s.args.paper.second.now s.args.paper.regions.now s.args.location g table count → GroupHeld s.args.paper.model.now s.args.paper.index.now s.args.paper.second.now s.args.paper.regions.now s.args.location s.args.g table count
