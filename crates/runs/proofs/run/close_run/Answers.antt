@@ -1,6 +1,7 @@
 -- By cases: bytes left, then the state reached. Assumes nothing.
 use mathlib.Core.Path.{◌∙◌}
 use native.Mathlib.Omega.{arith}
+use borrow.Author.Rules.{rules}
 use Rattle.runs.proofs.RunCode.{close-left, left-placed, close-unsafe, close-safe}
 use Rattle.runs.proofs.run.close_run.Goals as goal
 
@@ -18,9 +19,11 @@ returns-in-Err c =
 pub returns-then-is_unsafe : goal.returns-then-is_unsafe
 returns-then-is_unsafe c =
     let a = c.args in
-    c.second_accepted.ensures ∙ close-unsafe a.model.now a.index.now a.q a.s.now a.run a.state.now c.in_default.field-0 c.in_default.ensures c.if-is_unsafe.ensures
+    let closes = close-unsafe a.model.now a.index.now a.q a.s.now a.run a.state.now c.in_default.field-0 c.in_default.ensures c.if-is_unsafe.ensures in
+    search rules
 
 pub returns-else-is_unsafe : goal.returns-else-is_unsafe
 returns-else-is_unsafe c =
     let a = c.args in
-    c.second_refused-else-is_unsafe.ensures ∙ close-safe a.model.now a.index.now a.q a.s.now a.run a.state.now c.in_default.field-0 c.in_default.ensures c.if-is_unsafe.ensures
+    let closes = close-safe a.model.now a.index.now a.q a.s.now a.run a.state.now c.in_default.field-0 c.in_default.ensures c.if-is_unsafe.ensures in
+    search rules
