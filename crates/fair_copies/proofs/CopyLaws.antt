@@ -7,6 +7,7 @@ use native.Mathlib.Omega.{arith}
 use borrow.Author.Tests.{le-leb, lt-leb}
 use lib.Dec.{T, ltb, eqb, leb, ltb→lt, eqb→eq}
 use lib.ListN.{length}
+use Rattle.std.specs.Prelude.{Option, None, Some, Err}
 use Rattle.farkas.specs.Lists.{All, none, more}
 use Rattle.farkas.specs.Sizes.{Bytes}
 use Rattle.formats.specs.Versions.{has_paper}
@@ -22,8 +23,8 @@ use Rattle.rules.proofs.ListFacts.{joined-alike}
 use Rattle.rules.proofs.Opening.{Begins, begins}
 use Rattle.rules.specs.declared.Answer.{Answer}
 use Rattle.rules.specs.Marking.{answer, with_model}
-use Rattle.papers.specs.Opening.{opened_model, ModelOpen}
-use Rattle.papers.proofs.OpenLaws.{model-refused}
+use Rattle.papers.specs.Opening.{model_answer, opened_model, ModelOpen}
+use Rattle.papers.proofs.OpenLaws.{numbered, model-refused}
 use Rattle.writing.specs.Changed.{changed, changed_component, changed_unsafe}
 use Rattle.writing.specs.Writing.{half, word, write_component, write_unsafe, write_fields, paper_bytes, write_paper, write_body, write_model}
 use Rattle.writing.proofs.ReadsLaws.{Paired, paired_none, paired-more}
@@ -153,26 +154,25 @@ headed m out body lengthed versioned after end next last done size version b s h
     }
 
 -- whether it fits
-pub fits_all : (copied room : ℕ) → copied ≤ room → 0 ≡ cond (leb copied room) 0 copied
-fits_all copied room h = sym (ap (λ (b : Bool). cond b 0 copied) (le-leb copied room h))
+pub fits_all : (copied room : ℕ) → copied ≤ room → ◌≡◌ {A = Option ℕ} None (cond (leb copied room) None (Some copied))
+fits_all copied room h = sym (ap (λ (b : Bool). cond b None (Some copied)) (le-leb copied room h))
 
-pub fits_not : (copied room : ℕ) → room < copied → copied ≡ cond (leb copied room) 0 copied
-fits_not copied room h = sym (ap (λ (b : Bool). cond b 0 copied) (lt-leb copied room h))
+pub fits_not : (copied room : ℕ) → room < copied → ◌≡◌ {A = Option ℕ} (Some copied) (cond (leb copied room) None (Some copied))
+fits_not copied room h = sym (ap (λ (b : Bool). cond b None (Some copied)) (lt-leb copied room h))
 
-pub lacks : (copied room needed : ℕ) → needed ≡ cond (leb copied room) 0 copied → (needed ≡ 0 → ⊥) → (leb copied room ≡ false) × (needed ≡ copied)
-lacks copied room needed e h = go (leb copied room) refl e
+pub lacks : (copied room needed : ℕ) → ◌≡◌ {A = Option ℕ} (Some needed) (cond (leb copied room) None (Some copied)) → (leb copied room ≡ false) × (needed ≡ copied)
+lacks copied room needed e = go (leb copied room) refl e
   where
-    go : (b : Bool) → leb copied room ≡ b → needed ≡ cond b 0 copied → (leb copied room ≡ false) × (needed ≡ copied)
-    go true f e = absurd (h e)
-    go false f e = (f, e)
+    go : (b : Bool) → leb copied room ≡ b → ◌≡◌ {A = Option ℕ} (Some needed) (cond b None (Some copied)) → (leb copied room ≡ false) × (needed ≡ copied)
+    go true f e = let z : ◌≡◌ {A = ℕ} 0 1 = cc in absurd (omega arith)
+    go false f e = let q : needed ≡ copied = cc in (f, q)
 
-pub lacks-nothing : (m : Model) (room needed : ℕ) → needed ≡ cond (leb (length (fair_copy m)) room) 0 (length (fair_copy m)) → needed ≡ 0 → leb (length (fair_copy m)) room ≡ true
-unfolding fair_copy
-lacks-nothing m room needed e h = go (leb (length (fair_copy m)) room) refl e
+pub lacks-nothing : (copied room : ℕ) → ◌≡◌ {A = Option ℕ} None (cond (leb copied room) None (Some copied)) → leb copied room ≡ true
+lacks-nothing copied room e = go (leb copied room) refl e
   where
-    go : (b : Bool) → leb (length (fair_copy m)) room ≡ b → needed ≡ cond b 0 (length (fair_copy m)) → leb (length (fair_copy m)) room ≡ true
+    go : (b : Bool) → leb copied room ≡ b → ◌≡◌ {A = Option ℕ} None (cond b None (Some copied)) → leb copied room ≡ true
     go true f e = f
-    go false f e = absurd (omega (arith, written-size (fair_model m)))
+    go false f e = let z : ◌≡◌ {A = ℕ} 0 1 = cc in absurd (omega arith)
 
 -- what the call hands back, each way
 pub answer-short : (handed copied needed : ℕ) (b : Bool) → b ≡ false → needed ≡ copied → record { number = 15; sheet = 2; place = needed; done = 0; score = 0 } ≡ copy_answer handed copied b
@@ -192,20 +192,20 @@ unfolding copy_over
 buffer-copied buffer copy after b e q = q ∙ sym (ap (copy_over buffer copy) e)
 
 -- and by how the model opens: a refusal leaves the buffer as it was
-pub shut-buffer : (limits : Limits) (model buffer : List ℕ) → ((opened_model limits model).number ≡ 0 → ⊥) → buffer ≡ buffer_after limits model buffer
-unfolding buffer_after buffer_by opened_model with_model answer
-shut-buffer limits model buffer f = go (open_model limits model) f
+pub shut-buffer : (limits : Limits) (model buffer : List ℕ) (a : Answer) → model_answer (Err a) ≡ opened_model limits model → 1 ≤ a.number → buffer ≡ buffer_after limits model buffer
+unfolding buffer_after buffer_by opened_model model_answer with_model answer
+shut-buffer limits model buffer a e some = go (open_model limits model) e
   where
-    go : (g : ModelOpened) → ((with_model g (λ m. answer 0 0 0 0 0)).number ≡ 0 → ⊥) → buffer ≡ buffer_by buffer g
-    go (shut number sheet at) f = refl
-    go (opens m) f = absurd (f refl)
+    go : (g : ModelOpened) → a ≡ with_model g (λ m. answer 0 0 0 0 0) → buffer ≡ buffer_by buffer g
+    go (shut number sheet at) e = refl
+    go (opens m) e = absurd (numbered e some refl)
 
 abbrev answer_by : ℕ → ℕ → ModelOpened → Answer
 answer_by handed room g = with_model g (λ m. copy_answer handed (length (fair_copy m)) (leb (length (fair_copy m)) room))
 
-pub shut-answer : (limits : Limits) (model : List ℕ) (room : ℕ) → ((opened_model limits model).number ≡ 0 → ⊥) → opened_model limits model ≡ fair_answer limits model room
-unfolding fair_answer with_model
-shut-answer limits model room f = model-refused limits model (answer_by (length model) room) (λ number sheet at. refl) f
+pub shut-answer : (limits : Limits) (model : List ℕ) (room : ℕ) (a : Answer) → model_answer (Err a) ≡ opened_model limits model → 1 ≤ a.number → a ≡ fair_answer limits model room
+unfolding fair_answer with_model model_answer
+shut-answer limits model room a e some = e ∙ model-refused limits model (answer_by (length model) room) (λ number sheet at. refl) (numbered e some)
 
 pub open-answer : (limits : Limits) (model : List ℕ) (room : ℕ) (m : Model) → open_model limits model ≡ opens m → copy_answer (length model) (length (fair_copy m)) (leb (length (fair_copy m)) room) ≡ fair_answer limits model room
 unfolding fair_answer with_model

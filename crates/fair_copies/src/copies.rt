@@ -1,5 +1,5 @@
 // The fair copy whole: how long it is, whether it fits, and its bytes.
-ghost use Rattle.std.specs.Prelude.{cond, ◌≡◌, ◌+◌, ◌^◌, ◌≤◌, ◌<◌, leb, length};
+ghost use Rattle.std.specs.Prelude.{Some, None, cond, ◌≡◌, ◌+◌, ◌^◌, ◌≤◌, ◌<◌, leb, length};
 ghost use Rattle.buffers.specs.Written.{Written};
 ghost use Rattle.models.specs.Index.{model_from, version_in, paper_in};
 ghost use Rattle.writing.specs.Writing.{write_paper, write_fields, write_body};
@@ -98,21 +98,27 @@ fn copy_length(model: &[u8], index: &Index, kept: &mut [u32], sorted: &mut [u8])
     put_body(&mut none, HEADER_LENGTH, model, index, kept, sorted)
 }
 
-// The length that the copy needs where it does not fit so much room, else 0. It is no longer than the model, so that it is measured only
-// where there is less room than that.
-fn lacking(model: &[u8], index: &Index, room: usize, kept: &mut [u32], sorted: &mut [u8]) -> usize
+// The length that the copy needs where it does not fit so much room. It is no longer than the model, so that it is measured only where
+// there is less room than that.
+fn lacking(
+    model: &[u8],
+    index: &Index,
+    room: usize,
+    kept: &mut [u32],
+    sorted: &mut [u8],
+) -> Option<usize>
     requires copyable { Copyable model.now index.now × Room kept.old sorted.old }
     requires index_in_bounds { length (fair_copy (model_from model.now index.now)) ≤ length model.now }
-    ensures { result ≡ cond (leb (length (fair_copy (model_from model.now index.now))) room) 0 (length (fair_copy (model_from model.now index.now))) }
+    ensures { result ≡ cond (leb (length (fair_copy (model_from model.now index.now))) room) None (Some (length (fair_copy (model_from model.now index.now)))) }
 {
     if model.len() <= room {
-        return 0;
+        return None;
     }
     let needed = copy_length(model, index, kept, sorted);
     if needed <= room {
-        return 0;
+        return None;
     }
-    needed
+    Some(needed)
 }
 
 // The copy: its body, then the header, which has its length. The place after it.
@@ -143,8 +149,7 @@ fn copy_open(model: &[u8], index: &Index, copy: &mut [u8]) -> Answer
 {
     let mut kept = [0u32; KEPT_LENGTH];
     let mut sorted = [0u8; MOST_ROWS];
-    let needed = lacking(model, index, copy.len(), &mut kept, &mut sorted);
-    if needed != 0 {
+    if let Some(needed) = lacking(model, index, copy.len(), &mut kept, &mut sorted) {
         return Answer {
             number: 15,
             sheet: 2,
@@ -169,9 +174,8 @@ pub fn fair_copy(model: &[u8], copy: &mut [u8], limits: Limits) -> Answer
     ensures copy_after { copy.new ≡ buffer_after limits model.now copy.old }
 {
     let mut index = [0u16; INDEX_LENGTH];
-    let opened = open_model(model, &mut index, limits);
-    if opened.number != 0 {
-        return opened;
+    match open_model(model, &mut index, limits) {
+        Ok(_) => copy_open(model, &index, copy),
+        Err(answer) => answer,
     }
-    copy_open(model, &index, copy)
 }

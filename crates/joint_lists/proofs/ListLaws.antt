@@ -6,6 +6,7 @@ use Prim.Native.Nat.{ℕ, ◌≤◌, ◌<◌}
 use native.Mathlib.Omega.{arith}
 use lib.ListN.{length}
 use borrow.Author.Tests.{le-leb, lt-leb}
+use Rattle.std.specs.Prelude.{Result, Ok, Err, OnOk, IfErr}
 use Rattle.formats.specs.Model.{Component, Model}
 use Rattle.formats.specs.Joint.{joints}
 use Rattle.formats.specs.declared.Limits.{Limits}
@@ -13,9 +14,9 @@ use Rattle.rules.specs.Marking.{answer, with_model}
 use Rattle.rules.specs.Beside.{list_of, list_answer}
 use Rattle.rules.specs.declared.Answer.{Answer}
 use Rattle.rules.specs.Opening.{opens, open_model}
-use Rattle.papers.specs.Opening.{opened_model, ModelOpen}
+use Rattle.papers.specs.Opening.{model_answer, opened_model, ModelOpen}
 use Rattle.rules.proofs.Calls.{list_by}
-use Rattle.papers.proofs.OpenLaws.{model-refused, opens-number}
+use Rattle.papers.proofs.OpenLaws.{numbered, model-refused, opens-number}
 use Rattle.joint_lists.specs.Records.{SheetIndex}
 
 -- The answer on a model that was read, by its count
@@ -34,14 +35,16 @@ module _ (components : List Component) (size lent count : ℕ) (exact : count �
 
 -- The whole, by how the model opens
 module _ (limits : Limits) (model : List ℕ) (lent : ℕ) where
-  pub list-refused : ((opened_model limits model).number ≡ 0 → ⊥) → opened_model limits model ≡ list_answer limits model lent
-  unfolding list_answer with_model
-  list-refused f = model-refused limits model (list_by model lent) (λ number sheet at. refl) f
+  pub list-refused : (a : Answer) → model_answer (Err a) ≡ opened_model limits model → 1 ≤ a.number → a ≡ list_answer limits model lent
+  unfolding list_answer with_model model_answer
+  list-refused a e some = e ∙ model-refused limits model (list_by model lent) (λ number sheet at. refl) (numbered e some)
 
   pub list_read : (m : Model) → open_model limits model ≡ opens m → list_of m.components (length model) lent ≡ list_answer limits model lent
   unfolding list_answer with_model
   list_read m e = sym (ap (list_by model lent) e)
 
 -- the index that the model was read into is the sheet's
-pub index_of : (limits : Limits) (model index : List ℕ) (a : Answer) → a ≡ opened_model limits model → (a.number ≡ 0 → ModelOpen limits model index) → SheetIndex limits model index
-index_of limits model index a e w = record { holds = λ m o. w (ap (λ (x : Answer). x.number) e ∙ opens-number limits model m o) }
+pub index_of : (limits : Limits) (model index : List ℕ) (r : Result (Unit {0}) Answer) → model_answer r ≡ opened_model limits model → OnOk r (ModelOpen limits model index) → IfErr r (λ a. 1 ≤ a.number) → SheetIndex limits model index
+unfolding model_answer
+index_of limits model index (Ok done) e w some = record { holds = λ m o. w }
+index_of limits model index (Err a) e w some = record { holds = λ m o. absurd (numbered e some (opens-number limits model m o)) }

@@ -43,11 +43,10 @@ fn answer_into(model: &[u8], records: usize, index: &mut Index, limits: Limits) 
     ensures value { result ≡ list_answer limits model.now records }
     ensures sheet_index { SheetIndex limits model.now index.new }
 {
-    let opened = open_model(model, index, limits);
-    if opened.number != 0 {
-        return opened;
+    match open_model(model, index, limits) {
+        Ok(_) => count_answer(model, index, records),
+        Err(answer) => answer,
     }
-    count_answer(model, index, records)
 }
 
 // The answer for a table of so many records, and the model's index.

@@ -15,14 +15,16 @@ use Rattle.farkas.specs.Lists.{All, none, more}
 use Rattle.second_sheets.specs.declared.Switches.{Switches}
 use Rattle.second_sheets.specs.declared.Step as coded
 use Rattle.second_sheets.specs.declared.Step.TheVariants as step
-use Rattle.second_sheets.specs.declared.StepRead.TheVariants as read
-use Rattle.second_sheets.specs.declared.StepRead.{StepRead}
-use Rattle.second_sheets.specs.declared.OpeningRead.TheVariants as opening
-use Rattle.second_sheets.specs.declared.OpeningRead.{OpeningRead}
+use Rattle.second_sheets.specs.declared.Opening as opening
+use Rattle.std.specs.Prelude.{Ok, Err}
+use Rattle.fields.specs.declared.Refusal.{Refusal}
+use Rattle.fields.specs.Causes.{number_of}
+use Rattle.fields.specs.Answers.{got_field}
+use Rattle.fields.proofs.AnswerLaws.{Read, read-value}
 use Rattle.formats.specs.Reading.{Got, got, refused, u8, u16, u32, must, within_signed, each}
 use Rattle.formats.specs.Model.{Component, Model}
 use Rattle.formats.specs.Locations.{location_count, location_of}
-use Rattle.formats.proofs.Locations.{number_of}
+use Rattle.formats.proofs.Locations as locations
 use Rattle.formats.specs.Joint.{stays, four_switches}
 use Rattle.models.specs.Index.{entry, components_from, model_from, GoodIndex}
 use Rattle.models.specs.Counts.{KnownSwitches}
@@ -134,7 +136,7 @@ held-jump {index} e w h k = record {
 }
 
 module _ {model index : List ℕ} (g : GoodIndex model index) where
-  held-known : (st : Step) (p : ℕ) (by : coded.Step) (after : ℕ) → held_step (got st p) ≡ read.Good by after → StepKnown (model_from model index) st → KnownStep index by
+  held-known : (st : Step) (p : ℕ) (by : coded.Step) (after : ℕ) → held_step (got st p) ≡ got by after → StepKnown (model_from model index) st → KnownStep index by
   unfolding held_step model_from
   held-known (flow δ xs) p by after e (flow-known l a) = let q : step.Flow δ ≡ by = cc in subst (KnownStep index) q (held-flow δ l)
   held-known (jump event ws xs) p by after e (jump_known l k a) =
@@ -142,26 +144,26 @@ module _ {model index : List ℕ} (g : GoodIndex model index) where
       let few : length ws ≤ 4 = omega (arith, known-length k, few-components g 0) in
       subst (KnownStep index) q (held-jump event (held_switches ws) l (subst (KnownSwitches index) (four_same ws few) (four-known g k)))
 
-  pub step-known : (s : List ℕ) (at : ℕ) (r : StepRead) (by : coded.Step) (after : ℕ) → r ≡ held_step (read_step (model_from model index) s at) → r ≡ read.Good by after → KnownStep index by
+  pub step-known : (s : List ℕ) (at : ℕ) {r : Read coded.Step} {by : coded.Step} {after : ℕ} → got_field r ≡ held_step (read_step (model_from model index) s at) → r ≡ Ok (by, after) → KnownStep index by
   unfolding held_step
-  step-known s at r by after e h = go (read_step m s at) refl (sym e ∙ h)
+  step-known s at {by = by} {after} e h = go (read_step m s at) refl (read-value (held_step (read_step m s at)) e h)
     where
       m : Model
       m = model_from model index
 
-      go : (x : Got Step) → read_step m s at ≡ x → held_step x ≡ read.Good by after → KnownStep index by
+      go : (x : Got Step) → read_step m s at ≡ x → held_step x ≡ got by after → KnownStep index by
       go (got st p) q w = held-known st p by after w ((step_gives m).holds s at st p q)
       go (refused number place) q w = let z : ◌≡◌ {A = ℕ} 0 1 = cc in absurd (omega arith)
 
 -- what the answer means once its case is known
-module _ (index : List ℕ) (g : Got Step) (values : List ℤ) (r : StepRead) (told : step_in index values r ≡ g) where
-  pub step-read : (by : coded.Step) (after : ℕ) → r ≡ read.Good by after → g ≡ got (step_of (entry index 1) by (per_variable index values)) after
+module _ (index : List ℕ) (g : Got Step) (values : List ℤ) {r : Read coded.Step} (told : step_in index values r ≡ g) where
+  pub step-read : {by : coded.Step} {after : ℕ} → r ≡ Ok (by, after) → g ≡ got (step_of (entry index 1) by (per_variable index values)) after
   unfolding step_as per_variable
-  step-read by after h = sym told ∙ ap (step_in index values) h
+  step-read h = sym told ∙ ap (step_in index values) h
 
-  pub step-refused : (number place : ℕ) → r ≡ read.Refused number place → g ≡ refused number place
+  pub step-refused : {w : Refusal} → r ≡ Err w → g ≡ refused (number_of w.0) w.1
   unfolding step_as
-  step-refused number place h = sym told ∙ ap (step_in index values) h
+  step-refused h = sym told ∙ ap (step_in index values) h
 
 -- and its new values are small
 known_values : (m : Model) (c : ℕ) (by : coded.Step) (xs : List ℤ) → StepKnown m (step_of c by xs) → All Small xs
@@ -219,14 +221,14 @@ pub opening-placed : (m : Model) (s : List ℕ) (at number place : ℕ) → at �
 opening-placed m s at number place l e = (subst (λ x. Fine s at x) e ((placed-opening {least = 0} m).fine s at (omega arith) l)).2
 
 -- what the answer means once its case is known
-module _ (index : List ℕ) (at : ℕ) (g : Got Opening) (values : List ℤ) (r : OpeningRead) (told : opening_in index values at r ≡ g) where
-  pub opening-read : (q steps location next : ℕ) → r ≡ opening.Opening q steps location next → g ≡ got (record { q = q; steps = steps; place = at + 6; location = location; values = take (entry index 0) values }) next
+module _ (index : List ℕ) (at : ℕ) (g : Got Opening) (values : List ℤ) where
+  pub opening-read : (read : opening.Opening × ℕ) → opening_in index values at (Ok read) ≡ g → g ≡ got (record { q = read.0.q; steps = read.0.steps; place = at + 6; location = read.0.location; values = take (entry index 0) values }) read.1
   unfolding opening_as
-  opening-read q steps location next h = sym told ∙ ap (opening_in index values at) h
+  opening-read read told = sym told
 
-  pub opening-refused : (number place : ℕ) → r ≡ opening.Refused number place → g ≡ refused number place
+  pub opening-refused : (w : Refusal) → opening_in index values at (Err w) ≡ g → g ≡ refused (number_of w.0) w.1
   unfolding opening_as
-  opening-refused number place h = sym told ∙ ap (opening_in index values at) h
+  opening-refused w told = sym told
 
 -- the first state, by the modes of its location
 pub first-state : {model index : List ℕ} (location : ℕ) (modes : List ℕ) (values : List ℤ) → GoodIndex model index → Stands model index location modes → state_in model index modes values ≡ record { location = location; values = take (entry index 0) values }
@@ -234,4 +236,4 @@ unfolding state_of per_variable
 first-state {model} {index} location modes values g stands =
     let components = components_from model index in
     ap (λ (l : ℕ). record { location = l; values = take (entry index 0) values })
-    (ap (location_of components) stands.here ∙ number_of (have-modes (good-components g)) location stands.below)
+    (ap (location_of components) stands.here ∙ locations.number_of (have-modes (good-components g)) location stands.below)

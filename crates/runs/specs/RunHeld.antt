@@ -1,8 +1,10 @@
 -- What the contracts of run marking name besides the definitions of 01: a run as the code holds it, with its values in a lent slice, and how
 -- far its marking has come. Assumes nothing.
-use Rattle.std.specs.Prelude.{cond, List, ℕ, ◌*◌, ◌≤◌, eqb, ℤ, length}
+use Rattle.std.specs.Prelude.{Result, Ok, Err, List, ℕ, ◌*◌, ◌≤◌, ℤ, length}
 use Rattle.formats.specs.RunSheet.{read_opening}
+use Rattle.fields.specs.Causes.{number_of}
 use Rattle.runs.specs.declared.RunMarked.{RunMarked}
+use Rattle.runs.specs.declared.Stopped.{Stopped}
 use Rattle.rules.specs.Runs.{State}
 use Rattle.papers.specs.Standing.{KnownModes}
 use Rattle.steps.specs.Held.{state_in, SmallValues}
@@ -10,16 +12,10 @@ use Rattle.rules.specs.Marking.{Marked, passed, stopped, mark_steps, mark_openin
 use Rattle.models.specs.Index.{entry, model_from}
 use Rattle.rules.specs.declared.Answer.{Answer}
 
--- how far the marking of a run has come: with number 0 its steps passed so far, with any other it has stopped
-unfoldable pub marked_as : List ℕ → List ℕ → RunMarked → List ℤ → Marked State
-marked_as model index r state =
-    cond (eqb r.number 0)
-    (passed (state_in model index r.modes state) r.place r.done)
-    (stopped r.number r.place r.done)
-
--- a run whose marking has stopped, with its modes as they were
-unfoldable pub stopped_at : RunMarked → ℕ → ℕ → RunMarked
-stopped_at r number place = record { number = number; place = place; done = r.done; modes = r.modes }
+-- how far the marking of a run has come: its steps passed so far, or it has stopped
+unfoldable pub marked_as : List ℕ → List ℕ → Result RunMarked Stopped → List ℤ → Marked State
+marked_as model index (Ok r) state = passed (state_in model index r.modes state) r.place r.done
+marked_as model index (Err s) state = stopped (number_of s.refusal.0) s.refusal.1 s.done
 
 -- its modes are those of a location of the model, its values in the slice as they are read, with room behind them for those after a step
 -- and their change, and its place is in the sheet
@@ -28,6 +24,12 @@ pub record RunStands (index sheet : List ℕ) (r : RunMarked) (state : List ℤ)
   pub small : SmallValues (entry index 0) state
   pub room : 3 * entry index 0 ≤ length state
   pub placed : r.place ≤ length sheet
+
+-- a run that has stopped: the values reached are kept, with as much room behind them, and the place of the refusal is in the sheet
+pub record StopStands (index sheet : List ℕ) (s : Stopped) (state : List ℤ) : Type 0 where
+  pub small : SmallValues (entry index 0) state
+  pub room : 3 * entry index 0 ≤ length state
+  pub placed : s.refusal.1 ≤ length sheet
 
 -- so many steps more, from where a run stands
 abbrev pub steps_from : List ℕ → List ℕ → ℕ → RunMarked → List ℤ → ℕ → List ℕ → Marked State

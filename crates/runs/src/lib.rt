@@ -3,12 +3,20 @@
 
 pub mod run;
 
-// How far the marking of a run has come: the number of its refusal, or 0, its place, how many steps passed, and the modes of the location
-// reached. The values reached stand beside it, in the first numbers of a lent slice.
+use fields::Refusal;
+
+// How far a run has come: the place of its next step, how many steps passed, and the modes of the location reached. The values reached stand
+// beside it, in the first numbers of a lent slice.
 #[derive(Clone, Copy)]
 pub struct RunMarked {
-    pub number: u32,
     pub place: usize,
     pub done: u32,
     pub modes: [u8; 4],
+}
+
+// Why and where marking stopped, and how many steps had passed.
+#[derive(Clone, Copy)]
+pub struct Stopped {
+    pub refusal: Refusal,
+    pub done: u32,
 }

@@ -1,7 +1,8 @@
 -- It fits where there is as much room as the model has, or as it needs. Assumes nothing.
-use mathlib.Core.Path.{◌∙◌}
+use mathlib.Core.Path.{ap, ◌∙◌}
 use Prim.Native.Nat.{ℕ}
 use lib.ListN.{length}
+use Rattle.std.specs.Prelude.{Some}
 use Rattle.models.specs.Index.{model_from}
 use Rattle.fair_models.specs.FairCopy.{fair_copy}
 use Rattle.fair_copies.proofs.CopyLaws.{fits_all, fits_not}
@@ -25,4 +26,4 @@ returns-then-needed-room c = fits_all (copied (goal.at.returns-then-needed-room 
 pub returns : goal.returns
 returns c =
     let n = c.copy_length-needed in
-    n.ensures ∙ fits_not (copied (goal.at.returns c).Start) c.args.room (omega (arith, n.ensures, c.if-needed-room.false))
+    ap (λ (k : ℕ). Some k) n.ensures ∙ fits_not (copied (goal.at.returns c).Start) c.args.room (omega (arith, n.ensures, c.if-needed-room.false))

@@ -1,20 +1,14 @@
 -- The paper is opened, then the run sheet's body is marked, with a slice of 24 numbers for its states. Assumes nothing.
-use mathlib.Core.Path.{ap, ◌∙◌}
-use borrow.Author.Rules.{rules}
-use Rattle.rules.specs.declared.Answer.{Answer}
+use mathlib.Core.Path.{◌∙◌}
 use Rattle.runs.proofs.RunCode.{run-refused, run-open}
 use Rattle.runs.proofs.run.mark_run.Goals as goal
 
-pub returns-then-opened-ne0 : goal.returns-then-opened-ne0
-returns-then-opened-ne0 c =
+pub returns-in-Ok : goal.returns-in-Ok
+returns-in-Ok c =
     let a = c.args in
-    let e = c.open_paper-opened.ensures.value in
-    e ∙ run-refused a.limits a.model.now a.second.now (λ z. c.if-opened-ne0.true (ap (λ (x : Answer). x.number) e ∙ z))
+    c.mark_body.ensures ∙ run-open a.limits a.model.now a.second.now c.in-Ok.ensures.open
 
-pub mark_body-requires : goal.mark_body-requires
-mark_body-requires c = let w = c.open_paper-opened.ensures.fact c.if-opened-ne0.false in record { accepted = (w.first.accepted, search rules); body_in_bounds = (w.bodied, w.brief) }
-
-pub returns : goal.returns
-returns c =
+pub returns-in-Err : goal.returns-in-Err
+returns-in-Err c =
     let a = c.args in
-    c.mark_body.ensures ∙ run-open a.limits a.model.now a.second.now (c.open_paper-opened.ensures.fact c.if-opened-ne0.false)
+    run-refused a.limits a.model.now a.second.now c.in-Err.answer c.in-Err.ensures.value c.in-Err.ensures.refused
