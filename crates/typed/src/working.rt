@@ -8,79 +8,86 @@ use crate::forms::{Fault, Worked, collect, join, multiply, zero_form};
 use crate::reading::{close_bracket, number, skip, variable};
 use crate::signs::{Sign, sense, sign_at};
 
-// An expression from a place on: a term, and what is added to it or taken from it.
-#[cycle(readers)]
-fn expression(text: &[u8], n: u8, at: usize) -> Result<Worked, Fault>
-    requires { n ≤ 8 }
-    ensures { ReadsExpression n text.now at result }
-{
-    let left = term(text, n, at)?;
-    sums(text, n, left)
+// A text, and in how many variables it is worked out.
+#[derive(Clone, Copy)]
+struct Source<'a> {
+    text: &'a [u8],
+    n: u8,
+    ghost few: { n ≤ 8 },
 }
 
-// What is added to an expression that was read so far, or taken from it.
-#[cycle(readers)]
-fn sums(text: &[u8], n: u8, left: Worked) -> Result<Worked, Fault>
-    requires { (n ≤ 8) × (left.next ≤ length text.now) }
-    ensures { ReadsSums n text.now left result }
-{
-    let place = skip(text, left.next);
-    let sign = sign_at(text, place);
-    match sign {
-        Sign::Plus | Sign::Minus => {
-            let right = term(text, n, place + 1)?;
-            let both = join(place, left.form, sense(sign), right)?;
-            sums(text, n, both)
-        }
-        _ => Ok(left),
+impl Source<'_> {
+    // An expression from a place on: a term, and what is added to it or taken from it.
+    #[cycle(readers)]
+    fn expression(&self, at: usize) -> Result<Worked, Fault>
+        ensures { ReadsExpression self.now.n self.now.text.now at result }
+    {
+        let left = self.term(at)?;
+        self.sums(left)
     }
-}
 
-// A term from a place on: a factor, and what it is multiplied with.
-#[cycle(readers)]
-fn term(text: &[u8], n: u8, at: usize) -> Result<Worked, Fault>
-    requires { n ≤ 8 }
-    ensures { ReadsTerm n text.now at result }
-{
-    let left = factor(text, n, at)?;
-    products(text, n, left)
-}
-
-// What a term that was read so far is multiplied with.
-#[cycle(readers)]
-fn products(text: &[u8], n: u8, left: Worked) -> Result<Worked, Fault>
-    requires { (n ≤ 8) × (left.next ≤ length text.now) }
-    ensures { ReadsProducts n text.now left result }
-{
-    let place = skip(text, left.next);
-    let Sign::Times = sign_at(text, place) else {
-        return Ok(left);
-    };
-    let right = factor(text, n, place + 1)?;
-    let both = multiply(place, left.form, right)?;
-    products(text, n, both)
-}
-
-// A factor from a place on: a number, a letter, a bracket, or a minus and a factor.
-#[cycle(readers)]
-fn factor(text: &[u8], n: u8, at: usize) -> Result<Worked, Fault>
-    requires { n ≤ 8 }
-    ensures { ReadsFactor n text.now at result }
-{
-    let place = skip(text, at);
-    let sign = sign_at(text, place);
-    match sign {
-        Sign::Digit(_) => number(text, place),
-        Sign::Letter(letter) => variable(n, place, letter),
-        Sign::Open => {
-            let inner = expression(text, n, place + 1)?;
-            close_bracket(text, inner)
+    // What is added to an expression that was read so far, or taken from it.
+    #[cycle(readers)]
+    fn sums(&self, left: Worked) -> Result<Worked, Fault>
+        requires { left.next ≤ length self.now.text.now }
+        ensures { ReadsSums self.now.n self.now.text.now left result }
+    {
+        let place = skip(self.text, left.next);
+        let sign = sign_at(self.text, place);
+        match sign {
+            Sign::Plus | Sign::Minus => {
+                let right = self.term(place + 1)?;
+                let both = join(place, left.form, sense(sign), right)?;
+                self.sums(both)
+            }
+            _ => Ok(left),
         }
-        Sign::Minus => {
-            let right = factor(text, n, place + 1)?;
-            join(place, zero_form(), -1, right)
+    }
+
+    // A term from a place on: a factor, and what it is multiplied with.
+    #[cycle(readers)]
+    fn term(&self, at: usize) -> Result<Worked, Fault>
+        ensures { ReadsTerm self.now.n self.now.text.now at result }
+    {
+        let left = self.factor(at)?;
+        self.products(left)
+    }
+
+    // What a term that was read so far is multiplied with.
+    #[cycle(readers)]
+    fn products(&self, left: Worked) -> Result<Worked, Fault>
+        requires { left.next ≤ length self.now.text.now }
+        ensures { ReadsProducts self.now.n self.now.text.now left result }
+    {
+        let place = skip(self.text, left.next);
+        let Sign::Times = sign_at(self.text, place) else {
+            return Ok(left);
+        };
+        let right = self.factor(place + 1)?;
+        let both = multiply(place, left.form, right)?;
+        self.products(both)
+    }
+
+    // A factor from a place on: a number, a letter, a bracket, or a minus and a factor.
+    #[cycle(readers)]
+    fn factor(&self, at: usize) -> Result<Worked, Fault>
+        ensures { ReadsFactor self.now.n self.now.text.now at result }
+    {
+        let place = skip(self.text, at);
+        let sign = sign_at(self.text, place);
+        match sign {
+            Sign::Digit(_) => number(self.text, place),
+            Sign::Letter(letter) => variable(self.n, place, letter),
+            Sign::Open => {
+                let inner = self.expression(place + 1)?;
+                close_bracket(self.text, inner)
+            }
+            Sign::Minus => {
+                let right = self.factor(place + 1)?;
+                join(place, zero_form(), -1, right)
+            }
+            _ => Err(Fault { place }),
         }
-        _ => Err(Fault { place }),
     }
 }
 
@@ -89,8 +96,9 @@ pub fn work(text: &[u8], n: u8) -> Result<Worked, Fault>
     requires { n ≤ 8 }
     ensures { result ≡ row_at n text.now }
 {
-    let left = expression(text, n, 0)?;
+    let source = Source { text, n };
+    let left = source.expression(0)?;
     let place = skip(text, left.next);
-    let right = expression(text, n, place + 2)?;
+    let right = source.expression(place + 2)?;
     collect(place, left.form, right)
 }

@@ -26,7 +26,7 @@ use Rattle.typed.proofs.ReadLaws.{skip-from}
 use Rattle.typed.proofs.PlaceLaws.{same, stands, sum-stands, inside, joined-place, multiplied-place, variable-place, closed-place, whole-place}
 use Rattle.typed.proofs.TurnLaws as turn
 use Rattle.typed.proofs.TreeLaws.{products-fault, sums-fault}
-use Rattle.typed.proofs.working.+readers.Goals as goal
+use Rattle.typed.proofs.working.Source.+readers.Goals as goal
 
 -- the sign after the blanks, further on in the text
 module _ (text : List ℕ) (at place : ℕ) (f : place ≡ skip text at) where
@@ -90,21 +90,21 @@ expression-returns-in_err-left t c =
     let a = c.args in
     let p = c.in_err-left.field-0.0.place in
     let is : c.from_residual.result ≡ refused p = grind arith in
-    follow.operand-refused (length a.text.now) a.at (3 * (length a.text.now - a.at) + 2) (3 * (length a.text.now - a.at) + 3) p
-    (λ k. term_at k a.n a.text.now a.at)
-    (λ k w. sums_at k a.n a.text.now w)
-    (λ k. expression_at k a.n a.text.now a.at)
-    (λ j. refl) (λ j. sums-fault a.n a.text.now j p (refused p) refl) (omega arith) c.term.ensures c.in_err-left.was is
+    follow.operand-refused (length a.self.now.text.now) a.at (3 * (length a.self.now.text.now - a.at) + 2) (3 * (length a.self.now.text.now - a.at) + 3) p
+    (λ k. term_at k a.self.now.n a.self.now.text.now a.at)
+    (λ k w. sums_at k a.self.now.n a.self.now.text.now w)
+    (λ k. expression_at k a.self.now.n a.self.now.text.now a.at)
+    (λ j. refl) (λ j. sums-fault a.self.now.n a.self.now.text.now j p (refused p) refl) (omega arith) c.term.ensures c.in_err-left.was is
 
 pub expression-returns : goal.expression-returns
 unfolding expression_at
 expression-returns t c =
     let a = c.args in
     let l = c.in_ok-left.left in
-    follow.operand (length a.text.now) a.at (3 * (length a.text.now - a.at) + 2) (3 * (length a.text.now - a.at) + 3) l.next l.form
-    (λ k. term_at k a.n a.text.now a.at)
-    (λ k w. sums_at k a.n a.text.now w)
-    (λ k. expression_at k a.n a.text.now a.at)
+    follow.operand (length a.self.now.text.now) a.at (3 * (length a.self.now.text.now - a.at) + 2) (3 * (length a.self.now.text.now - a.at) + 3) l.next l.form
+    (λ k. term_at k a.self.now.n a.self.now.text.now a.at)
+    (λ k w. sums_at k a.self.now.n a.self.now.text.now w)
+    (λ k. expression_at k a.self.now.n a.self.now.text.now a.at)
     (λ j. refl) (omega arith) (omega arith) c.term.ensures c.in_ok-left.was c.sums.ensures
 
 pub term-returns-in_err-left : goal.term-returns-in_err-left
@@ -113,123 +113,123 @@ term-returns-in_err-left t c =
     let a = c.args in
     let p = c.in_err-left.field-0.0.place in
     let is : c.from_residual.result ≡ refused p = grind arith in
-    follow.operand-refused (length a.text.now) a.at (3 * (length a.text.now - a.at) + 1) (3 * (length a.text.now - a.at) + 2) p
-    (λ k. factor_at k a.n a.text.now a.at)
-    (λ k w. products_at k a.n a.text.now w)
-    (λ k. term_at k a.n a.text.now a.at)
-    (λ j. refl) (λ j. products-fault a.n a.text.now j p (refused p) refl) (omega arith) c.factor.ensures c.in_err-left.was is
+    follow.operand-refused (length a.self.now.text.now) a.at (3 * (length a.self.now.text.now - a.at) + 1) (3 * (length a.self.now.text.now - a.at) + 2) p
+    (λ k. factor_at k a.self.now.n a.self.now.text.now a.at)
+    (λ k w. products_at k a.self.now.n a.self.now.text.now w)
+    (λ k. term_at k a.self.now.n a.self.now.text.now a.at)
+    (λ j. refl) (λ j. products-fault a.self.now.n a.self.now.text.now j p (refused p) refl) (omega arith) c.factor.ensures c.in_err-left.was is
 
 pub term-returns : goal.term-returns
 unfolding term_at
 term-returns t c =
     let a = c.args in
     let l = c.in_ok-left.left in
-    follow.operand (length a.text.now) a.at (3 * (length a.text.now - a.at) + 1) (3 * (length a.text.now - a.at) + 2) l.next l.form
-    (λ k. factor_at k a.n a.text.now a.at)
-    (λ k w. products_at k a.n a.text.now w)
-    (λ k. term_at k a.n a.text.now a.at)
+    follow.operand (length a.self.now.text.now) a.at (3 * (length a.self.now.text.now - a.at) + 1) (3 * (length a.self.now.text.now - a.at) + 2) l.next l.form
+    (λ k. factor_at k a.self.now.n a.self.now.text.now a.at)
+    (λ k w. products_at k a.self.now.n a.self.now.text.now w)
+    (λ k. term_at k a.self.now.n a.self.now.text.now a.at)
     (λ j. refl) (omega arith) (omega arith) c.factor.ensures c.in_ok-left.was c.products.ensures
 
 pub factor-variable-requires : goal.factor-variable-requires
 unfolding stands
-factor-variable-requires t c = (c.requires, let i = there c.args.text.now c.skip-place.result c.sign_at-sign.result c.sign_at-sign.ensures (Letter c.in-Letter.letter) c.in-Letter.is tt in omega arith)
+factor-variable-requires t c = (c.args.self.now.few, let i = there c.args.self.now.text.now c.skip-place.result c.sign_at-sign.result c.sign_at-sign.ensures (Letter c.in-Letter.letter) c.in-Letter.is tt in omega arith)
 
 pub factor-overflow_add-place : goal.factor-overflow_add-place
 unfolding stands
-factor-overflow_add-place t c = let i = there c.args.text.now c.skip-place.result c.sign_at-sign.result c.sign_at-sign.ensures Open c.in-Open.is tt in omega arith
+factor-overflow_add-place t c = let i = there c.args.self.now.text.now c.skip-place.result c.sign_at-sign.result c.sign_at-sign.ensures Open c.in-Open.is tt in omega arith
 
 pub factor-expression-requires : goal.factor-expression-requires
 unfolding stands
 factor-expression-requires t c =
-    let l = far c.args.text.now c.args.at c.skip-place.result c.skip-place.ensures in
-    let i = there c.args.text.now c.skip-place.result c.sign_at-sign.result c.sign_at-sign.ensures Open c.in-Open.is tt in
-    (omega arith, c.requires)
+    let l = far c.args.self.now.text.now c.args.at c.skip-place.result c.skip-place.ensures in
+    let i = there c.args.self.now.text.now c.skip-place.result c.sign_at-sign.result c.sign_at-sign.ensures Open c.in-Open.is tt in
+    (omega arith, tt)
 
 pub factor-overflow_add-place-in-Minus : goal.factor-overflow_add-place-in-Minus
 unfolding stands
-factor-overflow_add-place-in-Minus t c = let i = there c.args.text.now c.skip-place.result c.sign_at-sign.result c.sign_at-sign.ensures Minus c.in-Minus.is tt in omega arith
+factor-overflow_add-place-in-Minus t c = let i = there c.args.self.now.text.now c.skip-place.result c.sign_at-sign.result c.sign_at-sign.ensures Minus c.in-Minus.is tt in omega arith
 
 pub factor-factor-requires : goal.factor-factor-requires
 unfolding stands
 factor-factor-requires t c =
-    let l = far c.args.text.now c.args.at c.skip-place.result c.skip-place.ensures in
-    let i = there c.args.text.now c.skip-place.result c.sign_at-sign.result c.sign_at-sign.ensures Minus c.in-Minus.is tt in
-    (omega arith, c.requires)
+    let l = far c.args.self.now.text.now c.args.at c.skip-place.result c.skip-place.ensures in
+    let i = there c.args.self.now.text.now c.skip-place.result c.sign_at-sign.result c.sign_at-sign.ensures Minus c.in-Minus.is tt in
+    (omega arith, tt)
 
 pub factor-returns-in-Digit : goal.factor-returns-in-Digit
 factor-returns-in-Digit t c =
     let a = c.args in
-    let text = a.text.now in
+    let text = a.self.now.text.now in
     let p = c.skip-place.result in
     let s = c.sign_at-sign in
     let d = c.in-Digit.field-0 in
     let l = far text a.at p c.skip-place.ensures in
-    follow.turn (length text) (3 * (length text - a.at) + 1) (a.at + 1) (λ k. factor_at k a.n text a.at)
-    (λ j h. turn.factor-number a.n text j a.at p s.result c.skip-place.ensures s.ensures d c.in-Digit.is ∙ sym c.number.ensures)
+    follow.turn (length text) (3 * (length text - a.at) + 1) (a.at + 1) (λ k. factor_at k a.self.now.n text a.at)
+    (λ j h. turn.factor-number a.self.now.n text j a.at p s.result c.skip-place.ensures s.ensures d c.in-Digit.is ∙ sym c.number.ensures)
     (λ z y h. let b = whole-place text p d z y (sym s.ensures ∙ c.in-Digit.is) (sym c.number.ensures ∙ h) in (omega arith, b.1))
 
 pub factor-returns-in-Letter : goal.factor-returns-in-Letter
 unfolding stands
 factor-returns-in-Letter t c =
     let a = c.args in
-    let text = a.text.now in
+    let text = a.self.now.text.now in
     let p = c.skip-place.result in
     let s = c.sign_at-sign in
     let v = c.in-Letter.letter in
     let l = far text a.at p c.skip-place.ensures in
     let i = there text p s.result s.ensures (Letter v) c.in-Letter.is tt in
-    follow.turn (length text) (3 * (length text - a.at) + 1) (a.at + 1) (λ k. factor_at k a.n text a.at)
-    (λ j h. turn.factor-letter a.n text j a.at p s.result c.skip-place.ensures s.ensures v c.in-Letter.is ∙ sym c.variable.ensures)
-    (λ z y h. let b = variable-place a.n p v z y (sym c.variable.ensures ∙ h) in (omega arith, omega arith))
+    follow.turn (length text) (3 * (length text - a.at) + 1) (a.at + 1) (λ k. factor_at k a.self.now.n text a.at)
+    (λ j h. turn.factor-letter a.self.now.n text j a.at p s.result c.skip-place.ensures s.ensures v c.in-Letter.is ∙ sym c.variable.ensures)
+    (λ z y h. let b = variable-place a.self.now.n p v z y (sym c.variable.ensures ∙ h) in (omega arith, omega arith))
 
 pub factor-returns-in_err-inner-in-Open : goal.factor-returns-in_err-inner-in-Open
 unfolding closed_at next stands
 factor-returns-in_err-inner-in-Open t c =
     let a = c.args in
-    let text = a.text.now in
+    let text = a.self.now.text.now in
     let p = c.skip-place.result in
     let s = c.sign_at-sign in
     let l = far text a.at p c.skip-place.ensures in
     let i = there text p s.result s.ensures Open c.in-Open.is tt in
     let is : c.from_residual.result ≡ refused c.in_err-inner-in-Open.field-0.0.place = grind arith in
-    follow.turn (length text) (3 * (length text - a.at) + 1) (a.at + 1) (λ k. factor_at k a.n text a.at)
-    (λ j h. turn.factor-bracket a.n text j a.at p s.result c.skip-place.ensures s.ensures c.in-Open.is ∙ ap (closed_at text) (sym (c.expression.ensures.same j (omega arith)) ∙ c.in_err-inner-in-Open.was) ∙ sym is)
+    follow.turn (length text) (3 * (length text - a.at) + 1) (a.at + 1) (λ k. factor_at k a.self.now.n text a.at)
+    (λ j h. turn.factor-bracket a.self.now.n text j a.at p s.result c.skip-place.ensures s.ensures c.in-Open.is ∙ ap (closed_at text) (sym (c.expression.ensures.same j (omega arith)) ∙ c.in_err-inner-in-Open.was) ∙ sym is)
     (follow.refused-lies is)
 
 pub factor-returns-in_ok-inner-in-Open : goal.factor-returns-in_ok-inner-in-Open
 unfolding stands
 factor-returns-in_ok-inner-in-Open t c =
     let a = c.args in
-    let text = a.text.now in
+    let text = a.self.now.text.now in
     let p = c.skip-place.result in
     let s = c.sign_at-sign in
     let f = c.expression.ensures in
     let inner = c.in_ok-inner-in-Open.inner in
     let l = far text a.at p c.skip-place.ensures in
     let i = there text p s.result s.ensures Open c.in-Open.is tt in
-    follow.turn (length text) (3 * (length text - a.at) + 1) (a.at + 1) (λ k. factor_at k a.n text a.at)
-    (λ j h. turn.factor-bracket a.n text j a.at p s.result c.skip-place.ensures s.ensures c.in-Open.is ∙ ap (closed_at text) (sym (f.same j (omega arith)) ∙ c.in_ok-inner-in-Open.was) ∙ sym c.close_bracket.ensures)
+    follow.turn (length text) (3 * (length text - a.at) + 1) (a.at + 1) (λ k. factor_at k a.self.now.n text a.at)
+    (λ j h. turn.factor-bracket a.self.now.n text j a.at p s.result c.skip-place.ensures s.ensures c.in-Open.is ∙ ap (closed_at text) (sym (f.same j (omega arith)) ∙ c.in_ok-inner-in-Open.was) ∙ sym c.close_bracket.ensures)
     (λ z y h. let b = closed-place text (Ok inner) (p + 1 + 1) z y (λ q x e. f.place q x (c.in_ok-inner-in-Open.was ∙ e)) (sym c.close_bracket.ensures ∙ h) in (omega arith, b.1))
 
 pub factor-returns-in_err-right-in-Minus : goal.factor-returns-in_err-right-in-Minus
 unfolding joined next stands
 factor-returns-in_err-right-in-Minus t c =
     let a = c.args in
-    let text = a.text.now in
+    let text = a.self.now.text.now in
     let p = c.skip-place.result in
     let s = c.sign_at-sign in
     let l = far text a.at p c.skip-place.ensures in
     let i = there text p s.result s.ensures Minus c.in-Minus.is tt in
     let is : c.from_residual-in_err-right-in-Minus.result ≡ refused c.in_err-right-in-Minus.field-0.0.place = grind arith in
-    follow.turn (length text) (3 * (length text - a.at) + 1) (a.at + 1) (λ k. factor_at k a.n text a.at)
-    (λ j h. turn.factor-minus a.n text j a.at p s.result c.skip-place.ensures s.ensures c.in-Minus.is ∙ ap (joined p zero_form (negsuc 0)) (sym (c.factor.ensures.same j (omega arith)) ∙ c.in_err-right-in-Minus.was) ∙ sym is)
+    follow.turn (length text) (3 * (length text - a.at) + 1) (a.at + 1) (λ k. factor_at k a.self.now.n text a.at)
+    (λ j h. turn.factor-minus a.self.now.n text j a.at p s.result c.skip-place.ensures s.ensures c.in-Minus.is ∙ ap (joined p zero_form (negsuc 0)) (sym (c.factor.ensures.same j (omega arith)) ∙ c.in_err-right-in-Minus.was) ∙ sym is)
     (follow.refused-lies is)
 
 pub factor-returns-in_ok-right-in-Minus : goal.factor-returns-in_ok-right-in-Minus
 unfolding stands
 factor-returns-in_ok-right-in-Minus t c =
     let a = c.args in
-    let text = a.text.now in
+    let text = a.self.now.text.now in
     let p = c.skip-place.result in
     let s = c.sign_at-sign in
     let f = c.factor.ensures in
@@ -237,8 +237,8 @@ factor-returns-in_ok-right-in-Minus t c =
     let l = far text a.at p c.skip-place.ensures in
     let i = there text p s.result s.ensures Minus c.in-Minus.is tt in
     let g = c.join.ensures ∙ ap (λ x. joined p x (negsuc 0) (Ok right)) c.zero_form.ensures in
-    follow.turn (length text) (3 * (length text - a.at) + 1) (a.at + 1) (λ k. factor_at k a.n text a.at)
-    (λ j h. turn.factor-minus a.n text j a.at p s.result c.skip-place.ensures s.ensures c.in-Minus.is ∙ ap (joined p zero_form (negsuc 0)) (sym (f.same j (omega arith)) ∙ c.in_ok-right-in-Minus.was) ∙ sym g)
+    follow.turn (length text) (3 * (length text - a.at) + 1) (a.at + 1) (λ k. factor_at k a.self.now.n text a.at)
+    (λ j h. turn.factor-minus a.self.now.n text j a.at p s.result c.skip-place.ensures s.ensures c.in-Minus.is ∙ ap (joined p zero_form (negsuc 0)) (sym (f.same j (omega arith)) ∙ c.in_ok-right-in-Minus.was) ∙ sym g)
     (λ z y h.
     let o = joined-place p zero_form (negsuc 0) (Ok right) z y (sym g ∙ h) in
     let b = f.place z o.form (c.in_ok-right-in-Minus.was ∙ o.is) in
@@ -247,34 +247,34 @@ factor-returns-in_ok-right-in-Minus t c =
 pub factor-returns-in_default : goal.factor-returns-in_default
 factor-returns-in_default t c =
     let a = c.args in
-    let text = a.text.now in
+    let text = a.self.now.text.now in
     let s = c.sign_at-sign in
     let d = c.in_default in
-    follow.turn (length text) (3 * (length text - a.at) + 1) (a.at + 1) (λ k. factor_at k a.n text a.at)
-    (λ j h. turn.factor-none a.n text j a.at c.skip-place.result s.result c.skip-place.ensures s.ensures d.not-Digit d.not-Letter d.not-Open d.not-Minus)
+    follow.turn (length text) (3 * (length text - a.at) + 1) (a.at + 1) (λ k. factor_at k a.self.now.n text a.at)
+    (λ j h. turn.factor-none a.self.now.n text j a.at c.skip-place.result s.result c.skip-place.ensures s.ensures d.not-Digit d.not-Letter d.not-Open d.not-Minus)
     (follow.refused-lies {p = c.skip-place.result} refl)
 
 pub products-returns-in_default : goal.products-returns-in_default
 products-returns-in_default t c =
     let a = c.args in
-    let text = a.text.now in
+    let text = a.self.now.text.now in
     let s = c.sign_at in
     let l = a.left in
-    follow.turn (length text) (3 * (length text - l.next) + 1) l.next (λ k. products_at k a.n text (Ok l))
-    (λ j h. turn.product-ends a.n text (Ok l) j l.next c.skip-place.result l.form s.result refl c.skip-place.ensures s.ensures c.in_default.not-Times)
-    (λ z y h. let e : l.next ≡ z = same {x = l.form} {y = y} h in (omega arith, omega (arith, c.requires.1)))
+    follow.turn (length text) (3 * (length text - l.next) + 1) l.next (λ k. products_at k a.self.now.n text (Ok l))
+    (λ j h. turn.product-ends a.self.now.n text (Ok l) j l.next c.skip-place.result l.form s.result refl c.skip-place.ensures s.ensures c.in_default.not-Times)
+    (λ z y h. let e : l.next ≡ z = same {x = l.form} {y = y} h in (omega arith, omega (arith, c.requires)))
 
 pub products-overflow_add-place : goal.products-overflow_add-place
 unfolding stands
-products-overflow_add-place t c = let i = there c.args.text.now c.skip-place.result c.sign_at.result c.sign_at.ensures Times c.in-Times.is tt in omega arith
+products-overflow_add-place t c = let i = there c.args.self.now.text.now c.skip-place.result c.sign_at.result c.sign_at.ensures Times c.in-Times.is tt in omega arith
 
 pub products-factor-requires : goal.products-factor-requires
 unfolding stands
 products-factor-requires t c =
-    let text = c.args.text.now in
+    let text = c.args.self.now.text.now in
     let l = far text c.args.left.next c.skip-place.result c.skip-place.ensures in
     let i = there text c.skip-place.result c.sign_at.result c.sign_at.ensures Times c.in-Times.is tt in
-    (omega arith, c.requires.0)
+    (omega arith, tt)
 
 pub products-returns-in_err-right : goal.products-returns-in_err-right
 unfolding multiplied next
@@ -282,40 +282,40 @@ products-returns-in_err-right t c =
     let a = c.args in
     let e = c.in_err-right in
     let is : c.from_residual.result ≡ refused e.field-0.0.place = grind arith in
-    products-refused a.n a.text.now a.left c.skip-place.result c.sign_at.result c.skip-place.ensures c.sign_at.ensures c.in-Times.is c.factor.ensures e.field-0.0.place (ap (multiplied c.skip-place.result a.left.form) e.was) is
+    products-refused a.self.now.n a.self.now.text.now a.left c.skip-place.result c.sign_at.result c.skip-place.ensures c.sign_at.ensures c.in-Times.is c.factor.ensures e.field-0.0.place (ap (multiplied c.skip-place.result a.left.form) e.was) is
 
 pub products-returns-in_err-both : goal.products-returns-in_err-both
 products-returns-in_err-both t c =
     let a = c.args in
     let e = c.in_err-both in
     let is : c.from_residual-in_err-both.result ≡ refused e.field-0.0.place = grind arith in
-    products-refused a.n a.text.now a.left c.skip-place.result c.sign_at.result c.skip-place.ensures c.sign_at.ensures c.in-Times.is c.factor.ensures e.field-0.0.place
+    products-refused a.self.now.n a.self.now.text.now a.left c.skip-place.result c.sign_at.result c.skip-place.ensures c.sign_at.ensures c.in-Times.is c.factor.ensures e.field-0.0.place
     (ap (multiplied c.skip-place.result a.left.form) c.in_ok-right.was ∙ sym c.multiply.ensures ∙ e.was) is
 
 pub products-products-requires : goal.products-products-requires
 products-products-requires t c =
     let a = c.args in
     let p = c.skip-place.result in
-    let l = far a.text.now a.left.next p c.skip-place.ensures in
-    let b = products-end a.n a.text.now a.left p c.sign_at.result c.skip-place.ensures c.sign_at.ensures c.in-Times.is c.factor.ensures c.in_ok-both.both (ap (multiplied p a.left.form) c.in_ok-right.was ∙ sym c.multiply.ensures ∙ c.in_ok-both.was) in
-    (omega arith, (c.requires.0, b.1))
+    let l = far a.self.now.text.now a.left.next p c.skip-place.ensures in
+    let b = products-end a.self.now.n a.self.now.text.now a.left p c.sign_at.result c.skip-place.ensures c.sign_at.ensures c.in-Times.is c.factor.ensures c.in_ok-both.both (ap (multiplied p a.left.form) c.in_ok-right.was ∙ sym c.multiply.ensures ∙ c.in_ok-both.was) in
+    (omega arith, b.1)
 
 pub products-returns : goal.products-returns
 products-returns t c =
     let a = c.args in
     let p = c.skip-place.result in
-    products-go a.n a.text.now a.left p c.sign_at.result c.skip-place.ensures c.sign_at.ensures c.in-Times.is c.factor.ensures c.in_ok-both.both
+    products-go a.self.now.n a.self.now.text.now a.left p c.sign_at.result c.skip-place.ensures c.sign_at.ensures c.in-Times.is c.factor.ensures c.in_ok-both.both
     (ap (multiplied p a.left.form) c.in_ok-right.was ∙ sym c.multiply.ensures ∙ c.in_ok-both.was) c.products.ensures
 
 pub sums-overflow_add-place : goal.sums-overflow_add-place
-sums-overflow_add-place t c = let i = there c.args.text.now c.skip-place.result c.sign_at-sign.result c.sign_at-sign.ensures c.sign_at-sign.result refl (sum-stands c.sign_at-sign.result c.in-Plus.is) in omega arith
+sums-overflow_add-place t c = let i = there c.args.self.now.text.now c.skip-place.result c.sign_at-sign.result c.sign_at-sign.ensures c.sign_at-sign.result refl (sum-stands c.sign_at-sign.result c.in-Plus.is) in omega arith
 
 pub sums-term-requires : goal.sums-term-requires
 sums-term-requires t c =
-    let text = c.args.text.now in
+    let text = c.args.self.now.text.now in
     let l = far text c.args.left.next c.skip-place.result c.skip-place.ensures in
     let i = there text c.skip-place.result c.sign_at-sign.result c.sign_at-sign.ensures c.sign_at-sign.result refl (sum-stands c.sign_at-sign.result c.in-Plus.is) in
-    (omega arith, c.requires.0)
+    (omega arith, tt)
 
 pub sums-returns-in_err-right-in-Plus : goal.sums-returns-in_err-right-in-Plus
 unfolding joined next
@@ -324,7 +324,7 @@ sums-returns-in_err-right-in-Plus t c =
     let s = c.sign_at-sign in
     let e = c.in_err-right-in-Plus in
     let is : c.from_residual.result ≡ refused e.field-0.0.place = grind arith in
-    sums-refused a.n a.text.now a.left c.skip-place.result s.result c.skip-place.ensures s.ensures c.in-Plus.is c.term.ensures e.field-0.0.place (ap (joined c.skip-place.result a.left.form (sense_of s.result)) e.was) is
+    sums-refused a.self.now.n a.self.now.text.now a.left c.skip-place.result s.result c.skip-place.ensures s.ensures c.in-Plus.is c.term.ensures e.field-0.0.place (ap (joined c.skip-place.result a.left.form (sense_of s.result)) e.was) is
 
 pub sums-returns-in_err-both-in-Plus : goal.sums-returns-in_err-both-in-Plus
 sums-returns-in_err-both-in-Plus t c =
@@ -333,7 +333,7 @@ sums-returns-in_err-both-in-Plus t c =
     let s = c.sign_at-sign in
     let e = c.in_err-both-in-Plus in
     let is : c.from_residual-in_err-both-in-Plus.result ≡ refused e.field-0.0.place = grind arith in
-    sums-refused a.n a.text.now a.left p s.result c.skip-place.ensures s.ensures c.in-Plus.is c.term.ensures e.field-0.0.place
+    sums-refused a.self.now.n a.self.now.text.now a.left p s.result c.skip-place.ensures s.ensures c.in-Plus.is c.term.ensures e.field-0.0.place
     (sense-joined p a.left.form s.result c.sense.result c.in_ok-right-in-Plus.right c.in_ok-right-in-Plus.was c.join.ensures (record { sfits = c.sense.type_inv }) c.sense.ensures ∙ e.was) is
 
 pub sums-sums-requires : goal.sums-sums-requires
@@ -341,27 +341,27 @@ sums-sums-requires t c =
     let a = c.args in
     let p = c.skip-place.result in
     let s = c.sign_at-sign in
-    let l = far a.text.now a.left.next p c.skip-place.ensures in
-    let i = there a.text.now p s.result s.ensures s.result refl (sum-stands s.result c.in-Plus.is) in
+    let l = far a.self.now.text.now a.left.next p c.skip-place.ensures in
+    let i = there a.self.now.text.now p s.result s.ensures s.result refl (sum-stands s.result c.in-Plus.is) in
     let b =
-    sums-end a.n a.text.now a.left p s.result c.skip-place.ensures s.ensures c.in-Plus.is c.term.ensures c.in_ok-both-in-Plus.both
+    sums-end a.self.now.n a.self.now.text.now a.left p s.result c.skip-place.ensures s.ensures c.in-Plus.is c.term.ensures c.in_ok-both-in-Plus.both
     (sense-joined p a.left.form s.result c.sense.result c.in_ok-right-in-Plus.right c.in_ok-right-in-Plus.was c.join.ensures (record { sfits = c.sense.type_inv }) c.sense.ensures ∙ c.in_ok-both-in-Plus.was) in
-    (omega arith, (c.requires.0, b.1))
+    (omega arith, b.1)
 
 pub sums-returns-in_ok-both-in-Plus : goal.sums-returns-in_ok-both-in-Plus
 sums-returns-in_ok-both-in-Plus t c =
     let a = c.args in
     let p = c.skip-place.result in
     let s = c.sign_at-sign in
-    sums-go a.n a.text.now a.left p s.result c.skip-place.ensures s.ensures c.in-Plus.is c.term.ensures c.in_ok-both-in-Plus.both
+    sums-go a.self.now.n a.self.now.text.now a.left p s.result c.skip-place.ensures s.ensures c.in-Plus.is c.term.ensures c.in_ok-both-in-Plus.both
     (sense-joined p a.left.form s.result c.sense.result c.in_ok-right-in-Plus.right c.in_ok-right-in-Plus.was c.join.ensures (record { sfits = c.sense.type_inv }) c.sense.ensures ∙ c.in_ok-both-in-Plus.was) c.sums.ensures
 
 pub sums-returns-in_default : goal.sums-returns-in_default
 sums-returns-in_default t c =
     let a = c.args in
-    let text = a.text.now in
+    let text = a.self.now.text.now in
     let s = c.sign_at-sign in
     let l = a.left in
-    follow.turn (length text) (3 * (length text - l.next) + 1) l.next (λ k. sums_at k a.n text (Ok l))
-    (λ j h. turn.sum-ends a.n text (Ok l) j l.next c.skip-place.result l.form s.result refl c.skip-place.ensures s.ensures c.in_default.not-Plus c.in_default.not-Minus)
-    (λ z y h. let e : l.next ≡ z = same {x = l.form} {y = y} h in (omega arith, omega (arith, c.requires.1)))
+    follow.turn (length text) (3 * (length text - l.next) + 1) l.next (λ k. sums_at k a.self.now.n text (Ok l))
+    (λ j h. turn.sum-ends a.self.now.n text (Ok l) j l.next c.skip-place.result l.form s.result refl c.skip-place.ensures s.ensures c.in_default.not-Plus c.in_default.not-Minus)
+    (λ z y h. let e : l.next ≡ z = same {x = l.form} {y = y} h in (omega arith, omega (arith, c.requires)))
