@@ -17,74 +17,73 @@ const LABELS_LENGTH: usize = 64;
 
 type LabelTable = [u8; LABELS_LENGTH];
 
-// How many switches of a component have a label.
-fn labels_of(s: &[u8], index: &Index, table: &LabelTable, k: usize, e: u32) -> u32
-    requires good_index { GoodIndex s.now index.now × ByLabel s.now index.now table.now }
-    requires k_bound { (k < components_in index.now) × (e ≤ 15) }
-    ensures { result ≡ labelled (component_at s.now index.now k) e }
-{
-    u32::from(table[16 * k + e as usize])
+// An index, with its switches counted by their labels.
+#[derive(Clone, Copy)]
+struct Labels<'a> {
+    s: &'a [u8],
+    index: &'a Index,
+    table: &'a LabelTable,
+    ghost good: { GoodIndex s.now index.now },
+    ghost told: { ByLabel s.now index.now table.now },
 }
 
-// A component's factor for an event: its switches with that label if it is in the scope, else its modes.
-fn choices_of(s: &[u8], index: &Index, table: &LabelTable, k: usize, e: u32) -> u32
-    requires good_index { GoodIndex s.now index.now × ByLabel s.now index.now table.now }
-    requires k_bound { (k < components_in index.now) × (e ≤ 15) }
-    ensures { result ≡ choices (component_at s.now index.now k) e }
-{
-    if in_scope(s, index, k, e) {
-        labels_of(s, index, table, k, e)
-    } else {
-        mode_count(s, index, k)
+impl Labels<'_> {
+    // How many switches of a component have a label.
+    fn labelled(&self, k: usize, e: u32) -> u32
+        requires { (k < components_in self.now.index.now) × (e ≤ 15) }
+        ensures { result ≡ labelled (component_at self.now.s.now self.now.index.now k) e }
+    {
+        u32::from(self.table[16 * k + e as usize])
     }
-}
 
-// In how many ways the members of an event's scope move together, over all locations: a product over the components.
-fn together_total(s: &[u8], index: &Index, table: &LabelTable, e: u32) -> u32
-    requires good_index { GoodIndex s.now index.now × ByLabel s.now index.now table.now }
-    requires e_bound { e ≤ 15 }
-    ensures { result ≡ together_total (components_from s.now index.now) e }
-{
-    product_over(s, index, |k| choices_of(s, index, table, k, e))
-}
-
-// How many joint switches event 0 has, over all locations: one component moves, the others are in any of their modes.
-fn silent_total(s: &[u8], index: &Index, table: &LabelTable) -> u32
-    requires { GoodIndex s.now index.now × ByLabel s.now index.now table.now }
-    ensures { result ≡ silent_total (components_from s.now index.now) }
-{
-    let mut count: u32 = 0;
-    let mut unit: u32 = 1;
-    for k in (0..component_count(s, index)).rev() {
-        let modes = mode_count(s, index, k);
-        count = labels_of(s, index, table, k, 0) * unit + modes * count;
-        unit = modes * unit;
+    // A component's factor for an event: its switches with that label if it is in the scope, else its modes.
+    fn choices(&self, k: usize, e: u32) -> u32
+        requires { (k < components_in self.now.index.now) × (e ≤ 15) }
+        ensures { result ≡ choices (component_at self.now.s.now self.now.index.now k) e }
+    {
+        if in_scope(self.s, self.index, k, e) {
+            self.labelled(k, e)
+        } else {
+            mode_count(self.s, self.index, k)
+        }
     }
-    count
-}
 
-// How many joint switches an event has, over all locations: none where an event from 1 has a scope mask with no ones.
-fn event_total(s: &[u8], index: &Index, table: &LabelTable, e: u32) -> u32
-    requires good_index { GoodIndex s.now index.now × ByLabel s.now index.now table.now }
-    requires e_bound { e ≤ 15 }
-    ensures { result ≡ event_total (components_from s.now index.now) e }
-{
-    if e == 0 {
-        return silent_total(s, index, table);
+    // In how many ways the members of an event's scope move together, over all locations: a product over the components.
+    fn together(&self, e: u32) -> u32
+        requires { e ≤ 15 }
+        ensures { result ≡ together_total (components_from self.now.s.now self.now.index.now) e }
+    {
+        product_over(self.s, self.index, |k| self.choices(k, e))
     }
-    let mask = scope_mask(s, index, e);
-    if mask.count_ones() == 0 {
-        return 0;
-    }
-    together_total(s, index, table, e)
-}
 
-// How many joint switches each event has, by the table of labels.
-fn totals_by(s: &[u8], index: &Index, table: &LabelTable) -> [u32; 16]
-    requires { GoodIndex s.now index.now × ByLabel s.now index.now table.now }
-    ensures { result ≡ map (event_total (components_from s.now index.now)) (count_up 0 16) }
-{
-    array::from_fn(|e| event_total(s, index, table, e as u32))
+    // How many joint switches event 0 has, over all locations: one component moves, the others are in any of their modes.
+    fn silent(&self) -> u32
+        ensures { result ≡ silent_total (components_from self.now.s.now self.now.index.now) }
+    {
+        let mut count: u32 = 0;
+        let mut unit: u32 = 1;
+        for k in (0..component_count(self.s, self.index)).rev() {
+            let modes = mode_count(self.s, self.index, k);
+            count = self.labelled(k, 0) * unit + modes * count;
+            unit = modes * unit;
+        }
+        count
+    }
+
+    // How many joint switches an event has, over all locations: none where an event from 1 has a scope mask with no ones.
+    fn total(&self, e: u32) -> u32
+        requires { e ≤ 15 }
+        ensures { result ≡ event_total (components_from self.now.s.now self.now.index.now) e }
+    {
+        if e == 0 {
+            return self.silent();
+        }
+        let mask = scope_mask(self.s, self.index, e);
+        if mask.count_ones() == 0 {
+            return 0;
+        }
+        self.together(e)
+    }
 }
 
 // How many joint switches each event has, over all locations. The switches are counted once by their labels.
@@ -94,7 +93,12 @@ pub fn event_totals(s: &[u8], index: &Index) -> [u32; 16]
 {
     let mut table = [0u8; LABELS_LENGTH];
     count_switches(s, index, BY_LABEL, &mut table);
-    totals_by(s, index, &table)
+    let labels = Labels {
+        s,
+        index,
+        table: &table,
+    };
+    array::from_fn(|e| labels.total(e as u32))
 }
 
 // How many joint switches there are: those of all events.
