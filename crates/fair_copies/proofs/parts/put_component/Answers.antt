@@ -77,6 +77,6 @@ returns c =
     let counts = c.put_entries-counts in
     let modes = c.put_items-modes in
     let switches = c.put_items in
-    let first = subst (λ (x : ℕ). Written a.out.now a.at (half x) alphabet.new.out alphabet.result) c.wide.ensures (as-half _ alphabet.ensures) in
+    let first = subst (λ (x : ℕ). Written a.out.now a.at (half x) alphabet.new.out alphabet.result) c.from.ensures (as-half _ alphabet.ensures) in
     let third = subst (λ (x : Items). Written counts.new.out counts.result (items_bytes model index x) modes.new.out modes.result) c.modes_of.ensures modes.ensures.written in
     let fourth = subst (λ (x : Items). Written modes.new.out modes.result (items_bytes model index x) switches.new.out switches.result) c.switches_of.ensures switches.ensures.written in record { written = left-last _ (left-on _ _ (left-on _ _ (left-on _ _ (left_as (component-parts model index a.k) (left-all a.out.now a.at _)) first) counts.ensures.written) third) fourth; upper_bound = omega (arith, switches.ensures.upper_bound, modes.ensures.upper_bound, counts.ensures.value, alphabet.ensures.0) }
