@@ -23,20 +23,12 @@ use Rattle.fair_conditions.specs.Held.{Divides, Common, CommonOf, RowDivisor}
 abbrev pub Alike : ℕ → ℕ → ℕ → ℕ → Type 0
 Alike a b x y = (d : ℕ) → 1 ≤ d → (Divides d x × Divides d y) ↔ (Divides d a × Divides d b)
 
-pub alike-starts : (a b : ℕ) → Alike a b a b
-alike-starts a b d h = (λ w. w, λ w. w)
-
 pub alike-goes-on : (a b x y : ℕ) → 1 ≤ y → Alike a b x y → Alike a b y (x % y)
 alike-goes-on a b x y l w d h =
     (λ t. (w d h).0 ((euclid x y d h l).1 t), λ t. (euclid x y d h l).0 ((w d h).1 t))
 
 nothing : (d : ℕ) → Divides d 0
 nothing d = yes_eqb (zero-mod d)
-
-pub alike-ends : (a b x y : ℕ) → y ≡ 0 → Alike a b x y → Common a b x
-alike-ends a b x y e w = record {
-  divides = λ d h. (λ t. (w d h).0 (t, subst (λ (k : ℕ). Divides d k) (sym e) (nothing d)), λ t. ((w d h).1 t).0);
-}
 
 -- one more number before others
 pub common-none : CommonOf [] 0

@@ -129,16 +129,3 @@ module _ (s : List ℕ) (place version n rows : ℕ) (kept₀ sorted₀ : List �
     wide = m ∙ g.wide;
     fair = f (map (λ x. x.row) (rows_from s version n (place + row_bytes version n * i) (rows - i))) g.fair ∙ sym (ap fair_rows (rows_before s version n place rows i j e (omega (arith, g.few))));
   }
-
-  pub gather-ends : (kept sorted : List ℕ) (count j : ℕ) → j ≤ 0 → Gathered s place version n rows kept₀ sorted₀ kept sorted count j → rows_by kept n sorted count ≡ fair_rows (map (λ x. x.row) (rows_from s version n place rows))
-  gather-ends kept sorted count zero h g =
-      g.fair
-      ∙ ap (λ (p : ℕ). fair_rows (map (λ x. x.row) (rows_from s version n p (rows - 0)))) (start place (row_bytes version n))
-      ∙ ap (λ (k : ℕ). fair_rows (map (λ x. x.row) (rows_from s version n place k))) (all rows)
-    where
-      start : (place size : ℕ) → place + size * 0 ≡ place
-      start place size = omega arith
-
-      all : (rows : ℕ) → rows - 0 ≡ rows
-      all rows = omega arith
-  gather-ends kept sorted count (suc j) h g = absurd (omega arith)

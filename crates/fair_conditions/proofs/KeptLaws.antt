@@ -3,15 +3,14 @@ use mathlib.Core.Path.{◌≡◌, refl, sym, ap, ap₂, ◌∙◌, subst}
 use mathlib.Core.Bool.{false}
 use mathlib.Core.List.{List, ◌∷◌, map}
 use Prim.Native.Nat.{ℕ, zero, suc, ◌+◌, ◌*◌, ◌-◌, ◌≤◌, ◌<◌}
-use native.Mathlib.Nat.{add-zero}
 use native.Mathlib.Omega.{arith}
 use lib.IntN.{ℤ}
 use lib.ListN.{length, get_or, set, length-set}
 use lib.Seq.{get_or-set_same, get_or-set_other}
 use Rattle.farkas.specs.Words.{signed_at, numbers_at}
 use Rattle.fair_rows.specs.FairRows.{quotient}
-use Rattle.fair_conditions.specs.Held.{lowered, kept_numbers, KeptOutside, kept_row}
-use Rattle.fair_conditions.proofs.CommonLaws.{numbers-before, numbers-none, numbers-all}
+use Rattle.fair_conditions.specs.Held.{lowered, kept_numbers, kept_row}
+use Rattle.fair_conditions.proofs.CommonLaws.{numbers-before, numbers-none}
 use Rattle.fair_conditions.proofs.SortLaws.{left-numbers}
 
 -- numbers of which none has changed
@@ -56,14 +55,6 @@ module _ (s : List ℕ) (at count divisor base : ℕ) (before : List ℕ) where
             ∙ sym (ap (map (quotient divisor)) (numbers-before s at count j (omega (arith, k.few))));
         outside = λ x h. get_or-set_other after (base + j) x v 0 (λ z. h (omega (arith, z)) (omega (arith, z, k.few))) ∙ k.outside x (λ a b. h (omega arith) b);
       }
-
-  pub kept-ends : (after : List ℕ) (i : ℕ) → i ≤ 0 → Kept s at count divisor base before after i → (kept_numbers after base count ≡ map (quotient divisor) (numbers_at s at count)) × KeptOutside base count before after
-  kept-ends after zero h k =
-      (ap (λ (p : ℕ). kept_numbers after p count) (sym (add-zero base)) ∙ ap (kept_numbers after (base + 0)) (sym (all count)) ∙ k.numbers ∙ ap (map (quotient divisor)) (numbers-all s at count 0 h), record { outside = λ j f. k.outside j (λ a b. f (omega arith) b) })
-    where
-      all : (count : ℕ) → count - 0 ≡ count
-      all count = omega arith
-  kept-ends after (suc i) h k = absurd (omega arith)
 
 -- a row of which no number has changed
 pub row-alike : (before after : List ℕ) (n k : ℕ) → ((i : ℕ) → 17 * k ≤ i → i < 17 * k + (n + 1) → get_or after i 0 ≡ get_or before i 0) → kept_row after n k ≡ kept_row before n k

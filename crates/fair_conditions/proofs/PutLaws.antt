@@ -2,7 +2,6 @@
 use mathlib.Core.Path.{◌≡◌, sym, ap, ap₂, ◌∙◌}
 use mathlib.Core.List.{List, [], ◌∷◌, ◌++◌, map, append_assoc, append-nil}
 use Prim.Native.Nat.{ℕ, ◌+◌, ◌*◌, ◌-◌, ◌≤◌, ◌<◌}
-use native.Mathlib.Nat.{add-zero}
 use native.Mathlib.Numerals.{add-one}
 use native.Mathlib.Omega.{arith}
 use lib.IntN.{ℤ}
@@ -14,7 +13,7 @@ use Rattle.formats.specs.Rows.{SheetRow}
 use Rattle.writing.specs.Changed.{unplaced}
 use Rattle.writing.specs.Writing.{twos, word, write_number, write_mark, write_row, write_condition}
 use Rattle.buffers.specs.Written.{Written}
-use Rattle.buffers.proofs.WritingLaws.{Left, left-all, left-on, left_as, left-none}
+use Rattle.buffers.proofs.WritingLaws.{Left, left-on, left_as, left-none}
 use Rattle.fair_rows.specs.FairRows.{fair_rows}
 use Rattle.fair_models.specs.FairCopy.{fair_condition}
 use Rattle.fair_conditions.specs.Held.{lowered, kept_numbers, kept_row, rows_by}
@@ -30,19 +29,6 @@ pub record NumbersPut (out₀ : List ℕ) (at : ℕ) (kept : List ℕ) (base cou
   pub left : Left out₀ at (join_all write_number (kept_numbers kept base count)) (numbers_left kept base count i) out next
 
 module _ (out₀ : List ℕ) (at : ℕ) (kept : List ℕ) (base count : ℕ) where
-  pub numbers-start : NumbersPut out₀ at kept base count out₀ at 0
-  numbers-start = record {
-    few = omega arith;
-    place = start at;
-    left = left_as (sym (ap (λ (p : ℕ). join_all write_number (kept_numbers kept p (count - 0))) (add-zero base) ∙ ap (λ (k : ℕ). join_all write_number (kept_numbers kept base k)) (all count))) (left-all out₀ at _);
-  }
-    where
-      start : (at : ℕ) → at ≡ at + 4 * 0
-      start at = omega arith
-
-      all : (count : ℕ) → count - 0 ≡ count
-      all count = omega arith
-
   pub numbers-go-on : (out after : List ℕ) (next end i code : ℕ) → i < count → code ≡ twos (lowered (get_or kept (base + i) 0)) → Written out next (word code) after end → NumbersPut out₀ at kept base count out next i → NumbersPut out₀ at kept base count after end (i + 1)
   unfolding join_all write_number word
   numbers-go-on out after next end i code h e w p = record {
@@ -83,9 +69,6 @@ pub record RowsPut (out₀ : List ℕ) (at : ℕ) (kept sorted : List ℕ) (coun
   pub left : Left out₀ at (rows_left version kept n (take count sorted)) (rows_left version kept n (drop i (take count sorted))) out next
 
 module _ (out₀ : List ℕ) (at : ℕ) (kept sorted : List ℕ) (count version n : ℕ) where
-  pub rows_start : RowsPut out₀ at kept sorted count version n out₀ at 0
-  rows_start = record { few = omega arith; place = omega arith; left = left-all out₀ at _ }
-
   first-row : (i : ℕ) → i < count → count ≤ length sorted → rows_left version kept n (drop i (take count sorted)) ≡ join_all write_number (kept_numbers kept (17 * get_or sorted i 0) (n + 1)) ++ rows_left version kept n (drop (i + 1) (take count sorted))
   unfolding join_all
   first-row i h l =

@@ -1,13 +1,13 @@
 -- Parts written one after the other, by their numbers. Assumes nothing.
-use mathlib.Core.Path.{◌≡◌, refl, sym, ap}
+use mathlib.Core.Path.{◌≡◌, refl, ap}
 use mathlib.Core.List.{List, [], ◌∷◌, ◌++◌, map}
 use Prim.Native.Nat.{ℕ, ◌+◌, ◌*◌, ◌≤◌, ◌<◌}
 use native.Mathlib.Nat.{mul-le-mul_left}
 use native.Mathlib.Omega.{arith}
 use Rattle.formats.specs.Joint.{count_up, join_all}
-use Rattle.papers.proofs.JoinedLaws.{joined_on, joined-first, joined-none, joined-whole}
+use Rattle.papers.proofs.JoinedLaws.{joined_on, joined-first, joined-none}
 use Rattle.buffers.specs.Written.{Written}
-use Rattle.buffers.proofs.WritingLaws.{Left, left-all, left-on, left_as, left-none}
+use Rattle.buffers.proofs.WritingLaws.{Left, left-on, left_as, left-none}
 
 -- the parts below i are written, of `most` bytes at most each
 pub record EachPut (f : ℕ → List ℕ) (most : ℕ) (out₀ : List ℕ) (at count : ℕ) (out : List ℕ) (next i : ℕ) : Type 0 where
@@ -16,13 +16,6 @@ pub record EachPut (f : ℕ → List ℕ) (most : ℕ) (out₀ : List ℕ) (at c
   pub left : Left out₀ at (join_all f (count_up 0 count)) (joined_on f count i) out next
 
 module _ (f : ℕ → List ℕ) (most : ℕ) (out₀ : List ℕ) (at count : ℕ) where
-  pub each-starts : EachPut f most out₀ at count out₀ at 0
-  each-starts = record {
-    few = omega arith;
-    place = omega arith;
-    left = left_as (sym (joined-whole f count)) (left-all out₀ at _);
-  }
-
   pub each-goes-on : (out after : List ℕ) (next end i : ℕ) → i < count → Written out next (f i) after end → end ≤ next + most → EachPut f most out₀ at count out next i → EachPut f most out₀ at count after end (i + 1)
   each-goes-on out after next end i h w l p = record {
     few = omega arith;

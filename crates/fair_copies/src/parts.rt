@@ -8,7 +8,6 @@ ghost use Rattle.fair_copies.specs.Items.{span_bytes, spans_bytes, item_bytes, i
 
 use buffers::{put_byte, put_half};
 use fair_conditions::conditions::{Stretch, put_condition};
-use joint_switches::joints::wide;
 use models::layout::{
     BLOCK_LENGTH, COMPONENTS_AT, CONDITIONS_AT, COUNT_AT, FIRST_BLOCK, FIRST_MODE, FIRST_SWITCH,
     FIRST_UNSAFE, INITIAL_AT, Index, JUMP_AT, MODE_COUNT_AT, MODE_LENGTH, SECOND_SPAN,
@@ -46,10 +45,8 @@ pub(crate) fn put_entries(
     ensures value { result ≡ at + count }
 {
     let mut next = at;
-    let mut i: usize = 0;
-    while i < count {
+    for i in 0..count {
         next = put_byte(out, next, number_at(index, from + i) as u8);
-        i += 1;
     }
     next
 }
@@ -99,8 +96,7 @@ fn put_spans(
     ensures upper_bound { result ≤ at + 1635 }
 {
     let mut next = at;
-    let mut i: usize = 0;
-    while i < items.spans {
+    for i in 0..items.spans {
         next = put_span(
             out,
             next,
@@ -111,7 +107,6 @@ fn put_spans(
             kept,
             sorted,
         );
-        i += 1;
     }
     next
 }
@@ -161,8 +156,7 @@ pub(crate) fn put_items(
     ensures upper_bound { result ≤ at + 52448 }
 {
     let mut next = at;
-    let mut i: usize = 0;
-    while i < items.count {
+    for i in 0..items.count {
         next = put_item(
             out,
             next,
@@ -173,7 +167,6 @@ pub(crate) fn put_items(
             kept,
             sorted,
         );
-        i += 1;
     }
     next
 }
@@ -248,7 +241,7 @@ fn put_component(
     ensures upper_bound { result ≤ at + 104900 }
 {
     let block = FIRST_BLOCK + BLOCK_LENGTH * k;
-    let alphabet = put_half(out, at, wide(index[block]));
+    let alphabet = put_half(out, at, u32::from(index[block]));
     let counts = put_entries(out, alphabet, index, block + MODE_COUNT_AT, 2);
     let modes = put_items(
         out,
@@ -286,10 +279,8 @@ pub(crate) fn put_components(
 {
     let count = number_at(index, COMPONENTS_AT);
     let mut next = at;
-    let mut k: usize = 0;
-    while k < count {
+    for k in 0..count {
         next = put_component(out, next, model, index, k, kept, sorted);
-        k += 1;
     }
     next
 }
