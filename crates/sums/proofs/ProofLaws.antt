@@ -6,8 +6,9 @@ use Prim.Native.Nat.{ℕ, zero, suc, ◌≤◌}
 use native.Mathlib.Omega.{arith}
 use lib.ListN.{length}
 use Rattle.farkas.specs.Rows.{Row}
-use Rattle.farkas.specs.declared.Verdict.{Verdict}
-use Rattle.farkas.specs.declared.Verdict.TheVariants as verdicts
+use Rattle.std.specs.Prelude.{Result, Ok, Err}
+use Rattle.farkas.specs.declared.Mismatch.{Mismatch}
+use Rattle.farkas.specs.declared.Mismatch.TheVariants.{CoefficientsDiffer, BoundFails}
 use Rattle.fields.specs.declared.Next.{Next}
 use Rattle.fields.specs.declared.Next.TheVariants as next
 use Rattle.farkas.specs.Farkas.{number_of, Entry, Proof, SumsOf, sums_test, farkas_test}
@@ -66,11 +67,11 @@ refused-not-at e = let z : ◌≡◌ {A = ℕ} 0 1 = ap kind e in omega (arith, 
     kind (next.At p) = 1
     kind (next.Refused n p) = 0
 
-pub tested-holds : (v : Verdict) (at end reached : ℕ) → tested (number_of v) at end ≡ next.At reached → v ≡ verdicts.Holds
+pub tested-holds : (found : Result (Unit {0}) Mismatch) (at end reached : ℕ) → tested (number_of found) at end ≡ next.At reached → found ≡ Ok tt
 unfolding tested number_of
-tested-holds verdicts.Holds at end reached e = refl
-tested-holds verdicts.CoefficientsDiffer at end reached e = absurd (refused-not-at e)
-tested-holds verdicts.BoundFails at end reached e = absurd (refused-not-at e)
+tested-holds (Ok passed) at end reached e = refl
+tested-holds (Err CoefficientsDiffer) at end reached e = absurd (refused-not-at e)
+tested-holds (Err BoundFails) at end reached e = absurd (refused-not-at e)
 
 module _ (rows : List Row) (zero_k : Bool) (goal : Row) (s : List ℕ) (at : ℕ) where
   abbrev rest : ℕ → Head → Reader Proof

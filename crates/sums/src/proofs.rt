@@ -1,5 +1,5 @@
 // Proofs: the sums of a proof's entries, and the test of a proof.
-ghost use Rattle.std.specs.Prelude.{true, false, ◌≡◌, ℕ, ◌+◌, ◌-◌, ◌^◌, ◌≤◌, ◌<◌, pos, length, replicate};
+ghost use Rattle.std.specs.Prelude.{true, false, Ok, ◌≡◌, ℕ, ◌+◌, ◌-◌, ◌^◌, ◌≤◌, ◌<◌, pos, length, replicate};
 ghost use Rattle.formats.specs.Versions.{row_bytes};
 ghost use Rattle.farkas.specs.Rows.{row_of, strictly};
 ghost use Rattle.farkas.specs.Farkas.{sums_test, number_of};
@@ -11,7 +11,7 @@ ghost use Rattle.sums.specs.Summing.{rows_in, SoFar, SoughtFrom, SummedAfter, go
 
 use crate::lines::{add_line, line_at, line_strict, segment_of};
 use crate::{Reached, Summed};
-use farkas::{Bound, Verdict, judge, judge_zero, strict_after};
+use farkas::{Bound, Mismatch, judge, judge_zero, strict_after};
 use fields::Next;
 use fields::versions::is_strict;
 use hypotheses::Group;
@@ -109,11 +109,11 @@ fn verdict(
     sums: &mut [i64],
     bound: i64,
     strict: bool,
-) -> Verdict
+) -> Result<(), Mismatch>
     requires second_len_bound { (length second.now ≤ 32768) × ((n ≤ 8) × (group.shift + n ≤ length sums.old)) }
     requires n_in_bounds { ((group.zero ≡ false) → goal + row_bytes group.version n ≤ length second.now) × ((group.zero ≡ true) → k ≡ 0) }
     ensures result_value { number_of result ≡ sums_test k (strictly strict (row_of sums.old bound)) (goal_at second.now n group goal) }
-    ensures sums_after { result ≡ Verdict.Holds → sums.new ≡ replicate (length sums.old) (pos 0) }
+    ensures sums_after { result ≡ Ok tt → sums.new ≡ replicate (length sums.old) (pos 0) }
 {
     let summed = Bound {
         value: bound,
@@ -127,13 +127,14 @@ fn verdict(
 }
 
 // What a proof that begins and ends at these places is answered.
-fn judged(verdict: Verdict, at: usize, end: usize) -> Next
-    ensures { result ≡ tested (number_of verdict) at end }
+#[tactic(auto, unfolding(farkas::specs::Farkas::number_of, crate::specs::Summing::tested))]
+fn judged(found: Result<(), Mismatch>, at: usize, end: usize) -> Next
+    ensures { result ≡ tested (number_of found) at end }
 {
-    match verdict {
-        Verdict::Holds => Next::At(end),
-        Verdict::CoefficientsDiffer => Next::Refused(10, at),
-        Verdict::BoundFails => Next::Refused(11, at),
+    match found {
+        Ok(()) => Next::At(end),
+        Err(Mismatch::CoefficientsDiffer) => Next::Refused(10, at),
+        Err(Mismatch::BoundFails) => Next::Refused(11, at),
     }
 }
 
