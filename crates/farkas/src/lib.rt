@@ -111,7 +111,7 @@ pub fn strict_after(before: bool, m: u32, strict: bool) -> bool
     before || (m != 0 && strict)
 }
 
-// Whether all these sums are 0.
+// Whether all these sums are 0. The closure has a clause of its own, since a sum is known to fit its type only where it is read.
 fn all_zero(sums: &[i64]) -> bool
     ensures { result ≡ every is_zero sums.now }
 {

@@ -1,5 +1,6 @@
 // Tables of hypotheses, by pushes in the listed order. Hypotheses that stand one after the other are one segment of four numbers: how many
-// hypotheses there are up to its end, its form, its place, and its owner. Forms are those of specs/Tables.antt.
+// hypotheses there are up to its end, its form, its place, and its owner. Forms are those of specs/Tables.antt: they are numbers and no enum,
+// since a table is a lent slice of numbers (no heap), and contracts tell its lines by them.
 ghost use Rattle.std.specs.Prelude.{Bool, ℕ, ◌≡◌, ◌++◌, ◌+◌, ◌*◌, ◌≤◌, ◌<◌, length};
 ghost use Rattle.models.specs.Index.{entry, components_in, GoodIndex};
 ghost use Rattle.models.specs.Counts.{per_component, KnownModes, KnownSwitches};

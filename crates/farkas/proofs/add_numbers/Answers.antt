@@ -47,12 +47,6 @@ loop-i-preserved c =
     ∙ plus-store a.to m old xs (signed_at a.words.now (a.at + 4 * i)) (a.to + i) (ap (λ (n : ℕ). a.to + n) (sym (numbers-length a.words.now a.at i))) (omega arith)
     ∙ ap (plus_from a.to m old) (numbers_more a.words.now a.at i)
 
-pub returns : goal.returns
-returns c =
-    let a = c.args in
-    let whole : c.loop-i.i ≡ a.count = omega arith in
-    c.loop-i.invariant ∙ ap₂ (λ (m : ℤ) (n : ℕ). plus_from a.to m a.sums.now (numbers_at a.words.now a.at n)) (to_z-of_z c.ranges.m) whole
-
 pub loop-i-init : goal.loop-i-init
 unfolding numbers_at
 loop-i-init c = plus_none c.args.to _ c.args.sums.now

@@ -25,6 +25,9 @@ room c = rw (here c.args.unknown) (c.requires.1.room 0 (omega arith))
 bits : (c : Start) → to_z w64 (of_z w64 (get_or c.args.sums.now c.args.unknown (pos 0))) ≡ get_or c.args.sums.now c.args.unknown (pos 0)
 bits c = read_back (get_or c.args.sums.now c.args.unknown (pos 0)) (omega (arith, room c))
 
+pub multiply_add-requires : goal.multiply_add-requires
+multiply_add-requires c = rw (bits (goal.at.multiply_add-requires c).Start, to_z-of_z c.ranges.m) (omega (arith, room (goal.at.multiply_add-requires c).Start))
+
 pub returns : goal.returns
 returns c =
     let a = c.args in
@@ -38,6 +41,3 @@ returns c =
   where
     here : (n : ℕ) → n ≡ n + 0
     here n = omega arith
-
-pub multiply_add-requires : goal.multiply_add-requires
-multiply_add-requires c = rw (bits (goal.at.multiply_add-requires c).Start, to_z-of_z c.ranges.m) (omega (arith, room (goal.at.multiply_add-requires c).Start))

@@ -48,18 +48,6 @@ both : (c : After-add_numbers-2) → c.add_numbers-2.new.sums ≡ plus_from c.ar
 both c =
     second c ∙ ap (λ (ys : List ℤ). plus_from c.args.count (pos c.args.m) ys (row (goal.at.After-add_numbers-2 c).Start)) (first (goal.at.After-add_numbers-2 c).After-add_numbers)
 
-pub returns : goal.returns
-unfolding on_change row_in numbers_at
-returns c =
-    let n = c.args.count in
-    let b = signed_at c.args.words.now (c.args.at + 4 * n) in
-    ap₂ row_of
-    (c.add_numbers-3.ensures
-    ∙ ap₂ (λ (m : ℤ) (ys : List ℤ). plus_from (n + n) m ys (b ∷ [])) (less (goal.at.returns c).After-from-more) (both (goal.at.returns c).After-add_numbers-2)
-    ∙ sym (plus-rates c.args.m c.args.sums.now (row (goal.at.returns c).Start) b n (as_many (goal.at.returns c).Start) c.requires.count_in_bounds.0))
-    (no_bound (pos 0) c.args.m)
-    ∙ add-plain c.args.sums.now (pos 0) c.args.m (on_change (row_in c.args.words.now c.args.at n)) refl
-
 pub add_numbers-requires-2 : goal.add_numbers-requires-2
 add_numbers-requires-2 c =
     let n = c.args.count in
@@ -77,3 +65,15 @@ add_numbers-requires-3 c =
           (r.0, rw (less-size (goal.at.add_numbers-requires-3 c).After-from-more) r.1);
       numbers_in = (omega arith, c.requires.numbers_in.1);
     }
+
+pub returns : goal.returns
+unfolding on_change row_in numbers_at
+returns c =
+    let n = c.args.count in
+    let b = signed_at c.args.words.now (c.args.at + 4 * n) in
+    ap₂ row_of
+    (c.add_numbers-3.ensures
+    ∙ ap₂ (λ (m : ℤ) (ys : List ℤ). plus_from (n + n) m ys (b ∷ [])) (less (goal.at.returns c).After-from-more) (both (goal.at.returns c).After-add_numbers-2)
+    ∙ sym (plus-rates c.args.m c.args.sums.now (row (goal.at.returns c).Start) b n (as_many (goal.at.returns c).Start) c.requires.count_in_bounds.0))
+    (no_bound (pos 0) c.args.m)
+    ∙ add-plain c.args.sums.now (pos 0) c.args.m (on_change (row_in c.args.words.now c.args.at n)) refl

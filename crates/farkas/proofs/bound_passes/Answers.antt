@@ -19,6 +19,10 @@ above (suc k) sum strict goal must h = refl
 below : (c : After-compare-2) → c.if-must.compare ≡ (c.args.must && not c.args.strict)
 below c = elim c.if-must.branch [ then-must w ↦ w.compare-is ∙ rw w.if-must.true | else-must w ↦ w.compare-is ∙ rw w.if-must.false ]
 
+pub returns-then-k-eq0 : goal.returns-then-k-eq0
+unfolding bound_passes
+returns-then-k-eq0 c = c.compare.ensures ∙ rw (to_z-of_z c.ranges.sum, c.if-k-eq0.true)
+
 pub returns : goal.returns
 returns c =
     let a = c.args in
@@ -26,7 +30,3 @@ returns c =
     let e : r ≡ pos a.k *ℤ a.goal = c.multiply_add-bound.ensures ∙ times a.k c.from.result a.goal c.from.ensures c.ranges.k c.ranges.goal in
     c.compare-2.ensures
     ∙ rw (to_z-of_z c.ranges.sum, to_z-of_z {z = r} (record { sfits = c.multiply_add-bound.type_inv }), e, below c, above a.k a.sum a.strict a.goal a.must c.if-k-eq0.false)
-
-pub returns-then-k-eq0 : goal.returns-then-k-eq0
-unfolding bound_passes
-returns-then-k-eq0 c = c.compare.ensures ∙ rw (to_z-of_z c.ranges.sum, c.if-k-eq0.true)

@@ -39,12 +39,6 @@ loop-i-preserved c =
       below_more _ i c.loop-i.invariant.1 (sym (as_it_was (goal.at.loop-i-preserved c).At-loop-i) ∙ e ∙ computed (goal.at.loop-i-preserved c).After-multiply_add),
     )
 
-pub returns : goal.returns
-returns c =
-    let a = c.args in
-    let l = c.loop-i in
-    let whole : l.i ≡ a.count = omega arith in record { value = sym (goal-agrees a.k a.sums.now a.from a.words.now a.at a.count (omega arith) (λ j h. l.invariant.1 j (omega arith))); sums_after = λ e. l.invariant.0 ∙ ap (λ (n : ℕ). cleared a.from n a.sums.now) whole }
-
 pub loop-i-init : goal.loop-i-init
 loop-i-init c = (cleared-none c.args.from c.args.sums.now, below_none _)
 
@@ -55,3 +49,9 @@ returns-then-sums-from-clause-value c =
     sym
     (goal-differs a.k a.sums.now a.from a.words.now a.at a.count (omega arith) c.loop-i.i (omega arith)
     (λ e. c.if-sums-from.true (ap (of_z w64) (as_it_was at.At-loop-i ∙ e ∙ sym (computed at.After-multiply_add)))))
+
+pub returns : goal.returns
+returns c =
+    let a = c.args in
+    let l = c.loop-i in
+    let whole : l.i ≡ a.count = omega arith in record { value = sym (goal-agrees a.k a.sums.now a.from a.words.now a.at a.count (omega arith) (λ j h. l.invariant.1 j (omega arith))); sums_after = λ e. l.invariant.0 ∙ ap (λ (n : ℕ). cleared a.from n a.sums.now) whole }
