@@ -7,7 +7,7 @@ ghost use Rattle.std.specs.Prelude.{◌^◌, ◌<◌};
 ghost use Rattle.models.specs.Index.{GoodIndex};
 
 use fields::header::header;
-use fields::{Field, Next};
+use fields::{Next, Refusal};
 use inputs::read_full;
 use joint_switches::joints::location_count;
 use model_sheets::limits::exam_limits;
@@ -16,26 +16,23 @@ use models::layout::{INDEX_LENGTH, Index, VARIABLES_AT, VERSION_AT};
 use second_sheets::certificate::{entry, proof_head, read_regions};
 use second_sheets::ranges::REGIONS_LENGTH;
 use second_sheets::run::{opening, step};
-use second_sheets::{EntryRead, HeadRead, OpeningRead, StepRead};
 use std::io;
 
-// Writes a number and a place.
-fn answer(rt: &impl Print, number: u32, place: usize) -> io::Result<()> {
-    println!(rt; ": {number} {place}")
-}
-
 // Writes where reading ended, or the refusal.
-fn answer_next(rt: &impl Print, read: Next) -> io::Result<()> {
-    match read {
-        Next::At(place) => answer(rt, 0, place),
-        Next::Refused(number, place) => answer(rt, number, place),
+fn answer(rt: &impl Print, end: Next) -> io::Result<()> {
+    match end {
+        Ok(place) => println!(rt; ": 0 {place}"),
+        Err(Refusal(cause, place)) => {
+            let number = u32::from(cause);
+            println!(rt; ": {number} {place}")
+        }
     }
 }
 
 // Reads a model.
 fn try_model(rt: &impl Print, s: &[u8]) -> io::Result<()> {
     let mut index = [0u16; INDEX_LENGTH];
-    answer_next(rt, model_into(s, &mut index, exam_limits()))
+    answer(rt, model_into(s, &mut index, exam_limits()))
 }
 
 // Reads a certificate's header and regions.
@@ -43,34 +40,28 @@ fn try_regions(rt: &impl Print, model: &[u8], index: &Index, s: &[u8]) -> io::Re
     requires { GoodIndex model.now index.now }
 {
     match header(s, 2) {
-        Field::Refused(number, place) => answer(rt, number, place),
-        Field::Value(_, at) => {
-            let version = index[VERSION_AT] as u32;
-            let n = index[VARIABLES_AT] as usize;
+        Err(refusal) => answer(rt, Err(refusal)),
+        Ok((_, at)) => {
+            let version = u32::from(index[VERSION_AT]);
+            let n = usize::from(index[VARIABLES_AT]);
             let locations = location_count(model, index);
             if s.len() > 32768 || n > 8 || locations > 64 {
                 return Ok(());
             }
             let mut regions = [0u16; REGIONS_LENGTH];
-            answer_next(rt, read_regions(s, at, version, n, locations, &mut regions))
+            answer(rt, read_regions(s, at, version, n, locations, &mut regions))
         }
     }
 }
 
 // Reads a proof's head.
 fn try_head(rt: &impl Print, s: &[u8], at: usize, zero: bool) -> io::Result<()> {
-    match proof_head(s, at, zero) {
-        HeadRead::Head(_, _, next) => answer(rt, 0, next),
-        HeadRead::Refused(number, place) => answer(rt, number, place),
-    }
+    answer(rt, proof_head(s, at, zero).map(|(_, next)| next))
 }
 
 // Reads an entry of a proof.
 fn try_entry(rt: &impl Print, s: &[u8], at: usize, hypotheses: u32, least: u32) -> io::Result<()> {
-    match entry(s, at, hypotheses, least) {
-        EntryRead::Entry(_, _, next) => answer(rt, 0, next),
-        EntryRead::Refused(number, place) => answer(rt, number, place),
-    }
+    answer(rt, entry(s, at, hypotheses, least).map(|(_, next)| next))
 }
 
 // Reads a run's header and opening.
@@ -78,17 +69,15 @@ fn try_opening(rt: &impl Print, model: &[u8], index: &Index, s: &[u8]) -> io::Re
     requires { GoodIndex model.now index.now }
 {
     match header(s, 3) {
-        Field::Refused(number, place) => answer(rt, number, place),
-        Field::Value(_, at) => {
+        Err(refusal) => answer(rt, Err(refusal)),
+        Ok((_, at)) => {
             if s.len() > 32768 {
                 return Ok(());
             }
             let locations = location_count(model, index);
             let mut values = [0i64; 8];
-            match opening(index, locations, s, at, &mut values) {
-                OpeningRead::Opening(_, _, _, next) => answer(rt, 0, next),
-                OpeningRead::Refused(number, place) => answer(rt, number, place),
-            }
+            let begun = opening(index, locations, s, at, &mut values);
+            answer(rt, begun.map(|(_, next)| next))
         }
     }
 }
@@ -101,26 +90,19 @@ fn try_step(rt: &impl Print, model: &[u8], index: &Index, s: &[u8], at: usize) -
         return Ok(());
     }
     let mut values = [0i64; 8];
-    match step(index, s, at, &mut values) {
-        StepRead::Good(_, next) => answer(rt, 0, next),
-        StepRead::Refused(number, place) => answer(rt, number, place),
-    }
+    answer(rt, step(index, s, at, &mut values).map(|(_, next)| next))
 }
 
 // Reads what stands beside a model.
 fn try_beside(rt: &impl Print, model: &[u8], kind: usize, at: usize, s: &[u8]) -> io::Result<()> {
     let mut index = [0u16; INDEX_LENGTH];
     match model_into(model, &mut index, exam_limits()) {
-        Next::Refused(number, place) => answer(rt, number, place),
-        Next::At(_) => {
-            if kind == 2 {
-                try_regions(rt, model, &index, s)
-            } else if kind == 5 {
-                try_opening(rt, model, &index, s)
-            } else {
-                try_step(rt, model, &index, s, at)
-            }
-        }
+        Err(refusal) => answer(rt, Err(refusal)),
+        Ok(_) => match kind {
+            2 => try_regions(rt, model, &index, s),
+            5 => try_opening(rt, model, &index, s),
+            _ => try_step(rt, model, &index, s, at),
+        },
     }
 }
 
@@ -128,10 +110,7 @@ fn try_beside(rt: &impl Print, model: &[u8], kind: usize, at: usize, s: &[u8]) -
 fn byte_at(all: &[u8], at: usize) -> usize
     ensures { result < 256 }
 {
-    if at < all.len() {
-        return all[at] as usize;
-    }
-    0
+    all.get(at).map_or(0, |byte| usize::from(*byte))
 }
 
 // Reads a sheet as the kind and arguments at `head` say.
@@ -141,14 +120,11 @@ fn try_sheet(rt: &impl Print, all: &[u8], head: usize, model: &[u8], s: &[u8]) -
     let kind = byte_at(all, head);
     let at = byte_at(all, head + 1);
     let second = byte_at(all, head + 2) as u32;
-    if kind == 1 {
-        try_model(rt, s)
-    } else if kind == 3 {
-        try_head(rt, s, at, second == 1)
-    } else if kind == 4 {
-        try_entry(rt, s, at, second, byte_at(all, head + 3) as u32)
-    } else {
-        try_beside(rt, model, kind, at, s)
+    match kind {
+        1 => try_model(rt, s),
+        3 => try_head(rt, s, at, second == 1),
+        4 => try_entry(rt, s, at, second, byte_at(all, head + 3) as u32),
+        _ => try_beside(rt, model, kind, at, s),
     }
 }
 
