@@ -1,5 +1,5 @@
 use mathlib.Core.Path.{◌≡◌}
-use Prim.Native.Nat.{◌-◌, ◌≤◌}
+use Prim.Native.Nat.{◌≤◌}
 use lib.ListN.{length}
 use Rattle.hypotheses.specs.Tables.{Stacked}
 use Rattle.hypotheses.specs.Listing.{mark_tasks}
@@ -16,6 +16,3 @@ invariant-loop-location l =
     × ((length l.table ≡ length l.initial.table)
     × (Stacked l.table 0
     × Comes l.second (mark_tasks (joined_on (leaving_tasks l.model l.index l.second l.regions) l.locations 0) l.second l.initial.marking.place l.initial.marking.done) (joined_on (leaving_tasks l.model l.index l.second l.regions) l.locations l.location) l.marking.place l.marking.done))))
-
-abbrev pub decreases-loop-location : goal.decreases-loop-location
-decreases-loop-location l = l.locations - l.location
