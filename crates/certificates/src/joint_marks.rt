@@ -39,9 +39,8 @@ fn mark_switch(
     ensures fresh { OnOk result (Fresh sums.new) }
     ensures kept { Kept (4 * from.here + 4) 96 table.old table.new }
 {
-    let marking = from.marking;
     if region_rows(regions, landing.target) == 0 {
-        return Ok(marking);
+        return Ok(from.marking);
     }
     let group = jump_group(
         model,
@@ -54,7 +53,7 @@ fn mark_switch(
         table,
     );
     let n = index[VARIABLES_AT] as usize;
-    mark_group(model, second, n, table, group, marking, sums)
+    mark_group(model, second, n, table, group, from.marking, sums)
 }
 
 // The proofs of the joint switches of one event from a location, as the table of their ways lists them.
@@ -77,15 +76,9 @@ fn mark_switches(
 {
     let slot = listing.slot;
     let from = listing.from;
-    let modes = from.modes;
     let mut marking = from.marking;
     for x in 0..slot.count {
-        let at = Leaving {
-            location: from.location,
-            modes,
-            here: from.here,
-            marking,
-        };
+        let at = Leaving { marking, ..from };
         let landing = landing_at(index, slot, ways, x);
         marking = mark_switch(model, index, second, regions, at, landing, table, sums)?;
     }
@@ -111,8 +104,7 @@ fn mark_event(
     ensures kept { Kept (4 * from.here + 4) 96 table.old table.new }
 {
     if index[FIRST_TOTAL + e as usize] == 0 {
-        let marking = from.marking;
-        return Ok(marking);
+        return Ok(from.marking);
     }
     let mut ways = [0u8; WAYS_LENGTH];
     let modes = from.modes;

@@ -12,7 +12,7 @@ use Rattle.certificates.proofs.joint_marks.mark_switches.Given as goal
 
 abbrev pub invariant-loop-x : goal.invariant-loop-x
 invariant-loop-x l =
-    let at : Leaving = record { location = l.from.location; modes = l.modes; here = l.from.here; marking = l.marking } in
+    let at : Leaving = record { location = l.from.location; modes = l.from.modes; here = l.from.here; marking = l.marking } in
     (l.x ≤ l.slot.count)
     × (Ready l.model l.index l.second l.regions at l.table l.sums
     × ((length l.table ≡ length l.initial.table)
