@@ -19,6 +19,7 @@ use Rattle.joint_switches.specs.Slots.{landing_in, Listed}
 use Rattle.papers.specs.Standing.{Stands}
 use Rattle.papers.proofs.LandedLaws.{landed-first, landed-target}
 use Rattle.papers.proofs.JoinedLaws.{joined_on, joined-first, joined-whole}
+use Rattle.hypotheses.specs.Tables.{Stacked}
 use Rattle.hypotheses.proofs.TableLaws.{stacked-kept, lines-kept}
 use Rattle.second_sheets.specs.CertificateAnswers.{regions_from}
 use Rattle.formats.specs.JointTotals.{event_total}
@@ -133,6 +134,29 @@ module _ {s : List ℕ} {m : Marking} {r : Result Marking Failed} {whole : Marke
 
   pub turn-stops : {w : Failed} {x : Result Marking Failed} → r ≡ Err w → x ≡ Err w → stands_at x ≡ whole
   turn-stops = part-stops (f i) u told (joined_on f n (i + 1)) (comes-same s whole m.place m.done (joined-first f n i h) c)
+
+-- where a loop over numbers stands whose turns each fill the table anew: what is left, marked from here, is the whole
+pub record Going (second table : List ℕ) (sums : List ℤ) (long : ℕ) (whole : Marked (Unit {0})) (left : List Task) (m : Marking) : Type 0 where
+  pub underway : Underway second m
+  pub fresh : Fresh sums
+  pub same : length table ≡ long
+  pub stacked : Stacked table 0
+  pub comes : Comes second whole left m.place m.done
+
+-- and what a turn that was marked makes of it
+module _ {second table : List ℕ} {sums : List ℤ} {long : ℕ} {whole : Marked (Unit {0})} {m : Marking} {r : Result Marking Failed} (f : ℕ → List Task) (n i : ℕ) (h : i < n) (g : Going second table sums long whole (joined_on f n i) m) (told : stands_at r ≡ marked_from (f i) second m) where
+  pub goes_on : {k : Marking} {after : List ℕ} {left : List ℤ} → r ≡ Ok k → Stacked after 0 → Fresh left → length after ≡ length table → Going second after left long whole (joined_on f n (i + 1)) k
+  goes_on e stacked fresh same =
+      record {
+        underway = part-underway (f i) g.underway told e;
+        fresh = fresh;
+        same = same ∙ g.same;
+        stacked = stacked;
+        comes = turn_on f n i h g.underway told g.comes e;
+      }
+
+  pub goes-wrong : {w : Failed} {x : Result Marking Failed} → r ≡ Err w → x ≡ Err w → stands_at x ≡ whole
+  goes-wrong e same = turn-stops f n i h g.underway told g.comes e same
 
 -- coming to the end leaves marking where it stands, and so does nothing to prove
 pub marked-end : (s : List ℕ) {whole : Marked (Unit {0})} (m : Marking) {left : List Task} → left ≡ [] → Comes s whole left m.place m.done → stands_at (Ok m) ≡ whole

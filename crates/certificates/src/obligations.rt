@@ -52,6 +52,7 @@ pub fn mark_group(
     let mut place = from.place;
     for goal in 0..goals {
         let row = goal_place(group, n, goal);
+        // A refusal goes on with what has passed: `map_err`, whose closure would hold the counter, is no plainer than two arms.
         match mark_proof(
             model,
             second,

@@ -7,7 +7,7 @@ use Rattle.models.specs.Index.{components_from}
 use Rattle.hypotheses.specs.Listing.{Task, joint_tasks_for}
 use Rattle.papers.proofs.JoinedLaws.{joined_on, joined-none}
 use Rattle.certificates.specs.Passed.{marked_from, leaving_tasks}
-use Rattle.certificates.proofs.JointMarks.{part-underway, turn_on, turn-stops, marked-end, joints-left}
+use Rattle.certificates.proofs.JointMarks.{goes_on, goes-wrong, marked-end, joints-left}
 use Rattle.certificates.proofs.joint_marks.mark_joints.Goals.{Start}
 use Rattle.certificates.proofs.joint_marks.mark_joints.Goals as goal
 
@@ -17,27 +17,24 @@ whole s = ap (λ (ts : List Task). marked_from ts s.args.second.now s.args.from)
 
 pub loop-location-init : goal.loop-location-init
 loop-location-init c =
-    (omega arith, (c.requires.locations_value.1.0, (c.requires.locations_value.1.1, (refl, (c.requires.in_bounds.1, refl)))))
+    (omega arith, record { underway = c.requires.locations_value.1.0; fresh = c.requires.locations_value.1.1; same = refl; stacked = c.requires.in_bounds.1; comes = refl })
 
 pub mark_leaving-requires-clause-location_bound : goal.mark_leaving-requires-clause-location_bound
 mark_leaving-requires-clause-location_bound c =
-    let l = c.loop-location in
-    (omega (arith, c.loop-location-test.true, c.requires.locations_value.0), (l.invariant.1.0, l.invariant.1.1.0))
+    let i = c.loop-location.invariant.1 in
+    (omega (arith, c.loop-location-test.true, c.requires.locations_value.0), (i.underway, i.fresh))
 
 pub returns-in_err-marking : goal.returns-in_err-marking
 returns-in_err-marking c =
-    let i = c.loop-location.invariant.1 in
     let same : c.from_residual.result ≡ Err c.in_err-marking.field-0.0 = search rules in
-    turn-stops _ _ _ c.loop-location-test.true i.0 c.mark_leaving.ensures.value i.1.1.1.1 c.in_err-marking.was same ∙ whole (goal.at.returns-in_err-marking c).Start
+    goes-wrong _ _ _ c.loop-location-test.true c.loop-location.invariant.1 c.mark_leaving.ensures.value c.in_err-marking.was same ∙ whole (goal.at.returns-in_err-marking c).Start
 
 pub loop-location-preserved : goal.loop-location-preserved
 loop-location-preserved c =
-    let i = c.loop-location.invariant.1 in
     let k = c.mark_leaving in
-    let was = c.in_ok-marking.was in
     let again = c.in_ok-marking.ensures.stacked in
-    (omega (arith, c.loop-location-test.true), (part-underway _ i.0 k.ensures.value was, (again.1, (k.auto.table ∙ i.1.1.0, (again.0, turn_on _ _ _ c.loop-location-test.true i.0 k.ensures.value i.1.1.1.1 was)))))
+    (omega (arith, c.loop-location-test.true), goes_on _ _ _ c.loop-location-test.true c.loop-location.invariant.1 k.ensures.value c.in_ok-marking.was again.0 again.1 k.auto.table)
 
 pub returns : goal.returns
 returns c =
-    marked-end _ _ (joined-none _ _ _ c.loop-location-test.false) c.loop-location.invariant.1.1.1.1.1 ∙ whole (goal.at.returns c).Start
+    marked-end _ _ (joined-none _ _ _ c.loop-location-test.false) c.loop-location.invariant.1.comes ∙ whole (goal.at.returns c).Start

@@ -8,7 +8,7 @@ use Rattle.papers.proofs.StandingLaws.{stands_at_lem}
 use Rattle.papers.proofs.JoinedLaws.{joined-none}
 use Rattle.certificates.specs.Passed.{stands_at, marked_from}
 use Rattle.certificates.proofs.MarkLoops.{groups_left, location-groups}
-use Rattle.certificates.proofs.JointMarks.{part-underway, turn_on, turn-stops, marked-end}
+use Rattle.certificates.proofs.JointMarks.{goes_on, goes-wrong, marked-end}
 use Rattle.certificates.proofs.obligations.mark_location.Goals.{After-mark_group, Start}
 use Rattle.certificates.proofs.obligations.mark_location.Goals as goal
 
@@ -23,45 +23,42 @@ part c = c.mark_group.ensures.value ∙ ap (λ (ts : List Task). marked_from ts 
 
 pub loop-g-init : goal.loop-g-init
 loop-g-init c =
-    (omega arith, (c.requires.location_bound.1.0, (c.requires.location_bound.1.1, (refl, (c.requires.in_bounds.1, refl)))))
+    (omega arith, record { underway = c.requires.location_bound.1.0; fresh = c.requires.location_bound.1.1; same = refl; stacked = c.requires.in_bounds.1; comes = refl })
 
 pub group_at-group-requires-clause-stands : goal.group_at-group-requires-clause-stands
 unfolding entry
 group_at-group-requires-clause-stands c =
     let p = c.requires in
-    let i = c.loop-g.invariant.1.1.1 in
-    (stands_at_lem _ _ c.args.location _ _ p.good_paper.good p.location_bound.0 c.modes_at-modes.ensures, (omega (arith, c.loop-g-test.true), (omega (arith, i.0, p.in_bounds.0), i.1.0)))
+    let i = c.loop-g.invariant.1 in
+    (stands_at_lem _ _ c.args.location _ _ p.good_paper.good p.location_bound.0 c.modes_at-modes.ensures, (omega (arith, c.loop-g-test.true), (omega (arith, i.same, p.in_bounds.0), i.stacked)))
 
 pub mark_group-requires-clause-model_len_bound : goal.mark_group-requires-clause-model_len_bound
 unfolding entry
 mark_group-requires-clause-model_len_bound c =
-    (c.requires.good_paper.short, (c.requires.good_paper.brief, (c.requires.good_paper.good.most, omega (arith, c.group_at-group.auto.table, c.loop-g.invariant.1.1.1.0, c.requires.in_bounds.0))))
+    let p = c.requires.good_paper in
+    (p.short, (p.brief, (p.good.most, omega (arith, c.group_at-group.auto.table, c.loop-g.invariant.1.same, c.requires.in_bounds.0))))
 
 pub mark_group-requires-clause-good_group : goal.mark_group-requires-clause-good_group
 unfolding entry
 mark_group-requires-clause-good_group c =
-    (c.group_at-group.ensures.good_group, (c.loop-g.invariant.1.0, c.loop-g.invariant.1.1.0))
+    (c.group_at-group.ensures.good_group, (c.loop-g.invariant.1.underway, c.loop-g.invariant.1.fresh))
 
 pub returns-in_err-marking-clause-value : goal.returns-in_err-marking-clause-value
 unfolding entry
 returns-in_err-marking-clause-value c =
-    let i = c.loop-g.invariant.1 in
     let same : c.from_residual.result ≡ Err c.in_err-marking.field-0.0 = search rules in
-    turn-stops _ _ _ c.loop-g-test.true i.0 (part (goal.at.returns-in_err-marking-clause-value c).After-mark_group) i.1.1.1.1 c.in_err-marking.was same ∙ whole (goal.at.returns-in_err-marking-clause-value c).Start
+    goes-wrong _ _ _ c.loop-g-test.true c.loop-g.invariant.1 (part (goal.at.returns-in_err-marking-clause-value c).After-mark_group) c.in_err-marking.was same ∙ whole (goal.at.returns-in_err-marking-clause-value c).Start
 
 pub loop-g-preserved : goal.loop-g-preserved
 unfolding entry
 loop-g-preserved c =
-    let i = c.loop-g.invariant.1 in
-    let turn = part (goal.at.loop-g-preserved c).After-mark_group in
     let k = c.group_at-group in
-    let was = c.in_ok-marking.was in
-    (omega (arith, c.loop-g-test.true), (part-underway _ i.0 turn was, (c.in_ok-marking.ensures.fresh, (k.auto.table ∙ i.1.1.0, (stacked-less 0 (omega arith) k.ensures.good_group.stacked, turn_on _ _ _ c.loop-g-test.true i.0 turn i.1.1.1.1 was)))))
+    (omega (arith, c.loop-g-test.true), goes_on _ _ _ c.loop-g-test.true c.loop-g.invariant.1 (part (goal.at.loop-g-preserved c).After-mark_group) c.in_ok-marking.was (stacked-less 0 (omega arith) k.ensures.good_group.stacked) c.in_ok-marking.ensures.fresh k.auto.table)
 
 pub returns-clause-value : goal.returns-clause-value
 unfolding entry
 returns-clause-value c =
-    marked-end _ _ (joined-none _ _ _ c.loop-g-test.false) c.loop-g.invariant.1.1.1.1.1 ∙ whole (goal.at.returns-clause-value c).Start
+    marked-end _ _ (joined-none _ _ _ c.loop-g-test.false) c.loop-g.invariant.1.comes ∙ whole (goal.at.returns-clause-value c).Start
 
 pub returns-clause-stacked : goal.returns-clause-stacked
-returns-clause-stacked c = (c.loop-g.invariant.1.1.1.1.0, c.loop-g.invariant.1.1.0)
+returns-clause-stacked c = (c.loop-g.invariant.1.stacked, c.loop-g.invariant.1.fresh)

@@ -4,7 +4,7 @@ use mathlib.Core.List.{List}
 use Rattle.formats.specs.Joint.{count_up, join_all}
 use Rattle.hypotheses.specs.Listing.{Task, location_tasks_for, mark_tasks}
 use Rattle.papers.proofs.JoinedLaws.{joined_on, joined-none, joined-whole}
-use Rattle.certificates.proofs.JointMarks.{part-underway, turn_on, turn-stops, marked-end}
+use Rattle.certificates.proofs.JointMarks.{goes_on, goes-wrong, marked-end}
 use Rattle.certificates.proofs.obligations.mark_locations.Goals.{Start}
 use Rattle.certificates.proofs.obligations.mark_locations.Goals as goal
 
@@ -14,22 +14,19 @@ whole s = ap (λ (ts : List Task). mark_tasks ts s.args.second.now s.args.at 0) 
 
 pub loop-location-init : goal.loop-location-init
 loop-location-init c =
-    (omega arith, (record { within = c.requires.locations_value.1; few = omega arith }, (c.requires.in_bounds.1.1, (refl, (c.requires.in_bounds.1.0, refl)))))
+    (omega arith, record { underway = record { within = c.requires.locations_value.1; few = omega arith }; fresh = c.requires.in_bounds.1.1; same = refl; stacked = c.requires.in_bounds.1.0; comes = refl })
 
 pub returns-in_err-marking-clause-value : goal.returns-in_err-marking-clause-value
 returns-in_err-marking-clause-value c =
-    let i = c.loop-location.invariant.1 in
     let same : c.from_residual.result ≡ Err c.in_err-marking.field-0.0 = search rules in
-    turn-stops _ _ _ c.loop-location-test.true i.0 c.mark_location.ensures.value i.1.1.1.1 c.in_err-marking.was same ∙ whole (goal.at.returns-in_err-marking-clause-value c).Start
+    goes-wrong _ _ _ c.loop-location-test.true c.loop-location.invariant.1 c.mark_location.ensures.value c.in_err-marking.was same ∙ whole (goal.at.returns-in_err-marking-clause-value c).Start
 
 pub loop-location-preserved : goal.loop-location-preserved
 loop-location-preserved c =
-    let i = c.loop-location.invariant.1 in
     let k = c.mark_location in
-    let was = c.in_ok-marking.was in
     let again = c.in_ok-marking.ensures.stacked in
-    (omega (arith, c.loop-location-test.true), (part-underway _ i.0 k.ensures.value was, (again.1, (k.auto.table ∙ i.1.1.0, (again.0, turn_on _ _ _ c.loop-location-test.true i.0 k.ensures.value i.1.1.1.1 was)))))
+    (omega (arith, c.loop-location-test.true), goes_on _ _ _ c.loop-location-test.true c.loop-location.invariant.1 k.ensures.value c.in_ok-marking.was again.0 again.1 k.auto.table)
 
 pub returns-clause-value : goal.returns-clause-value
 returns-clause-value c =
-    marked-end _ _ (joined-none _ _ _ c.loop-location-test.false) c.loop-location.invariant.1.1.1.1.1 ∙ whole (goal.at.returns-clause-value c).Start
+    marked-end _ _ (joined-none _ _ _ c.loop-location-test.false) c.loop-location.invariant.1.comes ∙ whole (goal.at.returns-clause-value c).Start

@@ -1,18 +1,11 @@
-use mathlib.Core.Path.{◌≡◌}
 use Prim.Native.Nat.{◌≤◌}
 use lib.ListN.{length}
-use Rattle.hypotheses.specs.Tables.{Stacked}
 use Rattle.hypotheses.specs.Listing.{location_tasks_for, mark_tasks}
 use Rattle.papers.proofs.JoinedLaws.{joined_on}
-use Rattle.certificates.specs.Passed.{Underway, Fresh}
-use Rattle.certificates.proofs.MarkLoops.{Comes}
+use Rattle.certificates.proofs.JointMarks.{Going}
 use Rattle.certificates.proofs.obligations.mark_locations.Given as goal
 
 abbrev pub invariant-loop-location : goal.invariant-loop-location
 invariant-loop-location l =
     (l.location ≤ l.locations)
-    × (Underway l.second l.marking
-    × (Fresh l.sums
-    × ((length l.table ≡ length l.initial.table)
-    × (Stacked l.table 0
-    × Comes l.second (mark_tasks (joined_on (location_tasks_for l.model l.index l.second l.regions) l.locations 0) l.second l.at 0) (joined_on (location_tasks_for l.model l.index l.second l.regions) l.locations l.location) l.marking.place l.marking.done))))
+    × Going l.second l.table l.sums (length l.initial.table) (mark_tasks (joined_on (location_tasks_for l.model l.index l.second l.regions) l.locations 0) l.second l.at 0) (joined_on (location_tasks_for l.model l.index l.second l.regions) l.locations l.location) l.marking
