@@ -6,6 +6,7 @@ use Prim.Native.Nat.{ℕ, zero, suc, ◌+◌, ◌*◌, ◌<◌}
 use native.Mathlib.Numerals.{add-one}
 use native.Mathlib.Omega.{arith}
 use Rattle.std.specs.List.{range_with_len}
+use Rattle.std.proofs.lemmas.List.{nil_from_length}
 use lib.Dec.{T, eqb→eq}
 use lib.ListN.{length}
 use Rattle.farkas.specs.Lists.{every, All, none, more}
@@ -53,8 +54,4 @@ pub no-joints : (model index second regions : List ℕ) → length (joints (comp
 unfolding join_all
 no-joints model index second regions e =
     joint-jumps (model_from model index) (regions_of model index second regions) (joints (components_from model index))
-    ∙ ap (join_all (jump_of (model_from model index) (regions_of model index second regions))) (empty (joints (components_from model index)) e)
-  where
-    empty : (js : List JointSwitch) → length js ≡ 0 → js ≡ []
-    empty [] e = refl
-    empty (j ∷ js) e = absurd (omega (arith, e))
+    ∙ ap (join_all (jump_of (model_from model index) (regions_of model index second regions))) (nil_from_length (joints (components_from model index)) e)

@@ -104,6 +104,10 @@ fn mark_location(
     let mut marking = from;
     for g in 0..groups {
         let group = group_at(model, index, second, regions, location, modes, g, table);
+        // An empty group would cost a call: counted, half as many instructions again for a model without rows.
+        if group.goals == 0 {
+            continue;
+        }
         marking = mark_group(model, second, n, table, group, marking, sums)?;
     }
     Ok(marking)

@@ -7,8 +7,9 @@ use Rattle.hypotheses.proofs.TableLaws.{stacked-less}
 use Rattle.papers.proofs.StandingLaws.{stands_at_lem}
 use Rattle.papers.proofs.JoinedLaws.{joined-none}
 use Rattle.certificates.specs.Passed.{stands_at, marked_from}
+use Rattle.certificates.proofs.MarkLaws.{tasks-none}
 use Rattle.certificates.proofs.MarkLoops.{groups_left, location-groups}
-use Rattle.certificates.proofs.JointMarks.{goes_on, goes-wrong, marked-end}
+use Rattle.certificates.proofs.JointMarks.{goes_on, goes-wrong, marked-end, marked-none}
 use Rattle.certificates.proofs.obligations.mark_location.Goals.{After-mark_group, Start}
 use Rattle.certificates.proofs.obligations.mark_location.Goals as goal
 
@@ -48,6 +49,15 @@ unfolding entry
 returns-in_err-marking-clause-value c =
     let same : c.from_residual.result ≡ Err c.in_err-marking.field-0.0 = search rules in
     goes-wrong _ _ _ c.loop-g-test.true c.loop-g.invariant.1 (part (goal.at.returns-in_err-marking-clause-value c).After-mark_group) c.in_err-marking.was same ∙ whole (goal.at.returns-in_err-marking-clause-value c).Start
+
+-- a group without goals has nothing to prove
+pub loop-g-preserved-then-group-eq0 : goal.loop-g-preserved-then-group-eq0
+unfolding entry
+loop-g-preserved-then-group-eq0 c =
+    let k = c.group_at-group in
+    let i = c.loop-g.invariant.1 in
+    let none = sym k.ensures.result_after ∙ tasks-none c.args.model.now c.args.second.now _ k.new.table k.result c.if-group-eq0.true in
+    (omega (arith, c.loop-g-test.true), goes_on _ _ _ c.loop-g-test.true i (marked-none c.args.second.now c.loop-g.marking none) refl (stacked-less 0 (omega arith) k.ensures.good_group.stacked) i.fresh k.auto.table)
 
 pub loop-g-preserved : goal.loop-g-preserved
 unfolding entry
