@@ -1,11 +1,11 @@
 -- Regions without rows: that then no joint switch has anything to prove. Assumes nothing.
 use mathlib.Core.Path.{◌≡◌, refl, sym, ap, ap₂, ◌∙◌, subst}
-use mathlib.Core.Bool.{true}
+use mathlib.Core.Bool.{Bool, true, ◌&&◌}
 use mathlib.Core.List.{List, [], ◌∷◌, ◌++◌}
 use Prim.Native.Nat.{ℕ, zero, suc, ◌+◌, ◌*◌, ◌<◌}
 use native.Mathlib.Numerals.{add-one}
 use native.Mathlib.Omega.{arith}
-use Rattle.std.specs.List.{range_with_len}
+use Rattle.std.specs.List.{list_all, range_with_len}
 use Rattle.std.proofs.lemmas.List.{nil_from_length}
 use lib.Dec.{T, eqb→eq}
 use lib.ListN.{length}
@@ -23,11 +23,11 @@ use Rattle.hypotheses.proofs.GroupLaws.{no-rows-jump}
 use Rattle.certificates.specs.Passed.{rowless}
 use Rattle.certificates.proofs.JointMarks.{jump_of, joint-jumps}
 
--- the numbers of a range are counted up
-pub range-counted : (k n : ℕ) → range_with_len k n ≡ count_up k n
-unfolding count_up
-range-counted k zero = refl
-range-counted k (suc n) = ap (λ (m : ℕ). k ∷ range_with_len m n) (add-one k) ∙ ap (λ (xs : List ℕ). k ∷ xs) (range-counted (suc k) n)
+-- a test of all numbers of a range is one of those that are counted up
+pub all-counted : (f : ℕ → Bool) (k n : ℕ) → list_all f (range_with_len k n) ≡ every f (count_up k n)
+unfolding every count_up
+all-counted f k zero = refl
+all-counted f k (suc n) = ap (λ (m : ℕ). f k && list_all f (range_with_len m n)) (add-one k) ∙ ap (λ b. f k && b) (all-counted f (suc k) n)
 
 -- where no region has a row, no joint switch has anything to prove
 module _ (model index second regions : List ℕ) where

@@ -1,5 +1,5 @@
 // The proofs of a certificate, one per obligation, read and tested in order up to the first that fails.
-ghost use Rattle.std.specs.Prelude.{OnOk, ◌≡◌, false, ◌+◌, ◌*◌, ◌≤◌, ◌<◌, length};
+ghost use Rattle.std.specs.Prelude.{OnOk, ◌≡◌, ◌+◌, ◌*◌, ◌≤◌, ◌<◌, length};
 ghost use Rattle.formats.specs.Versions.{row_bytes};
 ghost use Rattle.farkas.specs.Lists.{every};
 ghost use Rattle.formats.specs.Locations.{location_count};

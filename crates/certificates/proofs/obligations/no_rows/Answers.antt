@@ -1,12 +1,10 @@
 -- Every region's count is looked at. Assumes nothing.
-use Rattle.std.proofs.Common.{rules, tests, ◌∙◌, ap, refl, arith}
+use Rattle.std.proofs.Common.{rules, tests, ◌∙◌, refl, arith}
 use Rattle.std.proofs.lemmas.Iterator.{YieldsList-from_range}
 use Rattle.std.proofs.lemmas.Iterator.Search.{all_from_yields_List}
-use Rattle.farkas.specs.Lists.{every}
-use Rattle.farkas.proofs.SumTest.{all-every}
 use Rattle.models.specs.Index.{entry}
 use Rattle.certificates.specs.Passed.{rowless}
-use Rattle.certificates.proofs.RowlessLaws.{range-counted}
+use Rattle.certificates.proofs.RowlessLaws.{all-counted}
 use Rattle.certificates.proofs.obligations.no_rows.Goals as goal
 
 pub returns : goal.returns
@@ -15,5 +13,4 @@ returns c =
     let a = c.args in
     let test = rowless a.regions.now in
     all_from_yields_List test _ _ c.all.result c.all.ensures.ran (YieldsList-from_range 0 a.locations a.locations refl (omega arith)) (λ x b q k. search (rules, tests))
-    ∙ all-every test _
-    ∙ ap (every test) (range-counted 0 a.locations)
+    ∙ all-counted test 0 a.locations
