@@ -16,19 +16,20 @@ use Rattle.formats.specs.Certificate.{read_regions}
 use Rattle.second_sheets.specs.CertificateAnswers.{regions_from}
 use Rattle.formats.proofs.Placed.{Fine, placed-finished}
 use Rattle.rules.specs.declared.Answer.{Answer}
-use Rattle.certificates.specs.declared.Marking as declared
+use Rattle.std.specs.Prelude.{Result, Ok, Err}
+use Rattle.certificates.specs.declared.Marking.{Marking}
+use Rattle.certificates.specs.declared.Failed.{Failed}
 use Rattle.rules.specs.Obligations.{Obligation, obligations}
 use Rattle.rules.specs.Marking.{answer, score_of, refused_score, Marked, passed, stopped, mark_proofs, close_certificate, mark_regions, with_model, mark_certificate}
 use Rattle.papers.specs.Paper.{GoodPaper}
-use Rattle.certificates.specs.Passed.{stands_at}
+use Rattle.certificates.specs.Passed.{stands_at, stopped_answer}
+use Rattle.fields.specs.Causes.{number_of}
 use Rattle.rules.proofs.MarkedRanges.{Marks, proofs-mark}
 use Rattle.scores.proofs.CountGoals.{obligations-length, locations-few, jumps-few}
-use Rattle.certificates.proofs.MarkLaws.{Goes, goes, mark-tasks, stands-passed, stands-stopped}
-use Rattle.hypotheses.specs.Listing.{tasks}
 use Rattle.papers.specs.Opening.{opened, Open}
 use Rattle.rules.proofs.Scores.{full-score}
 use Rattle.rules.proofs.Calls.{certificate_by}
-use Rattle.papers.proofs.OpenLaws.{open-refused, open-goes-on, opened-answer}
+use Rattle.papers.proofs.OpenLaws.{numbered, open-refused, open-goes-on, opened-answer}
 
 -- its obligations are not many
 pub obligations-few : {model index second regions : List ℕ} → GoodPaper model index second regions → (locations : ℕ) → locations ≡ location_count (components_from model index) → length (joints (components_from model index)) ≤ 4096 → length (obligations (model_from model index) (regions_from second (entry index 11) (entry index 0) regions locations)) ≤ 1000000
@@ -68,40 +69,32 @@ module _ (s : List ℕ) (place done : ℕ) where
   end-placed number at h e = (subst (λ x. Fine s place x) e ((placed-finished {least = 0}).fine s place (omega arith) h)).2
 
 -- Where marking stands, its place lies in the sheet, and as many proofs have passed as there are obligations, or fewer
-stands-within : (k : Marked (Unit {0})) (s : List ℕ) (total : ℕ) → Marks s total k → ((stands_at k).place ≤ length s) × ((stands_at k).done ≤ total)
-unfolding stands_at
-stands-within (passed u place done) s total m = (m.0, omega (arith, m.1))
-stands-within (stopped number at done) s total m = (m.2, m.3)
+marks : (all : List Obligation) (s : List ℕ) (at : ℕ) → at ≤ length s → Marks s (length all) (mark_proofs all s at 0)
+marks all s at h = proofs-mark all s at 0 (length all) h (omega arith)
 
-stands-done : (k : Marked (Unit {0})) (s : List ℕ) (total : ℕ) → Marks s total k → (stands_at k).number ≡ 0 → (stands_at k).done ≡ total
-unfolding stands_at
-stands-done (passed u place done) s total m e = m.1
-stands-done (stopped number at done) s total m e = absurd (omega (arith, m.0, e))
+module _ (all : List Obligation) (s : List ℕ) (at : ℕ) (h : at ≤ length s) {r : Result Marking Failed} (told : stands_at r ≡ mark_proofs all s at 0) where
+  module _ {m : Marking} (e : r ≡ Ok m) where
+    passes : mark_proofs all s at 0 ≡ passed tt m.place m.done
+    unfolding stands_at
+    passes = sym told ∙ ap stands_at e
 
-module _ (all : List Obligation) (s : List ℕ) (at : ℕ) (h : at ≤ length s) (marked : declared.Marking) (e : marked ≡ stands_at (mark_proofs all s at 0)) where
-  marks : Marks s (length all) (mark_proofs all s at 0)
-  marks = proofs-mark all s at 0 (length all) h (omega arith)
+    pub passed-within : (m.place ≤ length s) × (m.done ≡ length all)
+    passed-within = subst (Marks s (length all)) passes (marks all s at h)
 
-  pub marked-within : (marked.place ≤ length s) × (marked.done ≤ length all)
-  marked-within =
-      subst (λ (k : declared.Marking). (k.place ≤ length s) × (k.done ≤ length all)) (sym e) (stands-within (mark_proofs all s at 0) s (length all) marks)
+    pub rest-passes : close_certificate m.done s (passed tt m.place m.done) ≡ close_certificate (length all) s (mark_proofs all s at 0)
+    rest-passes = ap₂ (λ (n : ℕ) (w : Marked (Unit {0})). close_certificate n s w) passed-within.1 (sym passes)
 
-  pub rest-stops : (marked.number ≡ 0 → ⊥) → answer marked.number 1 marked.place marked.done (refused_score marked.done (length all)) ≡ close_certificate (length all) s (mark_proofs all s at 0)
-  unfolding close_certificate
-  rest-stops f =
-      let k : Marked (Unit {0}) = mark_proofs all s at 0 in
-      let same : k ≡ stopped marked.number marked.place marked.done =
-      subst (λ (w : declared.Marking). k ≡ stopped w.number w.place w.done) (sym e) (stands-stopped k (λ z. f (ap (λ w. w.number) e ∙ z))) in
-      sym (ap (close_certificate (length all) s) same)
+  module _ {f : Failed} (e : r ≡ Err f) where
+    stops : mark_proofs all s at 0 ≡ stopped (number_of f.refusal.0) f.refusal.1 f.done
+    unfolding stands_at
+    stops = sym told ∙ ap stands_at e
 
-  pub rest-passes : marked.number ≡ 0 → close_certificate marked.done s (passed tt marked.place marked.done) ≡ close_certificate (length all) s (mark_proofs all s at 0)
-  rest-passes z =
-      let k : Marked (Unit {0}) = mark_proofs all s at 0 in
-      let none : (stands_at k).number ≡ 0 = sym (ap (λ w. w.number) e) ∙ z in
-      let same : k ≡ passed tt marked.place marked.done =
-      subst (λ (w : declared.Marking). k ≡ passed tt w.place w.done) (sym e) (stands-passed k s (subst (Goes s) (sym (mark-tasks all s at 0)) (goes (tasks all) s at 0 h (omega arith))) none) in
-      let total : marked.done ≡ length all = ap (λ w. w.done) e ∙ stands-done k s (length all) marks none in
-      ap₂ (λ (n : ℕ) (w : Marked (Unit {0})). close_certificate n s w) total (sym same)
+    pub stopped-within : (f.refusal.1 ≤ length s) × (f.done ≤ length all)
+    stopped-within = let w = subst (Marks s (length all)) stops (marks all s at h) in (w.2, w.3)
+
+    pub rest-stops : stopped_answer f (length all) ≡ close_certificate (length all) s (mark_proofs all s at 0)
+    unfolding close_certificate
+    rest-stops = sym (ap (close_certificate (length all) s) stops)
 
 module _ (m : Model) (s : List ℕ) (g : Got (List Condition)) where
   pub regions-stop : (number at : ℕ) → g ≡ refused number at → answer number 1 at 0 0 ≡ mark_regions m s g
@@ -114,12 +107,13 @@ module _ (m : Model) (s : List ℕ) (g : Got (List Condition)) where
 
 -- The whole, by how the model opens: a paper that does not open is refused so; one that is open is marked from its body on
 module _ (limits : Limits) (model second : List ℕ) where
-  pub certificate-refused : ((opened limits 2 model second).number ≡ 0 → ⊥) → opened limits 2 model second ≡ mark_certificate limits model second
+  pub certificate-refused : {refused : Answer} → refused ≡ opened limits 2 model second → 1 ≤ refused.number → refused ≡ mark_certificate limits model second
   unfolding mark_certificate with_model
-  certificate-refused f =
-      opened-answer limits 2 model second
+  certificate-refused e h =
+      e
+      ∙ opened-answer limits 2 model second
       ∙ open-refused limits 2 model second (λ n s p. answer n s p 0 0) read_regions (λ m. mark_regions m second) (certificate_by second)
-      (λ m number at. regions-stop m second (refused number at) number at refl) (λ number sheet at. refl) (λ m. refl) f
+      (λ m number at. regions-stop m second (refused number at) number at refl) (λ number sheet at. refl) (λ m. refl) (numbered e h)
 
   pub certificate-open : {index : List ℕ} {body : ℕ} → Open limits 2 model index second body → mark_regions (model_from model index) second (read_regions (model_from model index) second body) ≡ mark_certificate limits model second
   unfolding mark_certificate with_model

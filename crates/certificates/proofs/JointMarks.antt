@@ -19,6 +19,7 @@ use Rattle.joint_switches.specs.Slots.{landing_in, Listed}
 use Rattle.papers.specs.Standing.{Stands}
 use Rattle.papers.proofs.LandedLaws.{landed-first, landed-target}
 use Rattle.papers.proofs.JoinedLaws.{joined_on, joined-first, joined-whole}
+use Rattle.hypotheses.specs.Tables.{Stacked}
 use Rattle.hypotheses.proofs.TableLaws.{stacked-kept, lines-kept}
 use Rattle.second_sheets.specs.CertificateAnswers.{regions_from}
 use Rattle.formats.specs.JointTotals.{event_total}
@@ -26,17 +27,20 @@ use Rattle.formats.proofs.JointCounts.{event-length}
 use Rattle.formats.proofs.JointProduct.{countable, event-none}
 use Rattle.models.proofs.GoodIndexLaws.{good-components}
 use Rattle.joint_switches.proofs.JointLoops.{record-at}
-use Rattle.certificates.specs.declared.Marking as declared
+use Rattle.std.specs.Prelude.{Result, Ok, Err}
+use Rattle.certificates.specs.declared.Marking.{Marking}
+use Rattle.certificates.specs.declared.Failed.{Failed}
 use Rattle.rules.specs.Obligations.{location_obligations, jump_obligations, jumps_obligations, obligations_over, obligations, after_jump}
-use Rattle.rules.specs.Marking.{Marked, passed, stopped, mark_proofs}
+use Rattle.rules.specs.Marking.{Marked, passed, mark_proofs}
 use Rattle.papers.specs.Paper.{regions_of, obligations_for}
 use Rattle.hypotheses.specs.Listing.{Task, tasks, task_of, location_tasks, jump_tasks, joint_tasks, mark_tasks, HereIn}
+use Rattle.fields.specs.Causes.{number_of}
 use Rattle.certificates.specs.Passed.{stands_at, marked_from, leaving_tasks, Underway, Ready, Fresh}
 use Rattle.certificates.specs.declared.Leaving.{Leaving}
 use Rattle.rules.proofs.ListFacts.{joined-twice, joined-alike, joined-told}
 use Rattle.hypotheses.proofs.GroupLaws.{row-tasks}
-use Rattle.certificates.proofs.MarkLaws.{mark-tasks, Goes, goes, parts-passed, parts-stopped, stands-passed, stands-stopped}
-use Rattle.certificates.proofs.MarkLoops.{Comes, comes-same}
+use Rattle.certificates.proofs.MarkLaws.{mark-tasks, Goes, goes, parts-passed, parts-stopped}
+use Rattle.certificates.proofs.MarkLoops.{Comes, comes-same, comes-end}
 
 -- one joint switch; its number and its event do not matter
 module _ (m : Model) (region_at : ℕ → Condition) where
@@ -103,45 +107,64 @@ module _ (model index : List ℕ) (region_at : ℕ → Condition) (location e : 
   jumps-end x h = ap (join_all (jump_of (model_from model index) region_at)) (drop_of_length-le here {i = x} (omega (arith, h, event-length (components_from model index) location e)))
 
 -- a part that was marked by itself: where it passed, the rest comes from there
-module _ {s : List ℕ} {m r : declared.Marking} (ts : List Task) (u : Underway s m) (told : r ≡ marked_from ts s m) where
-  part-passed : r.number ≡ 0 → mark_tasks ts s m.place m.done ≡ passed tt r.place r.done
-  part-passed z =
-      stands-passed (mark_tasks ts s m.place m.done) s (goes ts s m.place m.done u.within u.few) (ap (λ (k : declared.Marking). k.number) (sym told) ∙ z)
-      ∙ ap (λ (k : declared.Marking). passed tt k.place k.done) (sym told)
+module _ {s : List ℕ} {m : Marking} {r : Result Marking Failed} (ts : List Task) (u : Underway s m) (told : stands_at r ≡ marked_from ts s m) where
+  part-passed : {k : Marking} → r ≡ Ok k → mark_tasks ts s m.place m.done ≡ passed tt k.place k.done
+  unfolding stands_at
+  part-passed e = sym told ∙ ap stands_at e
 
-  pub part-underway : r.number ≡ 0 → Underway s r
-  part-underway z = let w = subst (Goes s) (part-passed z) (goes ts s m.place m.done u.within u.few) in record { number = z; within = w.0; few = w.1 }
+  pub part-underway : {k : Marking} → r ≡ Ok k → Underway s k
+  part-underway e = let w = subst (Goes s) (part-passed e) (goes ts s m.place m.done u.within u.few) in record { within = w.0; few = w.1 }
 
   module _ {whole : Marked (Unit {0})} (rest : List Task) (c : Comes s whole (ts ++ rest) m.place m.done) where
-    pub part-on : r.number ≡ 0 → Comes s whole rest r.place r.done
-    part-on z = sym (parts-passed ts rest s m.place m.done r.place r.done (part-passed z)) ∙ c
+    pub part-on : {k : Marking} → r ≡ Ok k → Comes s whole rest k.place k.done
+    part-on {k} e = sym (parts-passed ts rest s m.place m.done k.place k.done (part-passed e)) ∙ c
 
-    pub part-stops : (r.number ≡ 0 → ⊥) → r ≡ stands_at whole
+    -- what failed is handed on as it is
+    pub part-stops : {f : Failed} {x : Result Marking Failed} → r ≡ Err f → x ≡ Err f → stands_at x ≡ whole
     unfolding stands_at
-    part-stops f =
-        let cut : mark_tasks ts s m.place m.done ≡ stopped r.number r.place r.done = stands-stopped (mark_tasks ts s m.place m.done) (λ z. f (ap (λ (k : declared.Marking). k.number) told ∙ z)) ∙ ap (λ (k : declared.Marking). stopped k.number k.place k.done) (sym told) in
-        ap stands_at (sym (parts-stopped ts rest s m.place m.done r.number r.place r.done cut) ∙ c)
+    part-stops {f} e same =
+        ap stands_at same
+        ∙ sym (parts-stopped ts rest s m.place m.done (number_of f.refusal.0) f.refusal.1 f.done (sym told ∙ ap stands_at e))
+        ∙ c
 
 -- the first part of what a loop over numbers has still to do
-module _ {s : List ℕ} {m r : declared.Marking} {whole : Marked (Unit {0})} (f : ℕ → List Task) (n i : ℕ) (h : i < n) (u : Underway s m) (told : r ≡ marked_from (f i) s m) (c : Comes s whole (joined_on f n i) m.place m.done) where
-  abbrev first : Comes s whole (f i ++ joined_on f n (i + 1)) m.place m.done
-  first = comes-same s whole m.place m.done (joined-first f n i h) c
+module _ {s : List ℕ} {m : Marking} {r : Result Marking Failed} {whole : Marked (Unit {0})} (f : ℕ → List Task) (n i : ℕ) (h : i < n) (u : Underway s m) (told : stands_at r ≡ marked_from (f i) s m) (c : Comes s whole (joined_on f n i) m.place m.done) where
+  pub turn_on : {k : Marking} → r ≡ Ok k → Comes s whole (joined_on f n (i + 1)) k.place k.done
+  turn_on = part-on (f i) u told (joined_on f n (i + 1)) (comes-same s whole m.place m.done (joined-first f n i h) c)
 
-  pub turn_on : r.number ≡ 0 → Comes s whole (joined_on f n (i + 1)) r.place r.done
-  turn_on = part-on (f i) u told (joined_on f n (i + 1)) first
+  pub turn-stops : {w : Failed} {x : Result Marking Failed} → r ≡ Err w → x ≡ Err w → stands_at x ≡ whole
+  turn-stops = part-stops (f i) u told (joined_on f n (i + 1)) (comes-same s whole m.place m.done (joined-first f n i h) c)
 
-  pub turn-stops : (r.number ≡ 0 → ⊥) → r ≡ stands_at whole
-  turn-stops = part-stops (f i) u told (joined_on f n (i + 1)) first
+-- where a loop over numbers stands whose turns each fill the table anew: what is left, marked from here, is the whole
+pub record Going (second table : List ℕ) (sums : List ℤ) (long : ℕ) (whole : Marked (Unit {0})) (left : List Task) (m : Marking) : Type 0 where
+  pub underway : Underway second m
+  pub fresh : Fresh sums
+  pub same : length table ≡ long
+  pub stacked : Stacked table 0
+  pub comes : Comes second whole left m.place m.done
 
--- nothing to prove leaves marking where it stands, and so does coming to the end
-pub marked-none : (s : List ℕ) (m : declared.Marking) (ts : List Task) → m.number ≡ 0 → ts ≡ [] → m ≡ marked_from ts s m
-unfolding stands_at mark_tasks
-marked-none s m ts z e =
-    ap (λ (n : ℕ). record { number = n; place = m.place; done = m.done }) z
-    ∙ ap (λ (xs : List Task). stands_at (mark_tasks xs s m.place m.done)) (sym e)
+-- and what a turn that was marked makes of it
+module _ {second table : List ℕ} {sums : List ℤ} {long : ℕ} {whole : Marked (Unit {0})} {m : Marking} {r : Result Marking Failed} (f : ℕ → List Task) (n i : ℕ) (h : i < n) (g : Going second table sums long whole (joined_on f n i) m) (told : stands_at r ≡ marked_from (f i) second m) where
+  pub goes_on : {k : Marking} {after : List ℕ} {left : List ℤ} → r ≡ Ok k → Stacked after 0 → Fresh left → length after ≡ length table → Going second after left long whole (joined_on f n (i + 1)) k
+  goes_on e stacked fresh same =
+      record {
+        underway = part-underway (f i) g.underway told e;
+        fresh = fresh;
+        same = same ∙ g.same;
+        stacked = stacked;
+        comes = turn_on f n i h g.underway told g.comes e;
+      }
 
-pub marked-end : {s : List ℕ} {whole : Marked (Unit {0})} {m : declared.Marking} (left : List Task) → Underway s m → left ≡ [] → Comes s whole left m.place m.done → m ≡ stands_at whole
-marked-end {s} {whole} {m} left u e c = marked-none s m left u.number e ∙ ap stands_at c
+  pub goes-wrong : {w : Failed} {x : Result Marking Failed} → r ≡ Err w → x ≡ Err w → stands_at x ≡ whole
+  goes-wrong e same = turn-stops f n i h g.underway told g.comes e same
+
+-- coming to the end leaves marking where it stands, and so does nothing to prove
+pub marked-end : (s : List ℕ) {whole : Marked (Unit {0})} (m : Marking) {left : List Task} → left ≡ [] → Comes s whole left m.place m.done → stands_at (Ok m) ≡ whole
+unfolding stands_at
+marked-end s {whole} m {left} e c = comes-end s whole left m.place m.done e c
+
+pub marked-none : (s : List ℕ) (m : Marking) {ts : List Task} → ts ≡ [] → stands_at (Ok m) ≡ marked_from ts s m
+marked-none s m e = marked-end s m e refl
 
 -- all obligations: those of the locations, then those of the joint switches
 pub all-parts :
@@ -172,10 +195,10 @@ here-kept {here = here} k h = record { below = h.below; few = h.few; stacked = s
 
 -- so all is ready for the next part once one has passed
 pub ready-again :
-    {model index second regions table after : List ℕ} {sums left : List ℤ} {from : Leaving} {r : declared.Marking} (ts : List Task) → Ready model index second regions from table sums
-    → length after ≡ length table → Kept (4 * from.here + 4) 96 table after → Fresh left → r ≡ marked_from ts second from.marking → r.number ≡ 0
-    → Ready model index second regions (record { location = from.location; modes = from.modes; here = from.here; marking = r }) after left
-ready-again ts w same k fresh told z = record { long = omega (arith, same, w.long); here = here-kept k w.here; underway = part-underway ts w.underway told z; fresh = fresh }
+    {model index second regions table after : List ℕ} {sums left : List ℤ} {from : Leaving} {r : Result Marking Failed} {k : Marking} (ts : List Task) → Ready model index second regions from table sums
+    → length after ≡ length table → Kept (4 * from.here + 4) 96 table after → Fresh left → stands_at r ≡ marked_from ts second from.marking → r ≡ Ok k
+    → Ready model index second regions (record { location = from.location; modes = from.modes; here = from.here; marking = k }) after left
+ready-again ts w same kept fresh told e = record { long = omega (arith, same, w.long); here = here-kept kept w.here; underway = part-underway ts w.underway told e; fresh = fresh }
 
 -- an event without joint switches has nothing to prove
 pub joint-none : {model index : List ℕ} → GoodIndex model index → (m : Model) (region_at : ℕ → Condition) (location e : ℕ) → location < location_count (components_from model index) → event_total (components_from model index) e ≡ 0 → joint_tasks m region_at (joints_of (components_from model index) location e) ≡ []

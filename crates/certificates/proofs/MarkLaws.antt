@@ -8,23 +8,21 @@ use native.Mathlib.Omega.{arith}
 use lib.Dec.{leb}
 use lib.ListN.{length, get_or, drop, take, replicate, length-map, length-replicate}
 use borrow.Author.Tests.{leb-true}
+use Rattle.std.proofs.lemmas.List.{nil_from_length}
 use Rattle.farkas.specs.Rows.{Row, zero_row}
 use Rattle.farkas.specs.Farkas.{Proof, farkas_test}
-use Rattle.fields.specs.declared.Next.{Next}
-use Rattle.fields.specs.declared.Next.TheVariants as next
 use Rattle.formats.specs.Reading.{Got, got, refused, ◌>>=◌, big_endian, give, field, u8, u32, must, within}
 use Rattle.formats.specs.Rows.{SheetRow}
 use Rattle.fields.specs.Places.{row_at, rows_from}
 use Rattle.formats.specs.Certificate.{read_entries, read_proof}
 use Rattle.formats.proofs.Gives.{passes, tested, got-next}
-use Rattle.formats.proofs.Placed.{Fine, Placed, placed-bind, placed-give, placed-within, placed-u8, placed-entries, placed-proof}
+use Rattle.formats.proofs.Placed.{Fine, Placed, placed-bind, placed-give, placed-within, placed-u8, placed-entries}
 use Rattle.rules.specs.Obligations.{Obligation, zero_only, on_next}
 use Rattle.rules.specs.Marking.{Marked, passed, stopped, test_proof, mark_proof, mark_proofs}
 use Rattle.hypotheses.specs.Tables.{hypotheses_from, hypothesis_rows, test_with, mark_with}
 use Rattle.papers.specs.Paper.{held_next}
 use Rattle.hypotheses.specs.Listing.{Task, no_task, task_of, tasks, tasks_from, tasks_of, goals_of, GoodGroup, mark_task, mark_tasks}
 use Rattle.sums.specs.Summing.{goal_at}
-use Rattle.certificates.specs.Passed.{stands_at, goal_place, one_of}
 use Rattle.hypotheses.specs.declared.Group.{Group}
 use Rattle.formats.proofs.JointCounts.{mapped_at}
 use Rattle.fields.proofs.ConditionLaws.{length-rows}
@@ -53,44 +51,7 @@ mark-tasks (o ∷ rest) s p d =
     both (got x after) r = r after
     both (refused number at) r = refl
 
--- a proof that passed, and one that failed
-abbrev place_of : Next → ℕ
-place_of (next.At p) = p
-place_of (next.Refused number p) = p
-
-abbrev number_of : Next → ℕ
-number_of (next.At p) = 0
-number_of (next.Refused number p) = suc number
-
-pub record Went {A : Type 0} (g : Got A) (p : ℕ) : Type 0 where
-  pub value : A
-  pub here : g ≡ got value p
-
-pub went : {A : Type 0} (g : Got A) (p : ℕ) → held_next g ≡ next.At p → Went g p
-unfolding held_next
-went (got a q) p e = record { value = a; here = ap (got a) (ap place_of e) }
-went (refused number place) p e = let z : suc number ≡ 0 = ap number_of e in absurd (omega (arith, z))
-
-pub stopped-at : {A : Type 0} (g : Got A) (number p : ℕ) → held_next g ≡ next.Refused number p → g ≡ refused number p
-unfolding held_next
-stopped-at (got a q) number p e = let z : 0 ≡ suc number = ap number_of e in absurd (omega (arith, z))
-stopped-at (refused n q) number p e =
-    let a : suc n ≡ suc number = ap number_of e in
-    let b : n ≡ number = omega (arith, a) in
-    ap₂ (λ (i j : ℕ). refused i j) b (ap place_of e)
-
-pub task-passed : (t : Task) (rest : List Task) (s : List ℕ) (p d q : ℕ) → held_next (mark_task t s p) ≡ next.At q → mark_tasks (t ∷ rest) s p d ≡ mark_tasks rest s q (d + 1)
-unfolding mark_tasks
-task-passed t rest s p d q e =
-    ap (λ (g : Got Proof). elim g [ got x after ↦ mark_tasks rest s after (suc d) | refused number at ↦ stopped number at d ]) (went (mark_task t s p) q e).here
-    ∙ ap (mark_tasks rest s q) (sym (add-one d))
-
-pub task-failed : (t : Task) (rest : List Task) (s : List ℕ) (p d number at : ℕ) → held_next (mark_task t s p) ≡ next.Refused number at → mark_tasks (t ∷ rest) s p d ≡ stopped number at d
-unfolding mark_tasks
-task-failed t rest s p d number at e =
-    ap (λ (g : Got Proof). elim g [ got x after ↦ mark_tasks rest s after (suc d) | refused n q ↦ stopped n q d ]) (stopped-at (mark_task t s p) number at e)
-
--- how far a proof's reading has come
+-- what was read is not refused
 abbrev outcome : {A : Type 0} → Got A → ℕ
 outcome (got a p) = 0
 outcome (refused number p) = 1
@@ -98,6 +59,41 @@ outcome (refused number p) = 1
 no_value : {A : Type 0} {number place q : ℕ} {a : A} → ◌≡◌ {A = Got A} (refused number place) (got a q) → ⊥
 no_value e = let z : ◌≡◌ {A = ℕ} 1 0 = ap outcome e in omega (arith, z)
 
+-- a proof that passed, and one that failed
+abbrev place_of : {A : Type 0} → Got A → ℕ
+place_of (got a p) = p
+place_of (refused number p) = p
+
+abbrev number_told : {A : Type 0} → Got A → ℕ
+number_told (got a p) = 0
+number_told (refused number p) = number
+
+pub record Went {A : Type 0} (g : Got A) (p : ℕ) : Type 0 where
+  pub value : A
+  pub here : g ≡ got value p
+
+pub went : {A : Type 0} (g : Got A) (p : ℕ) → held_next g ≡ got tt p → Went g p
+unfolding held_next
+went (got a q) p e = record { value = a; here = ap (got a) (ap place_of e) }
+went (refused number place) p e = absurd (no_value e)
+
+pub stopped-at : {A : Type 0} (g : Got A) (number p : ℕ) → held_next g ≡ refused number p → g ≡ refused number p
+unfolding held_next
+stopped-at (got a q) number p e = absurd (no_value (sym e))
+stopped-at (refused n q) number p e = ap₂ (λ (i j : ℕ). refused i j) (ap number_told e) (ap place_of e)
+
+pub task-passed : (t : Task) (rest : List Task) (s : List ℕ) (p d q : ℕ) → held_next (mark_task t s p) ≡ got tt q → mark_tasks (t ∷ rest) s p d ≡ mark_tasks rest s q (d + 1)
+unfolding mark_tasks
+task-passed t rest s p d q e =
+    ap (λ (g : Got Proof). elim g [ got x after ↦ mark_tasks rest s after (suc d) | refused number at ↦ stopped number at d ]) (went (mark_task t s p) q e).here
+    ∙ ap (mark_tasks rest s q) (sym (add-one d))
+
+pub task-failed : (t : Task) (rest : List Task) (s : List ℕ) (p d number at : ℕ) → held_next (mark_task t s p) ≡ refused number at → mark_tasks (t ∷ rest) s p d ≡ stopped number at d
+unfolding mark_tasks
+task-failed t rest s p d number at e =
+    ap (λ (g : Got Proof). elim g [ got x after ↦ mark_tasks rest s after (suc d) | refused n q ↦ stopped n q d ]) (stopped-at (mark_task t s p) number at e)
+
+-- how far a proof's reading has come
 field-ends : (size : ℕ) (s : List ℕ) (p v q : ℕ) → field size s p ≡ got v q → (q ≡ p + size) × (p + size ≤ length s)
 unfolding field
 field-ends size s p v q e = go (leb (p + size) (length s)) refl e
@@ -126,7 +122,7 @@ test-kept rows goal p (got y r) x q e = go (farkas_test rows goal y) e
     go zero e = e
     go (suc n) e = absurd (no_value e)
 
-pub task-advances : (t : Task) (s : List ℕ) (p q : ℕ) → held_next (mark_task t s p) ≡ next.At q → (p < q) × (q ≤ length s)
+pub task-advances : (t : Task) (s : List ℕ) (p q : ℕ) → held_next (mark_task t s p) ≡ got tt q → (p < q) × (q ≤ length s)
 unfolding mark_task mark_with
 task-advances t s p q e =
     let w = went (mark_task t s p) q e in
@@ -166,49 +162,22 @@ parts-stopped (t ∷ xs) ys s p d number at e h = go (mark_task t s p) (λ after
     go (got x after) r h = r after h
     go (refused n q) r h = h
 
--- how far marking comes: what passed ends within the sheet, at least as many bytes on as proofs have passed; what failed has a number
+-- how far marking comes: what passed ends within the sheet, at least as many bytes on as proofs have passed
 abbrev pub Goes : List ℕ → Marked (Unit {0}) → Type 0
 Goes s (passed u place done) = (place ≤ length s) × (done ≤ place)
-Goes s (stopped number place done) = 1 ≤ number
-
-pub refused-number : (t : Task) (s : List ℕ) (p number place : ℕ) → p ≤ length s → mark_task t s p ≡ refused number place → 1 ≤ number
-unfolding mark_task mark_with test_with
-refused-number t s p number place h e = go (read_proof (length t.rows) t.zero_k s p) ((placed-proof {least = 0} (length t.rows) t.zero_k).fine s p (omega arith) h) e
-  where
-    numbered : Got Proof → ℕ
-    numbered (got x q) = 0
-    numbered (refused n q) = n
-
-    go : (g : Got Proof) → Fine s p g → test_with t.rows t.goal p g ≡ refused number place → 1 ≤ number
-    go (refused n q) w e = omega (arith, w.0, ap numbered e)
-    go (got x q) w e = by-test (farkas_test t.rows t.goal x) e
-      where
-        by-test : (k : ℕ) → ◌≡◌ {A = Got Proof} (elim k [ zero ↦ got x q | suc n ↦ refused (suc n) p ]) (refused number place) → 1 ≤ number
-        by-test zero e = absurd (no_value (sym e))
-        by-test (suc k) e = let z : suc k ≡ number = ap numbered e in omega (arith, z)
+Goes s (stopped number place done) = Unit {0}
 
 pub goes : (ts : List Task) (s : List ℕ) (p d : ℕ) → p ≤ length s → d ≤ p → Goes s (mark_tasks ts s p d)
 unfolding mark_tasks held_next
 goes [] s p d h l = (h, l)
 goes (t ∷ ts) s p d h l = go (mark_task t s p) refl (λ q a b. goes ts s q (suc d) a b)
   where
-    at : (x : Proof) (q : ℕ) → mark_task t s p ≡ got x q → held_next (mark_task t s p) ≡ next.At q
+    at : (x : Proof) (q : ℕ) → mark_task t s p ≡ got x q → held_next (mark_task t s p) ≡ got tt q
     at x q e = ap held_next e
 
     go : (g : Got Proof) → mark_task t s p ≡ g → ((q : ℕ) → q ≤ length s → suc d ≤ q → Goes s (mark_tasks ts s q (suc d))) → Goes s (elim g [ got x q ↦ mark_tasks ts s q (suc d) | refused number place ↦ stopped number place d ])
     go (got x q) e r = let w = task-advances t s p q (at x q e) in r q w.1 (omega (arith, w.0, l))
-    go (refused number place) e r = refused-number t s p number place h e
-
--- where marking stands
-pub stands-passed : (k : Marked (Unit {0})) (s : List ℕ) → Goes s k → (stands_at k).number ≡ 0 → k ≡ passed tt (stands_at k).place (stands_at k).done
-unfolding stands_at
-stands-passed (passed tt place done) s m e = refl
-stands-passed (stopped number place done) s m e = absurd (omega (arith, m, e))
-
-pub stands-stopped : (k : Marked (Unit {0})) → ((stands_at k).number ≡ 0 → ⊥) → k ≡ stopped (stands_at k).number (stands_at k).place (stands_at k).done
-unfolding stands_at
-stands-stopped (passed tt place done) f = absurd (f refl)
-stands-stopped (stopped number place done) f = refl
+    go (refused number place) e r = tt
 
 -- the goals of a group, by their numbers
 all-zero : (n i : ℕ) → get_or (replicate n zero_row) i zero_row ≡ zero_row
@@ -274,6 +243,9 @@ pub tasks-length : (model second : List ℕ) (n : ℕ) (table : List ℕ) (g : G
 unfolding tasks_of tasks_from
 tasks-length model second n table g = length-map (goals_of second n g) _ ∙ goals-length second n g
 
+pub tasks-none : (model second : List ℕ) (n : ℕ) (table : List ℕ) (g : Group) → g.goals ≡ 0 → tasks_of model second n table g ≡ []
+tasks-none model second n table g e = nil_from_length (tasks_of model second n table g) (tasks-length model second n table g ∙ e)
+
 pub task-at : (model second : List ℕ) (n : ℕ) (table : List ℕ) (g : Group) (goal : ℕ) → goal < g.goals → get_or (tasks_of model second n table g) goal no_task ≡ record { rows = hypothesis_rows (hypotheses_from model second g.version n table g.segments); zero_k = g.zero; goal = get_or (goals_of second n g) goal zero_row }
 unfolding tasks_of tasks_from
 task-at model second n table g goal h = mapped_at _ (goals_of second n g) goal zero_row no_task (omega (arith, h, goals-length second n g))
@@ -284,49 +256,6 @@ unfolding mark_task
 proof-task model second n table g goal s p h =
     ap (λ (r : Row). mark_with (hypothesis_rows (hypotheses_from model second g.version n table g.segments)) g.zero r s p) (sym (goal-at second n g goal h))
     ∙ ap (λ (t : Task). mark_task t s p) (sym (task-at model second n table g goal h))
-
--- a group with one goal alone has that goal's task
-pub one-task : (model second : List ℕ) (n : ℕ) (table : List ℕ) (g : Group) (goal : ℕ) → goal < g.goals → tasks_of model second n table (one_of g n goal) ≡ get_or (tasks_of model second n table g) goal no_task ∷ []
-unfolding tasks_of tasks_from goals_of one_of goal_place rows_from
-one-task model second n table g goal h =
-    ap (λ (rows : List Row). tasks_from (hypothesis_rows (hypotheses_from model second g.version n table g.segments)) g.zero rows) (one-goal g.zero refl)
-    ∙ ap (λ (t : Task). t ∷ []) (sym (task-at model second n table g goal h))
-  where
-    one-goal : (b : Bool) → g.zero ≡ b → goals_of second n (one_of g n goal) ≡ get_or (goals_of second n g) goal zero_row ∷ []
-    one-goal true e =
-        ap (λ (b : Bool). elim b as (λ _. List Row) [ true ↦ zero_row ∷ [] | false ↦ on_next g.shift (row_at second g.version n (g.from + row_bytes g.version n * goal)).row ∷ [] ]) e
-        ∙ ap (λ (r : Row). r ∷ []) (sym (no-goal second n g goal e))
-    one-goal false e =
-        ap (λ (b : Bool). elim b as (λ _. List Row) [ true ↦ zero_row ∷ [] | false ↦ on_next g.shift (row_at second g.version n (g.from + row_bytes g.version n * goal)).row ∷ [] ]) e
-        ∙ ap (λ (r : Row). r ∷ []) (sym (row-goal second n g goal e h))
-
-pub one-good : {model second : List ℕ} {n : ℕ} {table : List ℕ} {g : Group} (goal : ℕ) → goal < g.goals → GoodGroup model second n table g → GoodGroup model second n table (one_of g n goal)
-unfolding one_of goal_place
-one-good {second = second} {n = n} {g = g} goal h good =
-    record {
-      stacked = good.stacked;
-      segments = good.segments;
-      hypotheses = good.hypotheses;
-      lines = good.lines;
-      goals = λ z j l. one_place z j l;
-      none = λ z. (first-goal goal (good.none z).0 (omega (arith, h, (good.none z).1)), omega arith);
-      shift = good.shift;
-      width = good.width;
-      counted = omega arith;
-    }
-  where
-    first : (from version n goal j : ℕ) → j < 1 → from + row_bytes version n * goal + row_bytes version n * (j + 1) ≡ from + row_bytes version n * (goal + 1)
-    first from version n goal zero l = omega arith
-    first from version n goal (suc j) l = absurd (omega arith)
-
-    first-goal : (k : ℕ) → g.from ≡ 0 → k ≡ 0 → g.from + row_bytes g.version n * k ≡ 0
-    first-goal k e z = ap₂ (λ (i j : ℕ). i + row_bytes g.version n * j) e z ∙ nothing g.version n
-      where
-        nothing : (version n : ℕ) → 0 + row_bytes version n * 0 ≡ 0
-        nothing version n = omega arith
-
-    one_place : g.zero ≡ false → (j : ℕ) → j < 1 → g.from + row_bytes g.version n * goal + row_bytes g.version n * (j + 1) ≤ length second
-    one_place z j l = subst (λ (k : ℕ). k ≤ length second) (sym (first g.from g.version n goal j l)) (good.goals z goal h)
 
 -- the rows of goals lie within the sheet, or are none
 pub goal-low : {model second : List ℕ} {n : ℕ} {table : List ℕ} {g : Group} (goal : ℕ) → n ≤ 8 → length second ≤ 32768 → goal < g.goals → GoodGroup model second n table g → g.from + row_bytes g.version n * goal ≤ 32768

@@ -1,15 +1,14 @@
--- The loops of marking: what is still to come from here, marked, is the whole. Each level of loops puts what it has still to do in front
--- of what the levels around it have. Assumes nothing.
+-- The loops of marking: what is still to come from here, marked, is the whole. Assumes nothing.
 use mathlib.Core.Path.{◌≡◌, refl, sym, ap, ap₂, ◌∙◌}
 use mathlib.Core.Bool.{Bool, true, false}
-use mathlib.Core.List.{List, [], ◌∷◌, ◌++◌, map, append_assoc, append-nil, map-append}
+use mathlib.Core.List.{List, [], ◌∷◌, ◌++◌, map, map-append}
 use Prim.Native.Nat.{ℕ, zero, suc, ◌+◌, ◌-◌, ◌≤◌, ◌<◌}
 use native.Mathlib.Numerals.{add-one}
 use native.Mathlib.Omega.{arith}
 use lib.ListN.{length, get_or, drop, drop_of_length-le}
 use lib.Seq.{drop-cons}
 use Rattle.farkas.specs.Rows.{zero_row}
-use Rattle.fields.specs.declared.Next.TheVariants as next
+use Rattle.formats.specs.Reading.{got, refused}
 use Rattle.formats.specs.Rows.{Condition}
 use Rattle.formats.specs.Model.{Unsafe, Model}
 use Rattle.formats.specs.Locations.{modes_at}
@@ -21,8 +20,7 @@ use Rattle.rules.specs.Obligations.{Obligation, clear_of_unsafe, unsafe_hypothes
 use Rattle.rules.specs.Marking.{Marked, passed, stopped}
 use Rattle.papers.specs.Paper.{held_next, regions_of}
 use Rattle.hypotheses.specs.Listing.{Task, no_task, task_of, tasks, group_tasks, no_unsafe, location_tasks, mark_task, mark_tasks}
-use Rattle.certificates.specs.Passed.{stands_at}
-use Rattle.papers.proofs.JoinedLaws.{joined_on, joined-first, joined-none}
+use Rattle.papers.proofs.JoinedLaws.{joined_on}
 use Rattle.certificates.proofs.MarkLaws.{task-passed, task-failed}
 
 -- unsafe conditions, one by one
@@ -65,10 +63,7 @@ module _ (model index : List ℕ) (region_at : ℕ → Condition) (location : �
       none : (n : ℕ) → 0 + n ≤ n
       none n = omega arith
 
--- what is still to do
-abbrev pub locations_left : List ℕ → List ℕ → List ℕ → List ℕ → ℕ → ℕ → List Task
-locations_left model index second regions locations location = joined_on (location_tasks (model_from model index) (regions_of model index second regions)) locations location
-
+-- what the loop over a location's groups has still to do
 abbrev pub groups_left : List ℕ → List ℕ → List ℕ → List ℕ → ℕ → ℕ → ℕ → List Task
 groups_left model index second regions location groups g = joined_on (group_tasks (model_from model index) (regions_of model index second regions) location) groups g
 
@@ -80,53 +75,19 @@ location-groups model index second regions location groups e =
     all : (groups n : ℕ) → groups ≡ n + 2 → suc (suc n) ≡ groups - 0
     all groups n e = omega (arith, e)
 
--- one level of loops: a part is put in front of the rest, and left when it is done
+-- what is still to come from here is the whole
 module _ (s : List ℕ) (whole : Marked (Unit {0})) where
-  -- what is still to come from here is the whole
   abbrev pub Comes : List Task → ℕ → ℕ → Type 0
   Comes left p d = mark_tasks left s p d ≡ whole
 
   pub comes-same : {xs ys : List Task} (p d : ℕ) → xs ≡ ys → Comes xs p d → Comes ys p d
   comes-same p d e h = ap (λ (ts : List Task). mark_tasks ts s p d) (sym e) ∙ h
 
-  -- the first of what a loop over numbers has to do, opened, in front of the rest
-  pub comes-in : (f : ℕ → List Task) (n i : ℕ) (part rest : List Task) (p d : ℕ) → i < n → f i ≡ part → Comes (joined_on f n i ++ rest) p d → Comes (part ++ (joined_on f n (i + 1) ++ rest)) p d
-  comes-in f n i part rest p d h e c =
-      comes-same p d
-      (ap (λ (ts : List Task). ts ++ rest) (joined-first f n i h)
-      ∙ append_assoc (f i) (joined_on f n (i + 1)) rest
-      ∙ ap (λ (ts : List Task). ts ++ (joined_on f n (i + 1) ++ rest)) e)
-      c
-
-  pub comes-out : (f : ℕ → List Task) (n i : ℕ) (rest : List Task) (p d : ℕ) → n ≤ i → Comes (joined_on f n i ++ rest) p d → Comes rest p d
-  comes-out f n i rest p d h c = comes-same p d (ap (λ (ts : List Task). ts ++ rest) (joined-none f n i h)) c
-
-  -- the goals of a group, one by one
-  pub goals-out : (part rest : List Task) (goal : ℕ) (p d : ℕ) → length part ≤ goal → Comes (drop goal part ++ rest) p d → Comes rest p d
-  goals-out part rest goal p d h c = comes-same p d (ap (λ (ts : List Task). ts ++ rest) (drop_of_length-le part {i = goal} h)) c
-
-  module _ (part rest : List Task) (goal : ℕ) (h : goal < length part) where
-    here : drop goal part ≡ get_or part goal no_task ∷ drop (goal + 1) part
-    here = drop-cons part goal no_task h ∙ ap (λ (i : ℕ). get_or part goal no_task ∷ drop i part) (sym (add-one goal))
-
-    pub goal-first : (p d : ℕ) → Comes (drop goal part ++ rest) p d → Comes ((get_or part goal no_task ∷ []) ++ (drop (goal + 1) part ++ rest)) p d
-    goal-first p d c = comes-same p d (ap (λ (ts : List Task). ts ++ rest) here) c
-
-    pub goal-passed : (p d q : ℕ) → held_next (mark_task (get_or part goal no_task) s p) ≡ next.At q → Comes (drop goal part ++ rest) p d → Comes (drop (goal + 1) part ++ rest) q (d + 1)
-    goal-passed p d q e c =
-        sym (task-passed (get_or part goal no_task) (drop (goal + 1) part ++ rest) s p d q e)
-        ∙ comes-same p d (ap (λ (ts : List Task). ts ++ rest) here) c
-
-    pub goal-failed : (p d number at : ℕ) → held_next (mark_task (get_or part goal no_task) s p) ≡ next.Refused number at → Comes (drop goal part ++ rest) p d → stopped number at d ≡ whole
-    goal-failed p d number at e c =
-        sym (task-failed (get_or part goal no_task) (drop (goal + 1) part ++ rest) s p d number at e)
-        ∙ comes-same p d (ap (λ (ts : List Task). ts ++ rest) here) c
-
   pub comes-end : (left : List Task) (p d : ℕ) → left ≡ [] → Comes left p d → passed tt p d ≡ whole
   unfolding mark_tasks
   comes-end left p d e c = comes-same p d e c
 
--- the goals of a group that is marked alone
+-- the goals of a group, one by one
 pub goals-left : (s : List ℕ) (part : List Task) (p d : ℕ) → mark_tasks (drop 0 part) s p (d + 0) ≡ mark_tasks part s p d
 goals-left s part p d = ap (mark_tasks part s p) (none d)
   where
@@ -134,24 +95,25 @@ goals-left s part p d = ap (mark_tasks part s p) (none d)
     none d = omega arith
 
 module _ (s : List ℕ) (whole : Marked (Unit {0})) (part : List Task) where
-  alone : (ts : List Task) (p d : ℕ) → Comes s whole ts p d → Comes s whole (ts ++ []) p d
-  alone ts p d c = comes-same s whole p d (sym (append-nil ts)) c
-
-  pub goals-over : (goal goals p d : ℕ) → length part ≡ goals → goal ≡ goals → Comes s whole (drop goal part) p (d + goal) → record { number = 0; place = p; done = d + goals } ≡ stands_at whole
-  unfolding stands_at
+  pub goals-over : (goal goals p d : ℕ) → length part ≡ goals → goal ≡ goals → Comes s whole (drop goal part) p (d + goal) → passed tt p (d + goals) ≡ whole
   goals-over goal goals p d all e c =
-      ap (λ (n : ℕ). record { number = 0; place = p; done = d + n }) (sym e)
-      ∙ ap stands_at (comes-end s whole (drop goal part) p (d + goal) (drop_of_length-le part {i = goal} (omega (arith, all, e))) c)
+      ap (λ (n : ℕ). passed tt p (d + n)) (sym e)
+      ∙ comes-end s whole (drop goal part) p (d + goal) (drop_of_length-le part {i = goal} (omega (arith, all, e))) c
 
   module _ (goal : ℕ) (h : goal < length part) where
-    pub goal-on : (p d q : ℕ) → held_next (mark_task (get_or part goal no_task) s p) ≡ next.At q → Comes s whole (drop goal part) p (d + goal) → Comes s whole (drop (goal + 1) part) q (d + (goal + 1))
+    here : drop goal part ≡ get_or part goal no_task ∷ drop (goal + 1) part
+    here = drop-cons part goal no_task h ∙ ap (λ (i : ℕ). get_or part goal no_task ∷ drop i part) (sym (add-one goal))
+
+    pub goal-on : (p d q : ℕ) → held_next (mark_task (get_or part goal no_task) s p) ≡ got tt q → Comes s whole (drop goal part) p (d + goal) → Comes s whole (drop (goal + 1) part) q (d + (goal + 1))
     goal-on p d q e c =
         ap (mark_tasks (drop (goal + 1) part) s q) (more d goal)
-        ∙ comes-same s whole q (d + goal + 1) (append-nil (drop (goal + 1) part)) (goal-passed s whole part [] goal h p (d + goal) q e (alone (drop goal part) p (d + goal) c))
+        ∙ sym (task-passed (get_or part goal no_task) (drop (goal + 1) part) s p (d + goal) q e)
+        ∙ comes-same s whole p (d + goal) here c
       where
         more : (d goal : ℕ) → d + (goal + 1) ≡ d + goal + 1
         more d goal = omega arith
 
-    pub goal-stops : (p d number at : ℕ) → held_next (mark_task (get_or part goal no_task) s p) ≡ next.Refused number at → Comes s whole (drop goal part) p d → record { number = number; place = at; done = d } ≡ stands_at whole
-    unfolding stands_at
-    goal-stops p d number at e c = ap stands_at (goal-failed s whole part [] goal h p d number at e (alone (drop goal part) p d c))
+    pub goal-stops : (p d number at : ℕ) → held_next (mark_task (get_or part goal no_task) s p) ≡ refused number at → Comes s whole (drop goal part) p d → stopped number at d ≡ whole
+    goal-stops p d number at e c =
+        sym (task-failed (get_or part goal no_task) (drop (goal + 1) part) s p d number at e)
+        ∙ comes-same s whole p d here c

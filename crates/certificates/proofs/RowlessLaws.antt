@@ -1,12 +1,14 @@
--- Regions without rows: the loop that looks for one with rows, and that then no joint switch has anything to prove. Assumes nothing.
+-- Regions without rows: that then no joint switch has anything to prove. Assumes nothing.
 use mathlib.Core.Path.{◌≡◌, refl, sym, ap, ap₂, ◌∙◌, subst}
-use mathlib.Core.Bool.{Bool, true, false, ◌&&◌}
+use mathlib.Core.Bool.{Bool, true, ◌&&◌}
 use mathlib.Core.List.{List, [], ◌∷◌, ◌++◌}
-use Prim.Native.Nat.{ℕ, suc, ◌+◌, ◌*◌, ◌-◌, ◌≤◌, ◌<◌}
+use Prim.Native.Nat.{ℕ, zero, suc, ◌+◌, ◌*◌, ◌<◌}
+use native.Mathlib.Numerals.{add-one}
 use native.Mathlib.Omega.{arith}
-use lib.Dec.{T, eqb, eqb→eq}
+use Rattle.std.specs.List.{list_all, range_with_len}
+use Rattle.std.proofs.lemmas.List.{nil_from_length}
+use lib.Dec.{T, eqb→eq}
 use lib.ListN.{length}
-use borrow.Author.Tests.{ne_eqb}
 use Rattle.farkas.specs.Lists.{every, All, none, more}
 use Rattle.formats.specs.Locations.{location_count}
 use Rattle.formats.specs.Joint.{count_up, join_all, JointSwitch, joints}
@@ -21,42 +23,11 @@ use Rattle.hypotheses.proofs.GroupLaws.{no-rows-jump}
 use Rattle.certificates.specs.Passed.{rowless}
 use Rattle.certificates.proofs.JointMarks.{jump_of, joint-jumps}
 
--- the loop: those still to see
-abbrev pub rowless_on : List ℕ → ℕ → ℕ → Bool
-rowless_on regions n l = every (rowless regions) (count_up l (n - l))
-
-module _ (regions : List ℕ) (n l : ℕ) where
-  turn : l < n → rowless_on regions n l ≡ (rowless regions l && rowless_on regions n (l + 1))
-  unfolding count_up every
-  turn h = ap (λ (k : ℕ). every (rowless regions) (count_up l k)) (left n l h) ∙ ap (λ (i : ℕ). rowless regions l && every (rowless regions) (count_up i (n - (l + 1)))) (next l)
-    where
-      left : (n l : ℕ) → l < n → n - l ≡ suc (n - (l + 1))
-      left n l h = omega arith
-
-      next : (l : ℕ) → suc l ≡ l + 1
-      next l = omega arith
-
-  pub rows_none : l < n → entry regions (2 * l + 1) ≡ 0 → rowless_on regions n (l + 1) ≡ rowless_on regions n l
-  unfolding rowless
-  rows_none h e = sym (turn h ∙ ap (λ (k : ℕ). eqb k 0 && rowless_on regions n (l + 1)) e)
-
-  pub rows-some : l < n → (entry regions (2 * l + 1) ≡ 0 → ⊥) → false ≡ rowless_on regions n l
-  unfolding rowless
-  rows-some h f = sym (turn h ∙ ap (λ (b : Bool). b && rowless_on regions n (l + 1)) (ne_eqb (entry regions (2 * l + 1)) 0 f))
-
-  pub rows_seen : n ≤ l → true ≡ rowless_on regions n l
-  unfolding count_up every
-  rows_seen h = sym (ap (λ (k : ℕ). every (rowless regions) (count_up l k)) (none_left n l h))
-    where
-      none_left : (n l : ℕ) → n ≤ l → n - l ≡ 0
-      none_left n l h = omega arith
-
--- all of them, to begin with
-pub rows_all : (regions : List ℕ) (n : ℕ) → rowless_on regions n 0 ≡ every (rowless regions) (count_up 0 n)
-rows_all regions n = ap (λ (k : ℕ). every (rowless regions) (count_up 0 k)) (all n)
-  where
-    all : (n : ℕ) → n - 0 ≡ n
-    all n = omega arith
+-- a test of all numbers of a range is one of those that are counted up
+pub all-counted : (f : ℕ → Bool) (k n : ℕ) → list_all f (range_with_len k n) ≡ every f (count_up k n)
+unfolding every count_up
+all-counted f k zero = refl
+all-counted f k (suc n) = ap (λ (m : ℕ). f k && list_all f (range_with_len m n)) (add-one k) ∙ ap (λ b. f k && b) (all-counted f (suc k) n)
 
 -- where no region has a row, no joint switch has anything to prove
 module _ (model index second regions : List ℕ) where
@@ -83,8 +54,4 @@ pub no-joints : (model index second regions : List ℕ) → length (joints (comp
 unfolding join_all
 no-joints model index second regions e =
     joint-jumps (model_from model index) (regions_of model index second regions) (joints (components_from model index))
-    ∙ ap (join_all (jump_of (model_from model index) (regions_of model index second regions))) (empty (joints (components_from model index)) e)
-  where
-    empty : (js : List JointSwitch) → length js ≡ 0 → js ≡ []
-    empty [] e = refl
-    empty (j ∷ js) e = absurd (omega (arith, e))
+    ∙ ap (join_all (jump_of (model_from model index) (regions_of model index second regions))) (nil_from_length (joints (components_from model index)) e)

@@ -7,13 +7,12 @@ ghost use Rattle.rules.specs.Marking.{passed, close_certificate, mark_certificat
 ghost use Rattle.papers.specs.Paper.{GoodPaper, Accepted, obligations_for};
 ghost use Rattle.certificates.specs.Passed.{stopped_answer, marked_body, marked_rest};
 
-use crate::Marking;
 use crate::obligations::mark_obligations;
-use fields::Next;
+use crate::{Failed, Marking};
 use fields::header::finished;
 use formats::Limits;
 use models::layout::{INDEX_LENGTH, Index, VARIABLES_AT, VERSION_AT};
-use papers::answers::on_second;
+use papers::answers::{second_accepted, second_refused};
 use papers::opening::{locations_of, open_paper};
 use rules::Answer;
 use scores::counting::obligation_count;
@@ -28,26 +27,26 @@ fn stop_certificate(
     second: &[u8],
     regions: &Regions,
     locations: u32,
-    marked: Marking,
+    failed: Failed,
 ) -> Answer
     requires good_paper { GoodPaper model.now index.now second.now regions.now }
     requires locations_value { (locations ≡ location_count (components_from model.now index.now)) × (length (joints (components_from model.now index.now)) ≤ 4096) }
-    requires place_bound { (marked.place ≤ 32768) × (marked.done ≤ 1000000) }
-    ensures { result ≡ stopped_answer marked (length (obligations_for model.now index.now second.now regions.now locations)) }
+    requires place_bound { (failed.refusal.1 ≤ 32768) × (failed.done ≤ 1000000) }
+    ensures { result ≡ stopped_answer failed (length (obligations_for model.now index.now second.now regions.now locations)) }
 {
     let total = obligation_count(model, index, second, regions, locations);
-    let score = refused_score(marked.done, total);
-    on_second(marked.number, marked.place, marked.done, score)
+    let score = refused_score(failed.done, total);
+    second_refused(failed.refusal, failed.done, score)
 }
 
 // The end of a certificate whose proofs have all passed: no bytes are left.
-fn end_certificate(second: &[u8], place: usize, done: u32) -> Answer
-    requires { (length second.now ≤ 32768) × (place ≤ length second.now) }
-    ensures { result ≡ close_certificate done second.now (passed tt place done) }
+fn end_certificate(second: &[u8], marked: Marking) -> Answer
+    requires { (length second.now ≤ 32768) × (marked.place ≤ length second.now) }
+    ensures { result ≡ close_certificate marked.done second.now (passed tt marked.place marked.done) }
 {
-    match finished(second, place) {
-        Next::Refused(number, cut) => on_second(number, cut, done, 99),
-        Next::At(_) => on_second(0, second.len(), done, 100),
+    match finished(second, marked.place) {
+        Ok(_) => second_accepted(second, marked.done),
+        Err(refusal) => second_refused(refusal, marked.done, 99),
     }
 }
 
@@ -65,11 +64,10 @@ fn mark_rest(
     requires at_in_bounds { at ≤ length second.now }
     ensures { result ≡ marked_rest model.now index.now second.now regions.now locations at }
 {
-    let marked = mark_obligations(model, index, second, regions, locations, at);
-    if marked.number != 0 {
-        return stop_certificate(model, index, second, regions, locations, marked);
+    match mark_obligations(model, index, second, regions, locations, at) {
+        Ok(marked) => end_certificate(second, marked),
+        Err(failed) => stop_certificate(model, index, second, regions, locations, failed),
     }
-    end_certificate(second, marked.place, marked.done)
 }
 
 // A certificate from its own fields on: its regions, then its proofs and its end.
@@ -88,8 +86,8 @@ fn mark_body(model: &[u8], index: &Index, second: &[u8], body: usize) -> Answer
         locations,
         &mut regions,
     ) {
-        Next::Refused(number, place) => on_second(number, place, 0, 0),
-        Next::At(place) => mark_rest(model, index, second, &regions, locations, place),
+        Ok(place) => mark_rest(model, index, second, &regions, locations, place),
+        Err(refusal) => second_refused(refusal, 0, 0),
     }
 }
 
@@ -98,9 +96,8 @@ pub fn mark_certificate(model: &[u8], second: &[u8], limits: Limits) -> Answer
     ensures { result ≡ mark_certificate limits model.now second.now }
 {
     let mut index = [0u16; INDEX_LENGTH];
-    let opened = open_paper(model, second, 2, &mut index, limits);
-    if opened.number != 0 {
-        return opened;
+    match open_paper(model, second, 2, &mut index, limits) {
+        Ok(body) => mark_body(model, &index, second, body),
+        Err(refused) => refused,
     }
-    mark_body(model, &index, second, opened.place as usize)
 }

@@ -1,5 +1,5 @@
 // The proofs of joint switches, location by location and event by event, read and tested in order up to the first that fails.
-ghost use Rattle.std.specs.Prelude.{◌≡◌, ◌+◌, ◌*◌, ◌≤◌, ◌<◌, length};
+ghost use Rattle.std.specs.Prelude.{OnOk, ◌≡◌, ◌+◌, ◌*◌, ◌≤◌, ◌<◌, length};
 ghost use Rattle.formats.specs.Locations.{location_count};
 ghost use Rattle.formats.specs.Joint.{joints_of, joints};
 ghost use Rattle.models.specs.Index.{components_from, Kept};
@@ -9,10 +9,10 @@ ghost use Rattle.papers.specs.Paper.{GoodPaper};
 ghost use Rattle.papers.specs.Standing.{Stands};
 ghost use Rattle.hypotheses.specs.Tables.{Stacked};
 ghost use Rattle.hypotheses.specs.Listing.{jump_tasks_for, joint_tasks_for};
-ghost use Rattle.certificates.specs.Passed.{marked_from, leaving_tasks, Fresh, Underway, Ready};
+ghost use Rattle.certificates.specs.Passed.{stands_at, marked_from, leaving_tasks, Fresh, Underway, Ready};
 
 use crate::obligations::mark_group;
-use crate::{Leaving, Listing, Marking};
+use crate::{Failed, Leaving, Listing, Marking};
 use hypotheses::groups::{jump_group, push_here};
 use joint_switches::Landing;
 use joint_switches::joints::modes_at;
@@ -31,16 +31,16 @@ fn mark_switch(
     landing: Landing,
     table: &mut [u16],
     sums: &mut [i64],
-) -> Marking
+) -> Result<Marking, Failed>
     requires good_paper { GoodPaper model.now index.now second.now regions.now }
     requires target_bound { (landing.target < location_count (components_from model.now index.now)) × KnownSwitches index.now landing.switches }
     requires ready { Ready model.now index.now second.now regions.now from table.old sums.old }
-    ensures value { result ≡ marked_from (jump_tasks_for model.now index.now second.now regions.now from.location (per_component index.now landing.switches) landing.target) second.now from.marking }
-    ensures fresh { (result.number ≡ 0 → Fresh sums.new) × Kept (4 * from.here + 4) 96 table.old table.new }
+    ensures value { stands_at result ≡ marked_from (jump_tasks_for model.now index.now second.now regions.now from.location (per_component index.now landing.switches) landing.target) second.now from.marking }
+    ensures fresh { OnOk result (Fresh sums.new) }
+    ensures kept { Kept (4 * from.here + 4) 96 table.old table.new }
 {
-    let marking = from.marking;
     if region_rows(regions, landing.target) == 0 {
-        return marking;
+        return Ok(from.marking);
     }
     let group = jump_group(
         model,
@@ -53,7 +53,7 @@ fn mark_switch(
         table,
     );
     let n = index[VARIABLES_AT] as usize;
-    mark_group(model, second, n, table, group, marking, sums)
+    mark_group(model, second, n, table, group, from.marking, sums)
 }
 
 // The proofs of the joint switches of one event from a location, as the table of their ways lists them.
@@ -66,34 +66,23 @@ fn mark_switches(
     ways: &[u8],
     table: &mut [u16],
     sums: &mut [i64],
-) -> Marking
+) -> Result<Marking, Failed>
     requires good_paper { GoodPaper model.now index.now second.now regions.now }
     requires stands { Stands model.now index.now listing.from.location listing.from.modes × (Listed model.now index.now listing.from.modes listing.slot.e ways.now listing.slot × (listing.slot.e ≤ 15)) }
     requires ready { Ready model.now index.now second.now regions.now listing.from table.old sums.old }
-    ensures value { result ≡ marked_from (joint_tasks_for model.now index.now second.now regions.now (joints_of (components_from model.now index.now) listing.from.location listing.slot.e)) second.now listing.from.marking }
-    ensures fresh { (result.number ≡ 0 → Fresh sums.new) × Kept (4 * listing.from.here + 4) 96 table.old table.new }
+    ensures value { stands_at result ≡ marked_from (joint_tasks_for model.now index.now second.now regions.now (joints_of (components_from model.now index.now) listing.from.location listing.slot.e)) second.now listing.from.marking }
+    ensures fresh { OnOk result (Fresh sums.new) }
+    ensures kept { Kept (4 * listing.from.here + 4) 96 table.old table.new }
 {
     let slot = listing.slot;
     let from = listing.from;
-    let modes = from.modes;
-    let count = slot.count;
     let mut marking = from.marking;
-    let mut x: u32 = 0;
-    while x < count {
-        let at = Leaving {
-            location: from.location,
-            modes,
-            here: from.here,
-            marking,
-        };
+    for x in 0..slot.count {
+        let at = Leaving { marking, ..from };
         let landing = landing_at(index, slot, ways, x);
-        marking = mark_switch(model, index, second, regions, at, landing, table, sums);
-        if marking.number != 0 {
-            return marking;
-        }
-        x += 1;
+        marking = mark_switch(model, index, second, regions, at, landing, table, sums)?;
     }
-    marking
+    Ok(marking)
 }
 
 // The proofs of the joint switches of one event from a location. Where the event has any, they are listed once for all.
@@ -106,16 +95,16 @@ fn mark_event(
     from: Leaving,
     table: &mut [u16],
     sums: &mut [i64],
-) -> Marking
+) -> Result<Marking, Failed>
     requires good_paper { GoodPaper model.now index.now second.now regions.now }
     requires stands { Stands model.now index.now from.location from.modes × (e ≤ 15) }
     requires ready { Ready model.now index.now second.now regions.now from table.old sums.old }
-    ensures value { result ≡ marked_from (joint_tasks_for model.now index.now second.now regions.now (joints_of (components_from model.now index.now) from.location e)) second.now from.marking }
-    ensures fresh { (result.number ≡ 0 → Fresh sums.new) × Kept (4 * from.here + 4) 96 table.old table.new }
+    ensures value { stands_at result ≡ marked_from (joint_tasks_for model.now index.now second.now regions.now (joints_of (components_from model.now index.now) from.location e)) second.now from.marking }
+    ensures fresh { OnOk result (Fresh sums.new) }
+    ensures kept { Kept (4 * from.here + 4) 96 table.old table.new }
 {
     if index[FIRST_TOTAL + e as usize] == 0 {
-        let marking = from.marking;
-        return marking;
+        return Ok(from.marking);
     }
     let mut ways = [0u8; WAYS_LENGTH];
     let modes = from.modes;
@@ -134,31 +123,26 @@ fn mark_leaving(
     from: Marking,
     table: &mut [u16],
     sums: &mut [i64],
-) -> Marking
+) -> Result<Marking, Failed>
     requires good_paper { GoodPaper model.now index.now second.now regions.now }
     requires location_bound { (location < location_count (components_from model.now index.now)) × (Underway second.now from × Fresh sums.old) }
     requires in_bounds { (96 ≤ length table.old) × Stacked table.old 0 }
-    ensures value { result ≡ marked_from (leaving_tasks model.now index.now second.now regions.now location) second.now from }
-    ensures stacked { result.number ≡ 0 → Stacked table.new 0 × Fresh sums.new }
+    ensures value { stands_at result ≡ marked_from (leaving_tasks model.now index.now second.now regions.now location) second.now from }
+    ensures stacked { OnOk result (Stacked table.new 0 × Fresh sums.new) }
 {
     let modes = modes_at(model, index, location);
     let here = push_here(model, index, second, regions, location, modes, table);
     let mut marking = from;
-    let mut e: u32 = 0;
-    while e < 16 {
+    for e in 0..16 {
         let at = Leaving {
             location,
             modes,
             here,
             marking,
         };
-        marking = mark_event(model, index, second, regions, e, at, table, sums);
-        if marking.number != 0 {
-            return marking;
-        }
-        e += 1;
+        marking = mark_event(model, index, second, regions, e, at, table, sums)?;
     }
-    marking
+    Ok(marking)
 }
 
 // The proofs of all joint switches, location by location.
@@ -171,22 +155,17 @@ pub fn mark_joints(
     from: Marking,
     table: &mut [u16],
     sums: &mut [i64],
-) -> Marking
+) -> Result<Marking, Failed>
     requires good_paper { GoodPaper model.now index.now second.now regions.now }
     requires locations_value { (locations ≡ location_count (components_from model.now index.now)) × (Underway second.now from × Fresh sums.old) }
     requires in_bounds { (96 ≤ length table.old) × Stacked table.old 0 }
-    ensures { result ≡ marked_from (joint_tasks_for model.now index.now second.now regions.now (joints (components_from model.now index.now))) second.now from }
+    ensures { stands_at result ≡ marked_from (joint_tasks_for model.now index.now second.now regions.now (joints (components_from model.now index.now))) second.now from }
 {
     let mut marking = from;
-    let mut location: u32 = 0;
-    while location < locations {
+    for location in 0..locations {
         marking = mark_leaving(
             model, index, second, regions, location, marking, table, sums,
-        );
-        if marking.number != 0 {
-            return marking;
-        }
-        location += 1;
+        )?;
     }
-    marking
+    Ok(marking)
 }

@@ -1,16 +1,23 @@
 // Certificates marked: the proofs of all obligations, location by location, then joint switch by joint switch; and the whole sheet.
 #![tactic(auto)]
 
+use fields::Refusal;
+
 pub mod certificate;
 pub mod joint_marks;
 pub mod obligations;
 
-// Where marking stands: the number of what failed, 0 as long as nothing has; the place reached, or that of what failed; and how many
-// proofs have passed.
+// Where marking stands: the place reached, and how many proofs have passed.
 #[derive(Clone, Copy)]
 pub struct Marking {
-    pub number: u32,
     pub place: usize,
+    pub done: u32,
+}
+
+// Where marking ends at a proof that fails: what refuses it, and how many proofs have passed before it.
+#[derive(Clone, Copy)]
+pub struct Failed {
+    pub refusal: Refusal,
     pub done: u32,
 }
 

@@ -1,5 +1,5 @@
 // The proofs of a certificate, one per obligation, read and tested in order up to the first that fails.
-ghost use Rattle.std.specs.Prelude.{◌≡◌, false, ◌+◌, ◌*◌, ◌≤◌, ◌<◌, length};
+ghost use Rattle.std.specs.Prelude.{OnOk, ◌≡◌, ◌+◌, ◌*◌, ◌≤◌, ◌<◌, length};
 ghost use Rattle.formats.specs.Versions.{row_bytes};
 ghost use Rattle.farkas.specs.Lists.{every};
 ghost use Rattle.formats.specs.Locations.{location_count};
@@ -9,11 +9,10 @@ ghost use Rattle.rules.specs.Marking.{mark_proofs};
 ghost use Rattle.papers.specs.Paper.{GoodPaper, obligations_for};
 ghost use Rattle.hypotheses.specs.Tables.{Stacked};
 ghost use Rattle.hypotheses.specs.Listing.{GoodGroup, tasks_of, mark_tasks, location_tasks_for};
-ghost use Rattle.certificates.specs.Passed.{stands_at, marked_from, goal_place, one_of, rowless, Fresh, Underway};
+ghost use Rattle.certificates.specs.Passed.{stands_at, marked_from, goal_place, rowless, Fresh, Underway};
 
-use crate::Marking;
 use crate::joint_marks::mark_joints;
-use fields::Next;
+use crate::{Failed, Marking};
 use fields::versions::rows_bytes;
 use hypotheses::Group;
 use hypotheses::groups::group_at;
@@ -32,23 +31,6 @@ fn goal_place(group: Group, n: usize, goal: u32) -> usize
     group.from + rows_bytes(group.version, n, goal as usize)
 }
 
-// Of a group's goals the one with a number, alone.
-fn one_of(group: Group, n: usize, goal: u32) -> Group
-    requires { (n ≤ 8) × ((goal ≤ 16) × (group.from + row_bytes group.version n * goal ≤ 32768)) }
-    ensures { result ≡ one_of group n goal }
-{
-    Group {
-        version: group.version,
-        segments: group.segments,
-        hypotheses: group.hypotheses,
-        goals: 1,
-        from: goal_place(group, n, goal),
-        shift: group.shift,
-        width: group.width,
-        zero: group.zero,
-    }
-}
-
 // The proofs of a group's goals, from where marking stands, up to the first that fails. The sums must be 0 before, and are 0 again where
 // all have passed.
 pub fn mark_group(
@@ -59,18 +41,18 @@ pub fn mark_group(
     group: Group,
     from: Marking,
     sums: &mut [i64],
-) -> Marking
+) -> Result<Marking, Failed>
     requires model_len_bound { (length model.now ≤ 32768) × ((length second.now ≤ 32768) × ((n ≤ 8) × (96 ≤ length table.now))) }
     requires good_group { GoodGroup model.now second.now n table.now group × (Underway second.now from × Fresh sums.old) }
-    ensures value { result ≡ marked_from (tasks_of model.now second.now n table.now group) second.now from }
-    ensures fresh { result.number ≡ 0 → Fresh sums.new }
+    ensures value { stands_at result ≡ marked_from (tasks_of model.now second.now n table.now group) second.now from }
+    ensures fresh { OnOk result (Fresh sums.new) }
 {
     let goals = group.goals;
     let width = group.width;
     let mut place = from.place;
-    let mut goal: u32 = 0;
-    while goal < goals {
+    for goal in 0..goals {
         let row = goal_place(group, n, goal);
+        // A refusal goes on with what has passed: `map_err`, whose closure would hold the counter, is no plainer than two arms.
         match mark_proof(
             model,
             second,
@@ -81,28 +63,57 @@ pub fn mark_group(
             place,
             &mut sums[..width],
         ) {
-            Next::Refused(number, cut) => {
-                return Marking {
-                    number,
-                    place: cut,
-                    done: from.done + goal,
-                };
-            }
-            Next::At(next) => {
+            Ok(next) => {
                 place = next;
             }
+            Err(refusal) => {
+                return Err(Failed {
+                    refusal,
+                    done: from.done + goal,
+                });
+            }
         }
-        goal += 1;
     }
-    Marking {
-        number: 0,
+    Ok(Marking {
         place,
         done: from.done + goals,
-    }
+    })
 }
 
-// The proofs of all locations, from a place on, up to the first that fails: of each location those of its start, of its flow and of each
-// unsafe condition, and of each of these one for each row.
+// The proofs of a location, from where marking stands, up to the first that fails: those of its start, of its flow and of each unsafe
+// condition, and of each of these one for each row. Their table is built once for all rows.
+fn mark_location(
+    model: &[u8],
+    index: &Index,
+    second: &[u8],
+    regions: &Regions,
+    location: u32,
+    from: Marking,
+    table: &mut [u16],
+    sums: &mut [i64],
+) -> Result<Marking, Failed>
+    requires good_paper { GoodPaper model.now index.now second.now regions.now }
+    requires location_bound { (location < location_count (components_from model.now index.now)) × (Underway second.now from × Fresh sums.old) }
+    requires in_bounds { (96 ≤ length table.old) × Stacked table.old 0 }
+    ensures value { stands_at result ≡ marked_from (location_tasks_for model.now index.now second.now regions.now location) second.now from }
+    ensures stacked { OnOk result (Stacked table.new 0 × Fresh sums.new) }
+{
+    let n = index[VARIABLES_AT] as usize;
+    let groups = index[CONDITIONS_AT] as u32 + 2;
+    let modes = modes_at(model, index, location);
+    let mut marking = from;
+    for g in 0..groups {
+        let group = group_at(model, index, second, regions, location, modes, g, table);
+        // An empty group would cost a call: counted, half as many instructions again for a model without rows.
+        if group.goals == 0 {
+            continue;
+        }
+        marking = mark_group(model, second, n, table, group, marking, sums)?;
+    }
+    Ok(marking)
+}
+
+// The proofs of all locations, from a place on, up to the first that fails.
 fn mark_locations(
     model: &[u8],
     index: &Index,
@@ -112,58 +123,20 @@ fn mark_locations(
     at: usize,
     table: &mut [u16],
     sums: &mut [i64],
-) -> Marking
+) -> Result<Marking, Failed>
     requires good_paper { GoodPaper model.now index.now second.now regions.now }
     requires locations_value { (locations ≡ location_count (components_from model.now index.now)) × (at ≤ length second.now) }
     requires in_bounds { (96 ≤ length table.old) × (Stacked table.old 0 × Fresh sums.old) }
-    ensures value { result ≡ stands_at (mark_tasks (join_all (location_tasks_for model.now index.now second.now regions.now) (count_up 0 locations)) second.now at 0) }
-    ensures stacked { result.number ≡ 0 → Stacked table.new 0 × Fresh sums.new }
+    ensures value { stands_at result ≡ mark_tasks (join_all (location_tasks_for model.now index.now second.now regions.now) (count_up 0 locations)) second.now at 0 }
+    ensures stacked { OnOk result (Stacked table.new 0 × Fresh sums.new) }
 {
-    let n = index[VARIABLES_AT] as usize;
-    let groups = index[CONDITIONS_AT] as u32 + 2;
-    let mut number: u32 = 0;
-    let mut place = at;
-    let mut done: u32 = 0;
-    let mut location: u32 = 0;
-    'marking: while location < locations {
-        let modes = modes_at(model, index, location);
-        let mut g: u32 = 0;
-        while g < groups {
-            let group = group_at(model, index, second, regions, location, modes, g, table);
-            let goals = group.goals;
-            let mut goal: u32 = 0;
-            while goal < goals {
-                let from = Marking {
-                    number,
-                    place,
-                    done,
-                };
-                let marked = mark_group(
-                    model,
-                    second,
-                    n,
-                    table,
-                    one_of(group, n, goal),
-                    from,
-                    sums,
-                );
-                number = marked.number;
-                place = marked.place;
-                done = marked.done;
-                if number != 0 {
-                    break 'marking;
-                }
-                goal += 1;
-            }
-            g += 1;
-        }
-        location += 1;
+    let mut marking = Marking { place: at, done: 0 };
+    for location in 0..locations {
+        marking = mark_location(
+            model, index, second, regions, location, marking, table, sums,
+        )?;
     }
-    Marking {
-        number,
-        place,
-        done,
-    }
+    Ok(marking)
 }
 
 // Whether no region has a row.
@@ -171,14 +144,7 @@ fn no_rows(regions: &Regions, locations: u32) -> bool
     requires { locations ≤ 64 }
     ensures { result ≡ every (rowless regions.now) (count_up 0 locations) }
 {
-    let mut l: u32 = 0;
-    while l < locations {
-        if region_rows(regions, l) != 0 {
-            return false;
-        }
-        l += 1;
-    }
-    true
+    (0..locations).all(|l| region_rows(regions, l) == 0)
 }
 
 // The proofs of all obligations, from a place on, up to the first that fails: those of the locations, then those of the joint switches.
@@ -190,24 +156,21 @@ pub fn mark_obligations(
     regions: &Regions,
     locations: u32,
     at: usize,
-) -> Marking
+) -> Result<Marking, Failed>
     requires good_paper { GoodPaper model.now index.now second.now regions.now }
     requires locations_value { (locations ≡ location_count (components_from model.now index.now)) × (at ≤ length second.now) }
-    ensures { result ≡ stands_at (mark_proofs (obligations_for model.now index.now second.now regions.now locations) second.now at 0) }
+    ensures { stands_at result ≡ mark_proofs (obligations_for model.now index.now second.now regions.now locations) second.now at 0 }
 {
     let mut table = [0u16; TABLE_LENGTH];
     let mut sums: [i64; 17] = [0; 17];
     let marked = mark_locations(
         model, index, second, regions, locations, at, &mut table, &mut sums,
-    );
-    if marked.number != 0 {
-        return marked;
-    }
+    )?;
     if index[JOINTS_AT] == 0 {
-        return marked;
+        return Ok(marked);
     }
     if no_rows(regions, locations) {
-        return marked;
+        return Ok(marked);
     }
     mark_joints(
         model, index, second, regions, locations, marked, &mut table, &mut sums,

@@ -1,19 +1,17 @@
 -- The paper is opened, then the certificate's body is marked. Assumes nothing.
-use mathlib.Core.Path.{ap, ◌∙◌}
-use Rattle.rules.specs.declared.Answer.{Answer}
+use Rattle.std.proofs.Common.{sym, ap, ◌∙◌}
+use Rattle.papers.specs.Opening.{paper_answer}
 use Rattle.certificates.proofs.CloseLaws.{certificate-refused, certificate-open}
 use Rattle.certificates.proofs.certificate.mark_certificate.Goals as goal
 
-pub returns-then-opened-ne0 : goal.returns-then-opened-ne0
-returns-then-opened-ne0 c =
-    let a = c.args in
-    let e = c.open_paper-opened.ensures.value in
-    e ∙ certificate-refused a.limits a.model.now a.second.now (λ z. c.if-opened-ne0.true (ap (λ (x : Answer). x.number) e ∙ z))
-
 pub mark_body-requires : goal.mark_body-requires
-mark_body-requires c = let w = c.open_paper-opened.ensures.fact c.if-opened-ne0.false in record { accepted = w.first.accepted; body_in_bounds = (w.bodied, w.brief) }
+mark_body-requires c = let w = c.in-Ok.ensures.open in record { accepted = w.first.accepted; body_in_bounds = (w.bodied, w.brief) }
 
-pub returns : goal.returns
-returns c =
-    let a = c.args in
-    c.mark_body.ensures ∙ certificate-open a.limits a.model.now a.second.now (c.open_paper-opened.ensures.fact c.if-opened-ne0.false)
+pub returns-in-Err : goal.returns-in-Err
+unfolding paper_answer
+returns-in-Err c =
+    certificate-refused c.args.limits c.args.model.now c.args.second.now (sym (ap paper_answer c.in-Err.is) ∙ c.open_paper.ensures.value) c.in-Err.ensures.refused
+
+pub returns-in-Ok : goal.returns-in-Ok
+returns-in-Ok c =
+    c.mark_body.ensures ∙ certificate-open c.args.limits c.args.model.now c.args.second.now c.in-Ok.ensures.open

@@ -1,48 +1,40 @@
--- By cases: a proof that was refused, or all proofs passed. Assumes nothing.
-use mathlib.Core.Path.{◌∙◌}
-use native.Mathlib.Omega.{arith}
-use Rattle.models.specs.Index.{entry, model_from}
-use Rattle.second_sheets.specs.CertificateAnswers.{regions_from}
-use Rattle.rules.specs.Obligations.{obligations}
-use Rattle.certificates.proofs.CloseLaws.{obligations-few, marked-within, rest-stops, rest-passes}
+-- By cases: all proofs passed, or one was refused. Assumes nothing.
+use Rattle.std.proofs.Common.{◌≡◌, ◌∙◌, arith}
+use mathlib.Core.List.{List}
+use Rattle.rules.specs.Marking.{mark_proofs}
+use Rattle.rules.specs.Obligations.{Obligation}
+use Rattle.papers.specs.Paper.{obligations_for}
+use Rattle.certificates.specs.Passed.{stands_at}
+use Rattle.certificates.proofs.CloseLaws.{obligations-few, passed-within, rest-passes, stopped-within, rest-stops}
+use Rattle.certificates.proofs.certificate.mark_rest.Goals.{After-mark_obligations}
 use Rattle.certificates.proofs.certificate.mark_rest.Goals as goal
 
-pub stop_certificate-requires : goal.stop_certificate-requires
-stop_certificate-requires c =
-    let a = c.args in
-    let p = c.requires in
-    let index = a.index.now in
-    let s = a.second.now in
-    let all = obligations (model_from a.model.now index) (regions_from s (entry index 11) (entry index 0) a.regions.now a.locations) in
-    let marked = c.mark_obligations-marked in
-    let within = marked-within all s a.at p.at_in_bounds marked.result marked.ensures in record { good_paper = p.good_paper; locations_value = p.locations_value; place_bound = (omega (arith, within.0, p.good_paper.brief), omega (arith, within.1, obligations-few p.good_paper a.locations p.locations_value.0 p.locations_value.1)) }
+-- all obligations, and how their marking was told
+module _ (c : After-mark_obligations) where
+  abbrev all : List Obligation
+  all = obligations_for c.args.model.now c.args.index.now c.args.second.now c.args.regions.now c.args.locations
 
-pub returns-then-marked-ne0 : goal.returns-then-marked-ne0
-returns-then-marked-ne0 c =
-    let a = c.args in
+  told : stands_at c.mark_obligations.result ≡ mark_proofs all c.args.second.now c.args.at 0
+  told = c.mark_obligations.ensures
+
+pub stop_certificate-requires-clause-place_bound : goal.stop_certificate-requires-clause-place_bound
+stop_certificate-requires-clause-place_bound c =
+    let k = (goal.at.stop_certificate-requires-clause-place_bound c).After-mark_obligations in
     let p = c.requires in
-    let index = a.index.now in
-    let s = a.second.now in
-    let all = obligations (model_from a.model.now index) (regions_from s (entry index 11) (entry index 0) a.regions.now a.locations) in
-    let marked = c.mark_obligations-marked in
-    c.stop_certificate.ensures ∙ rest-stops all s a.at p.at_in_bounds marked.result marked.ensures c.if-marked-ne0.true
+    let within = stopped-within (all k) c.args.second.now c.args.at p.at_in_bounds (told k) c.in-Err.is in
+    (omega (arith, within.0, p.good_paper.brief), omega (arith, within.1, obligations-few p.good_paper c.args.locations p.locations_value.0 p.locations_value.1))
+
+pub returns-in-Err : goal.returns-in-Err
+returns-in-Err c =
+    let k = (goal.at.returns-in-Err c).After-mark_obligations in
+    c.stop_certificate.ensures ∙ rest-stops (all k) c.args.second.now c.args.at c.requires.at_in_bounds (told k) c.in-Err.is
 
 pub end_certificate-requires : goal.end_certificate-requires
 end_certificate-requires c =
-    let a = c.args in
-    let p = c.requires in
-    let index = a.index.now in
-    let s = a.second.now in
-    let all = obligations (model_from a.model.now index) (regions_from s (entry index 11) (entry index 0) a.regions.now a.locations) in
-    let marked = c.mark_obligations-marked in
-    (p.good_paper.brief, (marked-within all s a.at p.at_in_bounds marked.result marked.ensures).0)
+    let k = (goal.at.end_certificate-requires c).After-mark_obligations in
+    (c.requires.good_paper.brief, (passed-within (all k) c.args.second.now c.args.at c.requires.at_in_bounds (told k) c.in-Ok.is).0)
 
-pub returns : goal.returns
-returns c =
-    let a = c.args in
-    let p = c.requires in
-    let index = a.index.now in
-    let s = a.second.now in
-    let all = obligations (model_from a.model.now index) (regions_from s (entry index 11) (entry index 0) a.regions.now a.locations) in
-    let marked = c.mark_obligations-marked in
-    c.end_certificate.ensures ∙ rest-passes all s a.at p.at_in_bounds marked.result marked.ensures c.if-marked-ne0.false
+pub returns-in-Ok : goal.returns-in-Ok
+returns-in-Ok c =
+    let k = (goal.at.returns-in-Ok c).After-mark_obligations in
+    c.end_certificate.ensures ∙ rest-passes (all k) c.args.second.now c.args.at c.requires.at_in_bounds (told k) c.in-Ok.is

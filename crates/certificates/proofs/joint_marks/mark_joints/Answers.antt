@@ -1,16 +1,14 @@
 -- The locations that are left, marked from here, are the whole. Assumes nothing.
-use mathlib.Core.Path.{◌≡◌, refl, sym, ap, ◌∙◌}
+use Rattle.std.proofs.Common.{rules, Err, ◌≡◌, refl, sym, ap, ◌∙◌}
 use mathlib.Core.List.{List}
 use native.Mathlib.Omega.{arith}
-use lib.ListN.{length}
 use Rattle.formats.specs.Joint.{joints}
 use Rattle.models.specs.Index.{components_from}
 use Rattle.hypotheses.specs.Listing.{Task, joint_tasks_for}
 use Rattle.papers.proofs.JoinedLaws.{joined_on, joined-none}
 use Rattle.certificates.specs.Passed.{marked_from, leaving_tasks}
-use Rattle.certificates.proofs.FreshLaws.{fresh-length}
-use Rattle.certificates.proofs.JointMarks.{part-underway, turn_on, turn-stops, marked-end, joints-left}
-use Rattle.certificates.proofs.joint_marks.mark_joints.Goals.{At-loop-location, Start}
+use Rattle.certificates.proofs.JointMarks.{goes_on, goes-wrong, marked-end, joints-left}
+use Rattle.certificates.proofs.joint_marks.mark_joints.Goals.{Start}
 use Rattle.certificates.proofs.joint_marks.mark_joints.Goals as goal
 
 -- the joint switches of all locations are all joint switches
@@ -19,48 +17,24 @@ whole s = ap (λ (ts : List Task). marked_from ts s.args.second.now s.args.from)
 
 pub loop-location-init : goal.loop-location-init
 loop-location-init c =
-    (omega arith, (c.requires.locations_value.1.0, (c.requires.locations_value.1.1, (refl, (c.requires.in_bounds.1, refl)))))
+    (omega arith, record { underway = c.requires.locations_value.1.0; fresh = c.requires.locations_value.1.1; same = refl; stacked = c.requires.in_bounds.1; comes = refl })
 
--- the sums keep their length
-sums_same : (c : At-loop-location) → length c.loop-location.sums ≡ length c.args.sums.now
-sums_same c = fresh-length c.loop-location.invariant.1.1.0 ∙ sym (fresh-length c.requires.locations_value.1.1)
-
-pub mark_leaving-marking-requires : goal.mark_leaving-marking-requires
-mark_leaving-marking-requires c =
-    let l = c.loop-location in record { good_paper = c.requires.good_paper; location_bound = (omega (arith, c.loop-location-test.true, c.requires.locations_value.0), (l.invariant.1.0, l.invariant.1.1.0)); in_bounds = (omega (arith, l.invariant.1.1.1.0, c.requires.in_bounds.0), l.invariant.1.1.1.1.0) }
-
-pub shape_of-table-then-marking-ne0 : goal.shape_of-table-then-marking-ne0
-shape_of-table-then-marking-ne0 c = c.mark_leaving-marking.auto.table ∙ c.loop-location.invariant.1.1.1.0
-
-pub shape_of-sums-then-marking-ne0 : goal.shape_of-sums-then-marking-ne0
-shape_of-sums-then-marking-ne0 c = c.mark_leaving-marking.auto.sums ∙ sums_same (goal.at.shape_of-sums-then-marking-ne0 c).At-loop-location
-
-pub returns-then-marking-ne0 : goal.returns-then-marking-ne0
-returns-then-marking-ne0 c =
+pub mark_leaving-requires-clause-location_bound : goal.mark_leaving-requires-clause-location_bound
+mark_leaving-requires-clause-location_bound c =
     let i = c.loop-location.invariant.1 in
-    turn-stops _ _ _ c.loop-location-test.true i.0 c.mark_leaving-marking.ensures.value i.1.1.1.1 c.if-marking-ne0.true ∙ whole (goal.at.returns-then-marking-ne0 c).Start
+    (omega (arith, c.loop-location-test.true, c.requires.locations_value.0), (i.underway, i.fresh))
 
-pub overflow_add-location : goal.overflow_add-location
-overflow_add-location c = omega (arith, c.loop-location-test.true, c.requires.locations_value.0, c.requires.good_paper.few)
-
-pub loop-location-smaller : goal.loop-location-smaller
-loop-location-smaller c = omega (arith, c.loop-location-test.true)
+pub returns-in_err-marking : goal.returns-in_err-marking
+returns-in_err-marking c =
+    let same : c.from_residual.result ≡ Err c.in_err-marking.field-0.0 = search rules in
+    goes-wrong _ _ _ c.loop-location-test.true c.loop-location.invariant.1 c.mark_leaving.ensures.value c.in_err-marking.was same ∙ whole (goal.at.returns-in_err-marking c).Start
 
 pub loop-location-preserved : goal.loop-location-preserved
 loop-location-preserved c =
-    let i = c.loop-location.invariant.1 in
-    let k = c.mark_leaving-marking in
-    let z = c.if-marking-ne0.false in
-    let again = k.ensures.stacked z in
-    (omega (arith, c.loop-location-test.true), (part-underway _ i.0 k.ensures.value z, (again.1, (k.auto.table ∙ i.1.1.0, (again.0, turn_on _ _ _ c.loop-location-test.true i.0 k.ensures.value i.1.1.1.1 z)))))
-
-pub shape_of-table : goal.shape_of-table
-shape_of-table c = c.loop-location.invariant.1.1.1.0
-
-pub shape_of-sums : goal.shape_of-sums
-shape_of-sums c = sums_same (goal.at.shape_of-sums c).At-loop-location
+    let k = c.mark_leaving in
+    let again = c.in_ok-marking.ensures.stacked in
+    (omega (arith, c.loop-location-test.true), goes_on _ _ _ c.loop-location-test.true c.loop-location.invariant.1 k.ensures.value c.in_ok-marking.was again.0 again.1 k.auto.table)
 
 pub returns : goal.returns
 returns c =
-    let i = c.loop-location.invariant.1 in
-    marked-end _ i.0 (joined-none _ _ _ c.loop-location-test.false) i.1.1.1.1 ∙ whole (goal.at.returns c).Start
+    marked-end _ _ (joined-none _ _ _ c.loop-location-test.false) c.loop-location.invariant.1.comes ∙ whole (goal.at.returns c).Start

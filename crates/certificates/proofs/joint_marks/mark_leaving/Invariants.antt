@@ -1,6 +1,6 @@
 use mathlib.Core.Path.{◌≡◌}
 use mathlib.Core.List.{List}
-use Prim.Native.Nat.{ℕ, ◌-◌, ◌≤◌}
+use Prim.Native.Nat.{ℕ, ◌≤◌}
 use lib.ListN.{length}
 use Rattle.models.specs.Index.{components_from}
 use Rattle.certificates.specs.declared.Leaving.{Leaving}
@@ -19,6 +19,3 @@ invariant-loop-e l =
     × (Ready l.model l.index l.second l.regions at l.table l.sums
     × ((length l.table ≡ length l.initial.table)
     × Comes l.second (mark_tasks (joined_on events 16 0) l.second l.initial.marking.place l.initial.marking.done) (joined_on events 16 l.e) l.marking.place l.marking.done))
-
-abbrev pub decreases-loop-e : goal.decreases-loop-e
-decreases-loop-e l = 16 - l.e

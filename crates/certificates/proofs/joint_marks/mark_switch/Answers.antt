@@ -10,19 +10,25 @@ use Rattle.hypotheses.proofs.GroupLaws.{no-rows-jump}
 use Rattle.certificates.specs.Passed.{marked_from}
 use Rattle.certificates.proofs.JointMarks.{marked-none}
 use borrow.Author.Rules.{rules}
-use borrow.Author.Rules.{rules}
 use Rattle.certificates.proofs.joint_marks.mark_switch.Goals as goal
 
 pub region_rows-requires : goal.region_rows-requires
 region_rows-requires c = (search rules, omega (arith, c.requires.target_bound.0, c.requires.good_paper.few))
 
-pub returns-then-region_rows-eq0 : goal.returns-then-region_rows-eq0
-returns-then-region_rows-eq0 c =
+pub returns-then-region_rows-eq0-clause-value : goal.returns-then-region_rows-eq0-clause-value
+returns-then-region_rows-eq0-clause-value c =
     let a = c.args in
     let model = a.model.now in
     let index = a.index.now in
     let second = a.second.now in
-    let regions = a.regions.now in record { value = marked-none second a.from.marking _ c.requires.ready.underway.number (no-rows-jump model index second regions a.from.location a.landing.target (per_component index a.landing.switches) c.requires.target_bound.0 (sym c.region_rows.ensures ∙ c.if-region_rows-eq0.true)); fresh = (λ z. c.requires.ready.fresh, kept-none _ 96 a.table.now) }
+    let regions = a.regions.now in
+    marked-none second a.from.marking (no-rows-jump model index second regions a.from.location a.landing.target (per_component index a.landing.switches) c.requires.target_bound.0 (sym c.region_rows.ensures ∙ c.if-region_rows-eq0.true))
+
+pub returns-then-region_rows-eq0-clause-fresh : goal.returns-then-region_rows-eq0-clause-fresh
+returns-then-region_rows-eq0-clause-fresh c = c.requires.ready.fresh
+
+pub returns-then-region_rows-eq0-clause-kept : goal.returns-then-region_rows-eq0-clause-kept
+returns-then-region_rows-eq0-clause-kept c = kept-none _ 96 c.args.table.now
 
 pub jump_group-group-requires : goal.jump_group-group-requires
 jump_group-group-requires c = record { good_paper = c.requires.good_paper; target_bound = c.requires.target_bound; in_bounds = (c.requires.ready.long, c.requires.ready.here) }
@@ -36,9 +42,8 @@ unfolding entry
 mark_group-requires c =
     let k = c.jump_group-group in record { model_len_bound = (c.requires.good_paper.short, (c.requires.good_paper.brief, (c.requires.good_paper.good.most, omega (arith, k.auto.table, c.requires.ready.long)))); good_group = (k.ensures.good_group, (c.requires.ready.underway, c.requires.ready.fresh)) }
 
-pub returns : goal.returns
+pub returns-clause-value : goal.returns-clause-value
 unfolding entry
-returns c =
-    let a = c.args in
-    let k = c.jump_group-group in
-    let m = c.mark_group in record { value = m.ensures.value ∙ ap (λ (ts : List Task). marked_from ts a.second.now a.from.marking) k.ensures.result_after; fresh = (m.ensures.fresh, k.ensures.kept) }
+returns-clause-value c =
+    c.mark_group.ensures.value
+    ∙ ap (λ (ts : List Task). marked_from ts c.args.second.now c.args.from.marking) c.jump_group-group.ensures.result_after

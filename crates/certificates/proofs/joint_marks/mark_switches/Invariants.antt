@@ -1,5 +1,5 @@
 use mathlib.Core.Path.{◌≡◌}
-use Prim.Native.Nat.{◌+◌, ◌*◌, ◌-◌, ◌≤◌}
+use Prim.Native.Nat.{◌+◌, ◌*◌, ◌≤◌}
 use lib.ListN.{length}
 use Rattle.models.specs.Index.{Kept}
 use Rattle.papers.specs.Paper.{regions_of}
@@ -12,12 +12,9 @@ use Rattle.certificates.proofs.joint_marks.mark_switches.Given as goal
 
 abbrev pub invariant-loop-x : goal.invariant-loop-x
 invariant-loop-x l =
-    let at : Leaving = record { location = l.from.location; modes = l.modes; here = l.from.here; marking = l.marking } in
-    (l.x ≤ l.count)
+    let at : Leaving = record { location = l.from.location; modes = l.from.modes; here = l.from.here; marking = l.marking } in
+    (l.x ≤ l.slot.count)
     × (Ready l.model l.index l.second l.regions at l.table l.sums
     × ((length l.table ≡ length l.initial.table)
     × (Kept (4 * l.from.here + 4) 96 l.initial.table l.table
     × Comes l.second (mark_tasks (jumps_left l.model l.index (regions_of l.model l.index l.second l.regions) l.from.location l.slot.e 0) l.second l.from.marking.place l.from.marking.done) (jumps_left l.model l.index (regions_of l.model l.index l.second l.regions) l.from.location l.slot.e l.x) l.marking.place l.marking.done)))
-
-abbrev pub decreases-loop-x : goal.decreases-loop-x
-decreases-loop-x l = l.count - l.x

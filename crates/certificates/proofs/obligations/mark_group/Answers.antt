@@ -4,7 +4,9 @@ use mathlib.Core.List.{List}
 use Prim.Native.Nat.{ℕ, ◌+◌, ◌*◌, ◌≤◌, ◌<◌}
 use native.Mathlib.Omega.{arith}
 use lib.ListN.{length, get_or}
-use Rattle.fields.specs.declared.Next.TheVariants as next
+use Rattle.fields.specs.Answers.{got_as}
+use Rattle.rules.specs.Marking.{Marked}
+use Rattle.fields.proofs.AnswerLaws.{next-at, next-refused}
 use Rattle.papers.specs.Paper.{held_next}
 use Rattle.hypotheses.specs.declared.Group.{Group}
 use Rattle.hypotheses.specs.Tables.{mark_with}
@@ -12,10 +14,10 @@ use Rattle.sums.specs.Summing.{rows_in, goal_at}
 use Rattle.hypotheses.specs.Listing.{Task, no_task, tasks_of, mark_task, mark_tasks}
 use Rattle.certificates.specs.Passed.{goal_place, stands_at}
 use Rattle.certificates.proofs.FreshLaws.{fresh-length, fresh-part, fresh-wide, fresh-again, fresh-long}
-use Rattle.certificates.proofs.MarkLaws.{tasks-length, task-advances, proof-task, goal-low, refused-number, stopped-at}
+use Rattle.certificates.proofs.MarkLaws.{tasks-length, task-advances, proof-task, goal-low}
 use Rattle.certificates.proofs.MarkLoops.{goals-left, goals-over, goal-on, goal-stops}
 use Rattle.formats.specs.Versions.{row_bytes}
-use Rattle.certificates.proofs.obligations.mark_group.Goals.{In-loop-goal}
+use Rattle.certificates.proofs.obligations.mark_group.Goals.{In-loop-goal, After-mark_proof}
 use Rattle.certificates.proofs.obligations.mark_group.Goals as goal
 
 pub loop-goal-init : goal.loop-goal-init
@@ -49,8 +51,8 @@ mark_proof-requires c =
 pub overflow_add-result : goal.overflow_add-result
 overflow_add-result c = omega (arith, c.loop-goal.invariant.1.0, c.loop-goal.invariant.1.1.0, c.requires.model_len_bound.1.0)
 
-pub shape_of-sums-in-Refused : goal.shape_of-sums-in-Refused
-shape_of-sums-in-Refused c =
+pub shape_of-sums-in-Err : goal.shape_of-sums-in-Err
+shape_of-sums-in-Err c =
     let wide = fresh-wide c.loop-goal.invariant.1.1.1.0 c.args.group.width c.requires.good_group.0.width in
     fresh-long c.loop-goal.invariant.1.1.1.0 c.args.group.width c.requires.good_group.0.width c.mark_proof.new.sums (c.mark_proof.auto.sums ∙ sym wide) ∙ sym (fresh-length c.requires.good_group.1.1)
 
@@ -59,35 +61,42 @@ at-goal : (model second : List ℕ) (n : ℕ) (table : List ℕ) (g : Group) (go
 unfolding goal_place
 at-goal model second n table g goal p e = ap (λ (k : ℕ). held_next (mark_with (rows_in model second n table g) g.zero (goal_at second n g k) second p)) e
 
--- what is refused has a number
-not-zero : (t : Task) (s : List ℕ) (p number place : ℕ) → p ≤ length s → held_next (mark_task t s p) ≡ next.Refused number place → number ≡ 0 → ⊥
-not-zero t s p number place h e z = omega (arith, refused-number t s p number place h (stopped-at (mark_task t s p) number place e), z)
+-- a turn's proof is that of its task
+module _ (c : After-mark_proof) where
+  abbrev part : List Task
+  part = tasks_of c.args.model.now c.args.second.now c.args.n c.args.table.now c.args.group
 
-pub returns-in-Refused : goal.returns-in-Refused
-returns-in-Refused c =
-    let a = c.args in
+  abbrev whole : Marked (Unit {0})
+  whole = mark_tasks part c.args.second.now c.args.from.place c.args.from.done
+
+  short : c.loop-goal.goal < length part
+  short = omega (arith, c.loop-goal-test.true, tasks-length c.args.model.now c.args.second.now c.args.n c.args.table.now c.args.group)
+
+  told : got_as tt c.mark_proof.result ≡ held_next (mark_task (get_or part c.loop-goal.goal no_task) c.args.second.now c.loop-goal.place)
+  told =
+      let a = c.args in
+      let l = c.loop-goal in
+      c.mark_proof.ensures.value
+      ∙ sym (at-goal a.model.now a.second.now a.n a.table.now a.group l.goal l.place (sym c.goal_place-row.ensures))
+      ∙ ap held_next (proof-task a.model.now a.second.now a.n a.table.now a.group l.goal a.second.now l.place c.loop-goal-test.true)
+
+pub returns-in-Err-clause-value : goal.returns-in-Err-clause-value
+unfolding stands_at
+returns-in-Err-clause-value c =
+    let t = (goal.at.returns-in-Err-clause-value c).After-mark_proof in
     let l = c.loop-goal in
-    let part = tasks_of a.model.now a.second.now a.n a.table.now a.group in
-    let short : l.goal < length part = omega (arith, c.loop-goal-test.true, tasks-length a.model.now a.second.now a.n a.table.now a.group) in
-    let e : held_next (mark_task (get_or part l.goal no_task) a.second.now l.place) ≡ next.Refused c.in-Refused.number c.in-Refused.cut = sym (ap held_next (proof-task a.model.now a.second.now a.n a.table.now a.group l.goal a.second.now l.place c.loop-goal-test.true)) ∙ at-goal a.model.now a.second.now a.n a.table.now a.group l.goal l.place (sym c.goal_place-row.ensures) ∙ sym c.mark_proof.ensures.value ∙ c.in-Refused.is in record { value = goal-stops a.second.now (mark_tasks part a.second.now a.from.place a.from.done) part l.goal short l.place (a.from.done + l.goal) _ _ e l.invariant.1.1.1.1; fresh = λ z. absurd (not-zero (get_or part l.goal no_task) a.second.now l.place _ _ l.invariant.1.0 e z) }
-
-pub overflow_add-goal : goal.overflow_add-goal
-overflow_add-goal c = omega (arith, c.loop-goal-test.true, c.requires.good_group.0.counted)
-
-pub loop-goal-smaller : goal.loop-goal-smaller
-loop-goal-smaller c = omega (arith, c.loop-goal-test.true)
+    goal-stops c.args.second.now (whole t) (part t) l.goal (short t) l.place (c.args.from.done + l.goal) _ _ (sym (told t) ∙ next-refused tt c.in-Err.is) l.invariant.1.1.1.1
 
 pub loop-goal-preserved : goal.loop-goal-preserved
 loop-goal-preserved c =
+    let t = (goal.at.loop-goal-preserved c).After-mark_proof in
     let a = c.args in
     let l = c.loop-goal in
-    let part = tasks_of a.model.now a.second.now a.n a.table.now a.group in
-    let short : l.goal < length part = omega (arith, c.loop-goal-test.true, tasks-length a.model.now a.second.now a.n a.table.now a.group) in
-    let q = c.in-At.next in
-    let e : held_next (mark_task (get_or part l.goal no_task) a.second.now l.place) ≡ next.At q = sym (ap held_next (proof-task a.model.now a.second.now a.n a.table.now a.group l.goal a.second.now l.place c.loop-goal-test.true)) ∙ at-goal a.model.now a.second.now a.n a.table.now a.group l.goal l.place (sym c.goal_place-row.ensures) ∙ sym c.mark_proof.ensures.value ∙ c.in-At.is in
-    let ends = task-advances (get_or part l.goal no_task) a.second.now l.place q e in
-    let zeros = (c.mark_proof.ensures.by_index q c.in-At.is).zeros in
-    (omega (arith, c.loop-goal-test.true), (ends.1, (omega (arith, ends.0, l.invariant.1.1.0), (fresh-again l.invariant.1.1.1.0 a.group.width c.requires.good_group.0.width _ zeros, goal-on a.second.now (mark_tasks part a.second.now a.from.place a.from.done) part l.goal short l.place a.from.done q e l.invariant.1.1.1.1))))
+    let q = c.in-Ok.next in
+    let e = sym (told t) ∙ next-at tt c.in-Ok.is in
+    let ends = task-advances (get_or (part t) l.goal no_task) a.second.now l.place q e in
+    let zeros = (c.mark_proof.ensures.by_index q c.in-Ok.is).zeros in
+    (omega (arith, c.loop-goal-test.true), (ends.1, (omega (arith, ends.0, l.invariant.1.1.0), (fresh-again l.invariant.1.1.1.0 a.group.width c.requires.good_group.0.width _ zeros, goal-on a.second.now (whole t) (part t) l.goal (short t) l.place a.from.done q e l.invariant.1.1.1.1))))
 
 pub overflow_add-result-2 : goal.overflow_add-result-2
 overflow_add-result-2 c = omega (arith, c.loop-goal.invariant.1.0, c.loop-goal.invariant.1.1.0, c.requires.model_len_bound.1.0, c.loop-goal-test.false)
@@ -102,4 +111,5 @@ returns c =
     let l = c.loop-goal in
     let part = tasks_of a.model.now a.second.now a.n a.table.now a.group in
     let all = tasks-length a.model.now a.second.now a.n a.table.now a.group in
-    let goals : l.goal ≡ a.group.goals = omega (arith, l.invariant.0, c.loop-goal-test.false) in record { value = goals-over a.second.now (mark_tasks part a.second.now a.from.place a.from.done) part l.goal a.group.goals l.place a.from.done all goals l.invariant.1.1.1.1; fresh = λ z. l.invariant.1.1.1.0 }
+    let goals : l.goal ≡ a.group.goals = omega (arith, l.invariant.0, c.loop-goal-test.false) in
+    record { value = goals-over a.second.now (mark_tasks part a.second.now a.from.place a.from.done) part l.goal a.group.goals l.place a.from.done all goals l.invariant.1.1.1.1; fresh = l.invariant.1.1.1.0 }

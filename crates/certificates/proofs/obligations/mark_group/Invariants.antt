@@ -1,4 +1,4 @@
-use Prim.Native.Nat.{◌+◌, ◌-◌, ◌≤◌}
+use Prim.Native.Nat.{◌+◌, ◌≤◌}
 use lib.ListN.{length, drop}
 use Rattle.hypotheses.specs.Listing.{tasks_of, mark_tasks}
 use Rattle.certificates.specs.Passed.{Fresh}
@@ -12,6 +12,3 @@ invariant-loop-goal l =
     × ((l.from.done + l.goal ≤ l.place)
     × (Fresh l.sums
     × Comes l.second (mark_tasks (tasks_of l.model l.second l.n l.table l.group) l.second l.from.place l.from.done) (drop l.goal (tasks_of l.model l.second l.n l.table l.group)) l.place (l.from.done + l.goal))))
-
-abbrev pub decreases-loop-goal : goal.decreases-loop-goal
-decreases-loop-goal l = l.goals - l.goal

@@ -1,5 +1,6 @@
 -- The locations' proofs, then those of the joint switches, of which there may be none. Assumes nothing.
-use mathlib.Core.Path.{◌≡◌, refl, sym, ap, ◌∙◌}
+use Rattle.std.proofs.Common.{rules, Ok, Err}
+use mathlib.Core.Path.{◌≡◌, refl, sym, ◌∙◌}
 use mathlib.Core.List.{List, [], ◌++◌}
 use native.Mathlib.Omega.{arith}
 use Rattle.models.specs.Index.{entry, components_from, model_from}
@@ -14,13 +15,13 @@ use Rattle.certificates.proofs.FreshLaws.{no-segments}
 use Rattle.certificates.proofs.MarkLoops.{Comes}
 use Rattle.certificates.proofs.JointMarks.{all_come, part-on, part-stops, part-underway, marked-end}
 use Rattle.certificates.proofs.RowlessLaws.{nothing_left, no-joints}
-use Rattle.certificates.proofs.obligations.mark_obligations.Goals.{Else-marked-ne0, Start}
+use Rattle.certificates.proofs.obligations.mark_obligations.Goals.{In_ok-marked, Start}
 use Rattle.certificates.proofs.obligations.mark_obligations.Goals as goal
 
 -- marking begins with nothing proved, and what it has to do is the locations' part and the rest
 module _ (s : Start) where
-  begins : Underway s.args.second.now (record { number = 0; place = s.args.at; done = 0 })
-  begins = record { number = refl; within = s.requires.locations_value.1; few = omega arith }
+  begins : Underway s.args.second.now (record { place = s.args.at; done = 0 })
+  begins = record { within = s.requires.locations_value.1; few = omega arith }
 
   abbrev first : List Task
   first = join_all (location_tasks (model_from s.args.model.now s.args.index.now) (regions_of s.args.model.now s.args.index.now s.args.second.now s.args.regions.now)) (count_up 0 s.args.locations)
@@ -35,42 +36,41 @@ module _ (s : Start) where
   all = all_come _ _ _ _ _ _ s.requires.locations_value.0
 
 -- once the locations' proofs have passed, the rest comes
-module _ (c : Else-marked-ne0) where
+module _ (c : In_ok-marked) where
   abbrev k : Marking
-  k = c.mark_locations-marked.result
+  k = c.in_ok-marked.marked
 
   abbrev s : Start
-  s = (goal.at.Else-marked-ne0 c).Start
+  s = (goal.at.In_ok-marked c).Start
 
   rest-comes : Comes s.args.second.now (whole s) (rest s) k.place k.done
-  rest-comes = part-on (first s) (begins s) c.mark_locations-marked.ensures.value (rest s) (all s) c.if-marked-ne0.false
+  rest-comes = part-on (first s) (begins s) c.mark_locations.ensures.value (rest s) (all s) c.in_ok-marked.was
 
-  over : rest s ≡ [] → k ≡ stands_at (whole s)
-  over e = marked-end (rest s) (part-underway (first s) (begins s) c.mark_locations-marked.ensures.value c.if-marked-ne0.false) e rest-comes
+  over : rest s ≡ [] → stands_at (Ok k) ≡ whole s
+  over e = marked-end _ k e rest-comes
 
-pub mark_locations-marked-requires : goal.mark_locations-marked-requires
+pub mark_locations-requires-clause-in_bounds : goal.mark_locations-requires-clause-in_bounds
 unfolding entry
-mark_locations-marked-requires c = record { good_paper = c.requires.good_paper; locations_value = (c.requires.locations_value.0, c.requires.locations_value.1); in_bounds = (omega arith, (no-segments _ refl, record { zeros = refl })) }
+mark_locations-requires-clause-in_bounds c = (omega arith, (no-segments _ refl, record { zeros = refl }))
 
-pub returns-then-marked-ne0 : goal.returns-then-marked-ne0
-returns-then-marked-ne0 c = part-stops _ (begins (goal.at.returns-then-marked-ne0 c).Start) c.mark_locations-marked.ensures.value _ (all (goal.at.returns-then-marked-ne0 c).Start) c.if-marked-ne0.true
+pub returns-in_err-marked : goal.returns-in_err-marked
+returns-in_err-marked c =
+    let s = (goal.at.returns-in_err-marked c).Start in
+    let same : c.from_residual.result ≡ Err c.in_err-marked.field-0.0 = search rules in
+    part-stops _ (begins s) c.mark_locations.ensures.value _ (all s) c.in_err-marked.was same
 
 pub returns-then-index-eq0 : goal.returns-then-index-eq0
 unfolding entry
-returns-then-index-eq0 c = over (goal.at.returns-then-index-eq0 c).Else-marked-ne0 (no-joints _ _ _ _ (sym c.requires.good_paper.counted.joined ∙ c.if-index-eq0.true))
-
-pub no_rows-requires : goal.no_rows-requires
-no_rows-requires c = omega (arith, c.requires.locations_value.0, c.requires.good_paper.few)
+returns-then-index-eq0 c =
+    over (goal.at.returns-then-index-eq0 c).In_ok-marked (no-joints _ _ _ _ (sym c.requires.good_paper.counted.joined ∙ c.if-index-eq0.true))
 
 pub returns-then-no_rows : goal.returns-then-no_rows
 returns-then-no_rows c =
-    over (goal.at.returns-then-no_rows c).Else-marked-ne0 (nothing_left _ _ c.requires.good_paper.good c.args.locations c.requires.locations_value.0 (sym c.no_rows.ensures ∙ c.if-no_rows.true))
+    over (goal.at.returns-then-no_rows c).In_ok-marked (nothing_left _ _ c.requires.good_paper.good c.args.locations c.requires.locations_value.0 (sym c.no_rows.ensures ∙ c.if-no_rows.true))
 
-pub mark_joints-requires : goal.mark_joints-requires
-mark_joints-requires c =
-    let k = c.mark_locations-marked in
-    let p = c.requires in
-    let again = k.ensures.stacked c.if-marked-ne0.false in record { good_paper = p.good_paper; locations_value = (p.locations_value.0, (part-underway _ (begins (goal.at.mark_joints-requires c).Start) k.ensures.value c.if-marked-ne0.false, again.1)); in_bounds = (omega (arith, k.auto.table), again.0) }
+pub mark_joints-requires-clause-locations_value : goal.mark_joints-requires-clause-locations_value
+mark_joints-requires-clause-locations_value c =
+    (c.requires.locations_value.0, (part-underway _ (begins (goal.at.mark_joints-requires-clause-locations_value c).Start) c.mark_locations.ensures.value c.in_ok-marked.was, c.in_ok-marked.ensures.stacked.1))
 
 pub returns : goal.returns
-returns c = c.mark_joints.ensures ∙ ap stands_at (rest-comes (goal.at.returns c).Else-marked-ne0)
+returns c = c.mark_joints.ensures ∙ rest-comes (goal.at.returns c).In_ok-marked
