@@ -4,7 +4,7 @@ ghost use Rattle.formats.specs.Locations.{location_count};
 ghost use Rattle.formats.specs.Joint.{joints};
 ghost use Rattle.models.specs.Index.{components_from};
 ghost use Rattle.rules.specs.Marking.{passed, close_certificate, mark_certificate};
-ghost use Rattle.papers.specs.Paper.{GoodPaper, Accepted, obligations_for};
+ghost use Rattle.papers.specs.Paper.{PaperRead, of_paper, on_paper, Accepted, obligations_for};
 ghost use Rattle.certificates.specs.Passed.{stopped_answer, marked_body, marked_rest};
 
 use crate::obligations::mark_obligations;
@@ -12,29 +12,23 @@ use crate::{Failed, Marking};
 use fields::header::finished;
 use formats::Limits;
 use models::layout::{INDEX_LENGTH, Index, VARIABLES_AT, VERSION_AT};
+use papers::Paper;
 use papers::answers::{second_accepted, second_refused};
 use papers::opening::{locations_of, open_paper};
 use rules::Answer;
 use scores::counting::obligation_count;
 use scores::rounding::refused_score;
 use second_sheets::certificate::read_regions;
-use second_sheets::ranges::{REGIONS_LENGTH, Regions};
+use second_sheets::ranges::REGIONS_LENGTH;
 
 // The answer where a proof was refused. Only then are the obligations counted, for the score.
-fn stop_certificate(
-    model: &[u8],
-    index: &Index,
-    second: &[u8],
-    regions: &Regions,
-    locations: u32,
-    failed: Failed,
-) -> Answer
-    requires good_paper { GoodPaper model.now index.now second.now regions.now }
-    requires locations_value { (locations ≡ location_count (components_from model.now index.now)) × (length (joints (components_from model.now index.now)) ≤ 4096) }
+fn stop_certificate(paper: Paper, locations: u32, failed: Failed) -> Answer
+    requires good_paper { PaperRead paper }
+    requires locations_value { (locations ≡ location_count (components_from paper.model.now paper.index.now)) × (length (joints (components_from paper.model.now paper.index.now)) ≤ 4096) }
     requires place_bound { (failed.refusal.1 ≤ 32768) × (failed.done ≤ 1000000) }
-    ensures { result ≡ stopped_answer failed (length (obligations_for model.now index.now second.now regions.now locations)) }
+    ensures { result ≡ stopped_answer failed (length (of_paper obligations_for paper.entry locations)) }
 {
-    let total = obligation_count(model, index, second, regions, locations);
+    let total = obligation_count(paper, locations);
     let score = refused_score(failed.done, total);
     second_refused(failed.refusal, failed.done, score)
 }
@@ -51,22 +45,15 @@ fn end_certificate(second: &[u8], marked: Marking) -> Answer
 }
 
 // A certificate after its regions: its proofs, then its end.
-fn mark_rest(
-    model: &[u8],
-    index: &Index,
-    second: &[u8],
-    regions: &Regions,
-    locations: u32,
-    at: usize,
-) -> Answer
-    requires good_paper { GoodPaper model.now index.now second.now regions.now }
-    requires locations_value { (locations ≡ location_count (components_from model.now index.now)) × (length (joints (components_from model.now index.now)) ≤ 4096) }
-    requires at_in_bounds { at ≤ length second.now }
-    ensures { result ≡ marked_rest model.now index.now second.now regions.now locations at }
+fn mark_rest(paper: Paper, locations: u32, at: usize) -> Answer
+    requires good_paper { PaperRead paper }
+    requires locations_value { (locations ≡ location_count (components_from paper.model.now paper.index.now)) × (length (joints (components_from paper.model.now paper.index.now)) ≤ 4096) }
+    requires at_in_bounds { at ≤ length paper.second.now }
+    ensures { result ≡ of_paper marked_rest paper.entry locations at }
 {
-    match mark_obligations(model, index, second, regions, locations, at) {
-        Ok(marked) => end_certificate(second, marked),
-        Err(failed) => stop_certificate(model, index, second, regions, locations, failed),
+    match mark_obligations(paper, locations, at) {
+        Ok(marked) => end_certificate(paper.second, marked),
+        Err(failed) => stop_certificate(paper, locations, failed),
     }
 }
 
@@ -86,7 +73,15 @@ fn mark_body(model: &[u8], index: &Index, second: &[u8], body: usize) -> Answer
         locations,
         &mut regions,
     ) {
-        Ok(place) => mark_rest(model, index, second, &regions, locations, place),
+        Ok(place) => {
+            let paper = Paper {
+                model,
+                index,
+                second,
+                regions: &regions,
+            };
+            mark_rest(paper, locations, place)
+        }
         Err(refusal) => second_refused(refusal, 0, 0),
     }
 }

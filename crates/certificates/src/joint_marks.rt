@@ -5,7 +5,7 @@ ghost use Rattle.formats.specs.Joint.{joints_of, joints};
 ghost use Rattle.models.specs.Index.{components_from, Kept};
 ghost use Rattle.models.specs.Counts.{per_component, KnownSwitches};
 ghost use Rattle.joint_switches.specs.Slots.{Listed};
-ghost use Rattle.papers.specs.Paper.{GoodPaper};
+ghost use Rattle.papers.specs.Paper.{PaperRead, of_paper, on_paper};
 ghost use Rattle.papers.specs.Standing.{Stands};
 ghost use Rattle.hypotheses.specs.Tables.{Stacked};
 ghost use Rattle.hypotheses.specs.Listing.{jump_tasks_for, joint_tasks_for};
@@ -17,60 +17,54 @@ use hypotheses::groups::{jump_group, push_here};
 use joint_switches::Landing;
 use joint_switches::joints::modes_at;
 use joint_switches::slots::{WAYS_LENGTH, landing_at, list_slot};
-use models::layout::{FIRST_TOTAL, Index, VARIABLES_AT};
+use models::layout::{FIRST_TOTAL, VARIABLES_AT};
+use papers::Paper;
 use papers::regions::region_rows;
-use second_sheets::ranges::Regions;
 
 // The proofs of one joint switch: one for each row of its target's region.
 fn mark_switch(
-    model: &[u8],
-    index: &Index,
-    second: &[u8],
-    regions: &Regions,
+    paper: Paper,
     from: Leaving,
     landing: Landing,
     table: &mut [u16],
     sums: &mut [i64],
 ) -> Result<Marking, Failed>
-    requires good_paper { GoodPaper model.now index.now second.now regions.now }
-    requires target_bound { (landing.target < location_count (components_from model.now index.now)) × KnownSwitches index.now landing.switches }
-    requires ready { Ready model.now index.now second.now regions.now from table.old sums.old }
-    ensures value { stands_at result ≡ marked_from (jump_tasks_for model.now index.now second.now regions.now from.location (per_component index.now landing.switches) landing.target) second.now from.marking }
+    requires good_paper { PaperRead paper }
+    requires target_bound { (landing.target < location_count (components_from paper.model.now paper.index.now)) × KnownSwitches paper.index.now landing.switches }
+    requires ready { on_paper Ready paper from table.old sums.old }
+    ensures value { stands_at result ≡ marked_from (of_paper jump_tasks_for paper.entry from.location (per_component paper.entry.index.now landing.switches) landing.target) paper.entry.second.now from.marking }
     ensures fresh { OnOk result (Fresh sums.new) }
     ensures kept { Kept (4 * from.here + 4) 96 table.old table.new }
 {
+    let regions = paper.regions;
     if region_rows(regions, landing.target) == 0 {
         return Ok(from.marking);
     }
-    let group = jump_group(
-        model,
-        index,
-        second,
-        regions,
-        from.location,
-        landing,
-        from.here,
+    let group = jump_group(paper, from.location, landing, from.here, table);
+    let n = paper.index[VARIABLES_AT] as usize;
+    mark_group(
+        paper.model,
+        paper.second,
+        n,
         table,
-    );
-    let n = index[VARIABLES_AT] as usize;
-    mark_group(model, second, n, table, group, from.marking, sums)
+        group,
+        from.marking,
+        sums,
+    )
 }
 
 // The proofs of the joint switches of one event from a location, as the table of their ways lists them.
 fn mark_switches(
-    model: &[u8],
-    index: &Index,
-    second: &[u8],
-    regions: &Regions,
+    paper: Paper,
     listing: Listing,
     ways: &[u8],
     table: &mut [u16],
     sums: &mut [i64],
 ) -> Result<Marking, Failed>
-    requires good_paper { GoodPaper model.now index.now second.now regions.now }
-    requires stands { Stands model.now index.now listing.from.location listing.from.modes × (Listed model.now index.now listing.from.modes listing.slot.e ways.now listing.slot × (listing.slot.e ≤ 15)) }
-    requires ready { Ready model.now index.now second.now regions.now listing.from table.old sums.old }
-    ensures value { stands_at result ≡ marked_from (joint_tasks_for model.now index.now second.now regions.now (joints_of (components_from model.now index.now) listing.from.location listing.slot.e)) second.now listing.from.marking }
+    requires good_paper { PaperRead paper }
+    requires stands { Stands paper.model.now paper.index.now listing.from.location listing.from.modes × (Listed paper.model.now paper.index.now listing.from.modes listing.slot.e ways.now listing.slot × (listing.slot.e ≤ 15)) }
+    requires ready { on_paper Ready paper listing.from table.old sums.old }
+    ensures value { stands_at result ≡ marked_from (of_paper joint_tasks_for paper.entry (joints_of (components_from paper.entry.model.now paper.entry.index.now) listing.from.location listing.slot.e)) paper.entry.second.now listing.from.marking }
     ensures fresh { OnOk result (Fresh sums.new) }
     ensures kept { Kept (4 * listing.from.here + 4) 96 table.old table.new }
 {
@@ -79,59 +73,53 @@ fn mark_switches(
     let mut marking = from.marking;
     for x in 0..slot.count {
         let at = Leaving { marking, ..from };
-        let landing = landing_at(index, slot, ways, x);
-        marking = mark_switch(model, index, second, regions, at, landing, table, sums)?;
+        let landing = landing_at(paper.index, slot, ways, x);
+        marking = mark_switch(paper, at, landing, table, sums)?;
     }
     Ok(marking)
 }
 
 // The proofs of the joint switches of one event from a location. Where the event has any, they are listed once for all.
 fn mark_event(
-    model: &[u8],
-    index: &Index,
-    second: &[u8],
-    regions: &Regions,
+    paper: Paper,
     e: u32,
     from: Leaving,
     table: &mut [u16],
     sums: &mut [i64],
 ) -> Result<Marking, Failed>
-    requires good_paper { GoodPaper model.now index.now second.now regions.now }
-    requires stands { Stands model.now index.now from.location from.modes × (e ≤ 15) }
-    requires ready { Ready model.now index.now second.now regions.now from table.old sums.old }
-    ensures value { stands_at result ≡ marked_from (joint_tasks_for model.now index.now second.now regions.now (joints_of (components_from model.now index.now) from.location e)) second.now from.marking }
+    requires good_paper { PaperRead paper }
+    requires stands { Stands paper.model.now paper.index.now from.location from.modes × (e ≤ 15) }
+    requires ready { on_paper Ready paper from table.old sums.old }
+    ensures value { stands_at result ≡ marked_from (of_paper joint_tasks_for paper.entry (joints_of (components_from paper.entry.model.now paper.entry.index.now) from.location e)) paper.entry.second.now from.marking }
     ensures fresh { OnOk result (Fresh sums.new) }
     ensures kept { Kept (4 * from.here + 4) 96 table.old table.new }
 {
-    if index[FIRST_TOTAL + e as usize] == 0 {
+    if paper.index[FIRST_TOTAL + e as usize] == 0 {
         return Ok(from.marking);
     }
     let mut ways = [0u8; WAYS_LENGTH];
     let modes = from.modes;
-    let slot = list_slot(model, index, from.location, modes, e, &mut ways);
+    let slot = list_slot(paper.model, paper.index, from.location, modes, e, &mut ways);
     let listing = Listing { slot, from };
-    mark_switches(model, index, second, regions, listing, &ways, table, sums)
+    mark_switches(paper, listing, &ways, table, sums)
 }
 
 // The proofs of all joint switches from a location, event by event. The table begins with what holds of the location, pushed once.
 fn mark_leaving(
-    model: &[u8],
-    index: &Index,
-    second: &[u8],
-    regions: &Regions,
+    paper: Paper,
     location: u32,
     from: Marking,
     table: &mut [u16],
     sums: &mut [i64],
 ) -> Result<Marking, Failed>
-    requires good_paper { GoodPaper model.now index.now second.now regions.now }
-    requires location_bound { (location < location_count (components_from model.now index.now)) × (Underway second.now from × Fresh sums.old) }
+    requires good_paper { PaperRead paper }
+    requires location_bound { (location < location_count (components_from paper.model.now paper.index.now)) × (Underway paper.second.now from × Fresh sums.old) }
     requires in_bounds { (96 ≤ length table.old) × Stacked table.old 0 }
-    ensures value { stands_at result ≡ marked_from (leaving_tasks model.now index.now second.now regions.now location) second.now from }
+    ensures value { stands_at result ≡ marked_from (of_paper leaving_tasks paper.entry location) paper.entry.second.now from }
     ensures stacked { OnOk result (Stacked table.new 0 × Fresh sums.new) }
 {
-    let modes = modes_at(model, index, location);
-    let here = push_here(model, index, second, regions, location, modes, table);
+    let modes = modes_at(paper.model, paper.index, location);
+    let here = push_here(paper, location, modes, table);
     let mut marking = from;
     for e in 0..16 {
         let at = Leaving {
@@ -140,32 +128,27 @@ fn mark_leaving(
             here,
             marking,
         };
-        marking = mark_event(model, index, second, regions, e, at, table, sums)?;
+        marking = mark_event(paper, e, at, table, sums)?;
     }
     Ok(marking)
 }
 
 // The proofs of all joint switches, location by location.
 pub fn mark_joints(
-    model: &[u8],
-    index: &Index,
-    second: &[u8],
-    regions: &Regions,
+    paper: Paper,
     locations: u32,
     from: Marking,
     table: &mut [u16],
     sums: &mut [i64],
 ) -> Result<Marking, Failed>
-    requires good_paper { GoodPaper model.now index.now second.now regions.now }
-    requires locations_value { (locations ≡ location_count (components_from model.now index.now)) × (Underway second.now from × Fresh sums.old) }
+    requires good_paper { PaperRead paper }
+    requires locations_value { (locations ≡ location_count (components_from paper.model.now paper.index.now)) × (Underway paper.second.now from × Fresh sums.old) }
     requires in_bounds { (96 ≤ length table.old) × Stacked table.old 0 }
-    ensures { stands_at result ≡ marked_from (joint_tasks_for model.now index.now second.now regions.now (joints (components_from model.now index.now))) second.now from }
+    ensures { stands_at result ≡ marked_from (of_paper joint_tasks_for paper.entry (joints (components_from paper.entry.model.now paper.entry.index.now))) paper.entry.second.now from }
 {
     let mut marking = from;
     for location in 0..locations {
-        marking = mark_leaving(
-            model, index, second, regions, location, marking, table, sums,
-        )?;
+        marking = mark_leaving(paper, location, marking, table, sums)?;
     }
     Ok(marking)
 }

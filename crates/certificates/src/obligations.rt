@@ -6,7 +6,7 @@ ghost use Rattle.formats.specs.Locations.{location_count};
 ghost use Rattle.formats.specs.Joint.{count_up, join_all};
 ghost use Rattle.models.specs.Index.{components_from};
 ghost use Rattle.rules.specs.Marking.{mark_proofs};
-ghost use Rattle.papers.specs.Paper.{GoodPaper, obligations_for};
+ghost use Rattle.papers.specs.Paper.{PaperRead, of_paper, on_paper, obligations_for};
 ghost use Rattle.hypotheses.specs.Tables.{Stacked};
 ghost use Rattle.hypotheses.specs.Listing.{GoodGroup, tasks_of, mark_tasks, location_tasks_for};
 ghost use Rattle.certificates.specs.Passed.{stands_at, marked_from, goal_place, rowless, Fresh, Underway};
@@ -18,7 +18,8 @@ use hypotheses::Group;
 use hypotheses::groups::group_at;
 use hypotheses::tables::TABLE_LENGTH;
 use joint_switches::joints::modes_at;
-use models::layout::{CONDITIONS_AT, Index, JOINTS_AT, VARIABLES_AT};
+use models::layout::{CONDITIONS_AT, JOINTS_AT, VARIABLES_AT};
+use papers::Paper;
 use papers::regions::region_rows;
 use second_sheets::ranges::Regions;
 use sums::proofs::mark_proof;
@@ -83,58 +84,50 @@ pub fn mark_group(
 // The proofs of a location, from where marking stands, up to the first that fails: those of its start, of its flow and of each unsafe
 // condition, and of each of these one for each row. Their table is built once for all rows.
 fn mark_location(
-    model: &[u8],
-    index: &Index,
-    second: &[u8],
-    regions: &Regions,
+    paper: Paper,
     location: u32,
     from: Marking,
     table: &mut [u16],
     sums: &mut [i64],
 ) -> Result<Marking, Failed>
-    requires good_paper { GoodPaper model.now index.now second.now regions.now }
-    requires location_bound { (location < location_count (components_from model.now index.now)) × (Underway second.now from × Fresh sums.old) }
+    requires good_paper { PaperRead paper }
+    requires location_bound { (location < location_count (components_from paper.model.now paper.index.now)) × (Underway paper.second.now from × Fresh sums.old) }
     requires in_bounds { (96 ≤ length table.old) × Stacked table.old 0 }
-    ensures value { stands_at result ≡ marked_from (location_tasks_for model.now index.now second.now regions.now location) second.now from }
+    ensures value { stands_at result ≡ marked_from (of_paper location_tasks_for paper.entry location) paper.entry.second.now from }
     ensures stacked { OnOk result (Stacked table.new 0 × Fresh sums.new) }
 {
-    let n = index[VARIABLES_AT] as usize;
-    let groups = index[CONDITIONS_AT] as u32 + 2;
-    let modes = modes_at(model, index, location);
+    let n = paper.index[VARIABLES_AT] as usize;
+    let groups = paper.index[CONDITIONS_AT] as u32 + 2;
+    let modes = modes_at(paper.model, paper.index, location);
     let mut marking = from;
     for g in 0..groups {
-        let group = group_at(model, index, second, regions, location, modes, g, table);
-        // An empty group would cost a call: counted, half as many instructions again for a model without rows.
+        let group = group_at(paper, location, modes, g, table);
+        // An empty group would cost a call: counted, half as many instructions again for a paper.model without rows.
         if group.goals == 0 {
             continue;
         }
-        marking = mark_group(model, second, n, table, group, marking, sums)?;
+        marking = mark_group(paper.model, paper.second, n, table, group, marking, sums)?;
     }
     Ok(marking)
 }
 
 // The proofs of all locations, from a place on, up to the first that fails.
 fn mark_locations(
-    model: &[u8],
-    index: &Index,
-    second: &[u8],
-    regions: &Regions,
+    paper: Paper,
     locations: u32,
     at: usize,
     table: &mut [u16],
     sums: &mut [i64],
 ) -> Result<Marking, Failed>
-    requires good_paper { GoodPaper model.now index.now second.now regions.now }
-    requires locations_value { (locations ≡ location_count (components_from model.now index.now)) × (at ≤ length second.now) }
+    requires good_paper { PaperRead paper }
+    requires locations_value { (locations ≡ location_count (components_from paper.model.now paper.index.now)) × (at ≤ length paper.second.now) }
     requires in_bounds { (96 ≤ length table.old) × (Stacked table.old 0 × Fresh sums.old) }
-    ensures value { stands_at result ≡ mark_tasks (join_all (location_tasks_for model.now index.now second.now regions.now) (count_up 0 locations)) second.now at 0 }
+    ensures value { stands_at result ≡ mark_tasks (join_all (of_paper location_tasks_for paper.entry) (count_up 0 locations)) paper.entry.second.now at 0 }
     ensures stacked { OnOk result (Stacked table.new 0 × Fresh sums.new) }
 {
     let mut marking = Marking { place: at, done: 0 };
     for location in 0..locations {
-        marking = mark_location(
-            model, index, second, regions, location, marking, table, sums,
-        )?;
+        marking = mark_location(paper, location, marking, table, sums)?;
     }
     Ok(marking)
 }
@@ -149,30 +142,19 @@ fn no_rows(regions: &Regions, locations: u32) -> bool
 
 // The proofs of all obligations, from a place on, up to the first that fails: those of the locations, then those of the joint switches.
 // Where there is no joint switch or no region has a row, there is nothing more to prove.
-pub fn mark_obligations(
-    model: &[u8],
-    index: &Index,
-    second: &[u8],
-    regions: &Regions,
-    locations: u32,
-    at: usize,
-) -> Result<Marking, Failed>
-    requires good_paper { GoodPaper model.now index.now second.now regions.now }
-    requires locations_value { (locations ≡ location_count (components_from model.now index.now)) × (at ≤ length second.now) }
-    ensures { stands_at result ≡ mark_proofs (obligations_for model.now index.now second.now regions.now locations) second.now at 0 }
+pub fn mark_obligations(paper: Paper, locations: u32, at: usize) -> Result<Marking, Failed>
+    requires good_paper { PaperRead paper }
+    requires locations_value { (locations ≡ location_count (components_from paper.model.now paper.index.now)) × (at ≤ length paper.second.now) }
+    ensures { stands_at result ≡ mark_proofs (of_paper obligations_for paper.entry locations) paper.entry.second.now at 0 }
 {
     let mut table = [0u16; TABLE_LENGTH];
     let mut sums: [i64; 17] = [0; 17];
-    let marked = mark_locations(
-        model, index, second, regions, locations, at, &mut table, &mut sums,
-    )?;
-    if index[JOINTS_AT] == 0 {
+    let marked = mark_locations(paper, locations, at, &mut table, &mut sums)?;
+    if paper.index[JOINTS_AT] == 0 {
         return Ok(marked);
     }
-    if no_rows(regions, locations) {
+    if no_rows(paper.regions, locations) {
         return Ok(marked);
     }
-    mark_joints(
-        model, index, second, regions, locations, marked, &mut table, &mut sums,
-    )
+    mark_joints(paper, locations, marked, &mut table, &mut sums)
 }

@@ -12,29 +12,29 @@ use Rattle.certificates.proofs.certificate.mark_rest.Goals as goal
 -- all obligations, and how their marking was told
 module _ (c : After-mark_obligations) where
   abbrev all : List Obligation
-  all = obligations_for c.args.model.now c.args.index.now c.args.second.now c.args.regions.now c.args.locations
+  all = obligations_for c.args.paper.model.now c.args.paper.index.now c.args.paper.second.now c.args.paper.regions.now c.args.locations
 
-  told : stands_at c.mark_obligations.result ≡ mark_proofs all c.args.second.now c.args.at 0
+  told : stands_at c.mark_obligations.result ≡ mark_proofs all c.args.paper.second.now c.args.at 0
   told = c.mark_obligations.ensures
 
 pub stop_certificate-requires-clause-place_bound : goal.stop_certificate-requires-clause-place_bound
 stop_certificate-requires-clause-place_bound c =
     let k = (goal.at.stop_certificate-requires-clause-place_bound c).After-mark_obligations in
     let p = c.requires in
-    let within = stopped-within (all k) c.args.second.now c.args.at p.at_in_bounds (told k) c.in-Err.is in
+    let within = stopped-within (all k) c.args.paper.second.now c.args.at p.at_in_bounds (told k) c.in-Err.is in
     (omega (arith, within.0, p.good_paper.brief), omega (arith, within.1, obligations-few p.good_paper c.args.locations p.locations_value.0 p.locations_value.1))
 
 pub returns-in-Err : goal.returns-in-Err
 returns-in-Err c =
     let k = (goal.at.returns-in-Err c).After-mark_obligations in
-    c.stop_certificate.ensures ∙ rest-stops (all k) c.args.second.now c.args.at c.requires.at_in_bounds (told k) c.in-Err.is
+    c.stop_certificate.ensures ∙ rest-stops (all k) c.args.paper.second.now c.args.at c.requires.at_in_bounds (told k) c.in-Err.is
 
 pub end_certificate-requires : goal.end_certificate-requires
 end_certificate-requires c =
     let k = (goal.at.end_certificate-requires c).After-mark_obligations in
-    (c.requires.good_paper.brief, (passed-within (all k) c.args.second.now c.args.at c.requires.at_in_bounds (told k) c.in-Ok.is).0)
+    (c.requires.good_paper.brief, (passed-within (all k) c.args.paper.second.now c.args.at c.requires.at_in_bounds (told k) c.in-Ok.is).0)
 
 pub returns-in-Ok : goal.returns-in-Ok
 returns-in-Ok c =
     let k = (goal.at.returns-in-Ok c).After-mark_obligations in
-    c.end_certificate.ensures ∙ rest-passes (all k) c.args.second.now c.args.at c.requires.at_in_bounds (told k) c.in-Ok.is
+    c.end_certificate.ensures ∙ rest-passes (all k) c.args.paper.second.now c.args.at c.requires.at_in_bounds (told k) c.in-Ok.is

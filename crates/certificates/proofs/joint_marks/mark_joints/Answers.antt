@@ -12,8 +12,8 @@ use Rattle.certificates.proofs.joint_marks.mark_joints.Goals.{Start}
 use Rattle.certificates.proofs.joint_marks.mark_joints.Goals as goal
 
 -- the joint switches of all locations are all joint switches
-whole : (s : Start) → marked_from (joined_on (leaving_tasks s.args.model.now s.args.index.now s.args.second.now s.args.regions.now) s.args.locations 0) s.args.second.now s.args.from ≡ marked_from (joint_tasks_for s.args.model.now s.args.index.now s.args.second.now s.args.regions.now (joints (components_from s.args.model.now s.args.index.now))) s.args.second.now s.args.from
-whole s = ap (λ (ts : List Task). marked_from ts s.args.second.now s.args.from) (sym (joints-left _ _ _ _ _ s.requires.locations_value.0))
+whole : (s : Start) → marked_from (joined_on (leaving_tasks s.args.paper.model.now s.args.paper.index.now s.args.paper.second.now s.args.paper.regions.now) s.args.locations 0) s.args.paper.second.now s.args.from ≡ marked_from (joint_tasks_for s.args.paper.model.now s.args.paper.index.now s.args.paper.second.now s.args.paper.regions.now (joints (components_from s.args.paper.model.now s.args.paper.index.now))) s.args.paper.second.now s.args.from
+whole s = ap (λ (ts : List Task). marked_from ts s.args.paper.second.now s.args.from) (sym (joints-left _ _ _ _ _ s.requires.locations_value.0))
 
 pub loop-location-init : goal.loop-location-init
 loop-location-init c =

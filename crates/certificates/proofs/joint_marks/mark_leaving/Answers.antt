@@ -15,17 +15,17 @@ use Rattle.certificates.proofs.joint_marks.mark_leaving.Goals.{After-modes_at-mo
 use Rattle.certificates.proofs.joint_marks.mark_leaving.Goals as goal
 
 -- the events together are what leaves the location
-whole : (s : Start) → marked_from (joined_on (λ e. joint_tasks_for s.args.model.now s.args.index.now s.args.second.now s.args.regions.now (joints_of (components_from s.args.model.now s.args.index.now) s.args.location e)) 16 0) s.args.second.now s.args.from ≡ marked_from (leaving_tasks s.args.model.now s.args.index.now s.args.second.now s.args.regions.now s.args.location) s.args.second.now s.args.from
+whole : (s : Start) → marked_from (joined_on (λ e. joint_tasks_for s.args.paper.model.now s.args.paper.index.now s.args.paper.second.now s.args.paper.regions.now (joints_of (components_from s.args.paper.model.now s.args.paper.index.now) s.args.location e)) 16 0) s.args.paper.second.now s.args.from ≡ marked_from (leaving_tasks s.args.paper.model.now s.args.paper.index.now s.args.paper.second.now s.args.paper.regions.now s.args.location) s.args.paper.second.now s.args.from
 unfolding leaving_tasks
-whole s = ap (λ (ts : List Task). marked_from ts s.args.second.now s.args.from) (joined-whole _ 16)
+whole s = ap (λ (ts : List Task). marked_from ts s.args.paper.second.now s.args.from) (joined-whole _ 16)
 
 pub modes_at-modes-requires : goal.modes_at-modes-requires
 modes_at-modes-requires c = record { good_index = c.requires.good_paper.good; location_bound = c.requires.location_bound.0 }
 
 -- the location and its modes
-stands : (c : After-modes_at-modes) → Stands c.args.model.now c.args.index.now c.args.location c.modes_at-modes.result
+stands : (c : After-modes_at-modes) → Stands c.args.paper.model.now c.args.paper.index.now c.args.location c.modes_at-modes.result
 stands c =
-    stands_at_lem c.args.model.now c.args.index.now c.args.location c.modes_at-modes.result _ c.requires.good_paper.good c.requires.location_bound.0 c.modes_at-modes.ensures
+    stands_at_lem c.args.paper.model.now c.args.paper.index.now c.args.location c.modes_at-modes.result _ c.requires.good_paper.good c.requires.location_bound.0 c.modes_at-modes.ensures
 
 pub push_here-here-requires-clause-location_bound : goal.push_here-here-requires-clause-location_bound
 push_here-here-requires-clause-location_bound c =
@@ -36,8 +36,8 @@ loop-e-init c =
     let a = c.args in
     let k = c.push_here-here in
     let same = stands (goal.at.loop-e-init c).After-modes_at-modes in
-    let ready : Ready a.model.now a.index.now a.second.now a.regions.now (record { location = a.location; modes = c.modes_at-modes.result; here = k.result; marking = a.from }) k.new.table a.sums.now =
-    record { long = omega (arith, k.auto.table, c.requires.in_bounds.0); here = record { below = c.requires.location_bound.0; few = k.ensures.onto.few; stacked = k.ensures.onto.stacked; told = lines_start (pushed (k.ensures.result_after, k.ensures.onto)) ∙ ap (here_lines a.index.now a.regions.now a.location) same.here }; underway = c.requires.location_bound.1.0; fresh = c.requires.location_bound.1.1 } in
+    let ready : Ready a.paper.model.now a.paper.index.now a.paper.second.now a.paper.regions.now (record { location = a.location; modes = c.modes_at-modes.result; here = k.result; marking = a.from }) k.new.table a.sums.now =
+    record { long = omega (arith, k.auto.table, c.requires.in_bounds.0); here = record { below = c.requires.location_bound.0; few = k.ensures.onto.few; stacked = k.ensures.onto.stacked; told = lines_start (pushed (k.ensures.result_after, k.ensures.onto)) ∙ ap (here_lines a.paper.index.now a.paper.regions.now a.location) same.here }; underway = c.requires.location_bound.1.0; fresh = c.requires.location_bound.1.1 } in
     (omega arith, (ready, (refl, refl)))
 
 pub mark_event-requires-clause-stands : goal.mark_event-requires-clause-stands

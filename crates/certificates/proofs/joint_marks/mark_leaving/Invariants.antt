@@ -14,8 +14,8 @@ use Rattle.certificates.proofs.joint_marks.mark_leaving.Given as goal
 abbrev pub invariant-loop-e : goal.invariant-loop-e
 invariant-loop-e l =
     let at : Leaving = record { location = l.location; modes = l.modes; here = l.here; marking = l.marking } in
-    let events : ℕ → List Task = (λ e. joint_tasks_for l.model l.index l.second l.regions (joints_of (components_from l.model l.index) l.location e)) in
+    let events : ℕ → List Task = (λ e. joint_tasks_for l.paper.model.now l.paper.index.now l.paper.second.now l.paper.regions.now (joints_of (components_from l.paper.model.now l.paper.index.now) l.location e)) in
     (l.e ≤ 16)
-    × (Ready l.model l.index l.second l.regions at l.table l.sums
+    × (Ready l.paper.model.now l.paper.index.now l.paper.second.now l.paper.regions.now at l.table l.sums
     × ((length l.table ≡ length l.initial.table)
-    × Comes l.second (mark_tasks (joined_on events 16 0) l.second l.initial.marking.place l.initial.marking.done) (joined_on events 16 l.e) l.marking.place l.marking.done))
+    × Comes l.paper.second.now (mark_tasks (joined_on events 16 0) l.paper.second.now l.initial.marking.place l.initial.marking.done) (joined_on events 16 l.e) l.marking.place l.marking.done))

@@ -18,10 +18,10 @@ region_rows-requires c = (search rules, omega (arith, c.requires.target_bound.0,
 pub returns-then-region_rows-eq0-clause-value : goal.returns-then-region_rows-eq0-clause-value
 returns-then-region_rows-eq0-clause-value c =
     let a = c.args in
-    let model = a.model.now in
-    let index = a.index.now in
-    let second = a.second.now in
-    let regions = a.regions.now in
+    let model = a.paper.model.now in
+    let index = a.paper.index.now in
+    let second = a.paper.second.now in
+    let regions = a.paper.regions.now in
     marked-none second a.from.marking (no-rows-jump model index second regions a.from.location a.landing.target (per_component index a.landing.switches) c.requires.target_bound.0 (sym c.region_rows.ensures ∙ c.if-region_rows-eq0.true))
 
 pub returns-then-region_rows-eq0-clause-fresh : goal.returns-then-region_rows-eq0-clause-fresh
@@ -46,4 +46,4 @@ pub returns-clause-value : goal.returns-clause-value
 unfolding entry
 returns-clause-value c =
     c.mark_group.ensures.value
-    ∙ ap (λ (ts : List Task). marked_from ts c.args.second.now c.args.from.marking) c.jump_group-group.ensures.result_after
+    ∙ ap (λ (ts : List Task). marked_from ts c.args.paper.second.now c.args.from.marking) c.jump_group-group.ensures.result_after

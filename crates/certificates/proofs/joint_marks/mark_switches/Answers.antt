@@ -21,16 +21,16 @@ use Rattle.certificates.proofs.JointMarks.{jumps_left, jumps-start, jumps-end, l
 use Rattle.certificates.proofs.joint_marks.mark_switches.Goals.{After-landing_at-landing, Start}
 use Rattle.certificates.proofs.joint_marks.mark_switches.Goals as goal
 
-ready : (s : Start) → Ready s.args.model.now s.args.index.now s.args.second.now s.args.regions.now s.args.listing.from s.args.table.now s.args.sums.now
+ready : (s : Start) → Ready s.args.paper.model.now s.args.paper.index.now s.args.paper.second.now s.args.paper.regions.now s.args.listing.from s.args.table.now s.args.sums.now
 ready s = s.requires.ready
 
 -- how many joint switches there are
-all : (s : Start) → s.args.listing.slot.count ≡ length (switches_of (components_from s.args.model.now s.args.index.now) (modes_at (components_from s.args.model.now s.args.index.now) s.args.listing.from.location) s.args.listing.slot.e)
+all : (s : Start) → s.args.listing.slot.count ≡ length (switches_of (components_from s.args.paper.model.now s.args.paper.index.now) (modes_at (components_from s.args.paper.model.now s.args.paper.index.now) s.args.listing.from.location) s.args.listing.slot.e)
 all s = landed-count s.requires.good_paper.good s.requires.stands.0 s.requires.stands.1.1 s.requires.stands.1.0
 
 -- they are those of the event
-event : (s : Start) → marked_from (jumps_left s.args.model.now s.args.index.now (regions_of s.args.model.now s.args.index.now s.args.second.now s.args.regions.now) s.args.listing.from.location s.args.listing.slot.e 0) s.args.second.now s.args.listing.from.marking ≡ marked_from (joint_tasks_for s.args.model.now s.args.index.now s.args.second.now s.args.regions.now (joints_of (components_from s.args.model.now s.args.index.now) s.args.listing.from.location s.args.listing.slot.e)) s.args.second.now s.args.listing.from.marking
-event s = ap (λ (ts : List Task). marked_from ts s.args.second.now s.args.listing.from.marking) (sym (jumps-start _ _ _ _ _))
+event : (s : Start) → marked_from (jumps_left s.args.paper.model.now s.args.paper.index.now (regions_of s.args.paper.model.now s.args.paper.index.now s.args.paper.second.now s.args.paper.regions.now) s.args.listing.from.location s.args.listing.slot.e 0) s.args.paper.second.now s.args.listing.from.marking ≡ marked_from (joint_tasks_for s.args.paper.model.now s.args.paper.index.now s.args.paper.second.now s.args.paper.regions.now (joints_of (components_from s.args.paper.model.now s.args.paper.index.now) s.args.listing.from.location s.args.listing.slot.e)) s.args.paper.second.now s.args.listing.from.marking
+event s = ap (λ (ts : List Task). marked_from ts s.args.paper.second.now s.args.listing.from.marking) (sym (jumps-start _ _ _ _ _))
 
 pub loop-x-init : goal.loop-x-init
 loop-x-init c =
@@ -42,10 +42,10 @@ landing_at-landing-requires c = (c.requires.stands.1.0.ready, c.loop-x-test.true
 -- the joint switch that a turn finds
 module _ (c : After-landing_at-landing) where
   abbrev model : List ℕ
-  model = c.args.model.now
+  model = c.args.paper.model.now
 
   abbrev index : List ℕ
-  index = c.args.index.now
+  index = c.args.paper.index.now
 
   abbrev at : Leaving
   at = c.args.listing.from
@@ -66,12 +66,12 @@ module _ (c : After-landing_at-landing) where
   below = landed-below c.requires.good_paper.good c.requires.stands.0 c.requires.stands.1.1 c.requires.stands.1.0 x short c.landing_at-landing.ensures
 
   abbrev region_at : ℕ → Condition
-  region_at = regions_of model index c.args.second.now c.args.regions.now
+  region_at = regions_of model index c.args.paper.second.now c.args.paper.regions.now
 
   abbrev mine : List Task
   mine = jump_tasks (model_from model index) region_at at.location (per_component index c.landing_at-landing.result.switches) c.landing_at-landing.result.target
 
-  come : Comes c.args.second.now (mark_tasks (jumps_left model index region_at at.location e 0) c.args.second.now at.marking.place at.marking.done) (mine ++ jumps_left model index region_at at.location e (x + 1)) c.loop-x.marking.place c.loop-x.marking.done
+  come : Comes c.args.paper.second.now (mark_tasks (jumps_left model index region_at at.location e 0) c.args.paper.second.now at.marking.place at.marking.done) (mine ++ jumps_left model index region_at at.location e (x + 1)) c.loop-x.marking.place c.loop-x.marking.done
   come = comes-same _ _ _ _ (landing-next c.requires.good_paper.good c.requires.stands.0 c.requires.stands.1.1 c.requires.stands.1.0 x short c.landing_at-landing.ensures region_at) c.loop-x.invariant.1.1.1.1
 
 pub mark_switch-requires-clause-target_bound : goal.mark_switch-requires-clause-target_bound

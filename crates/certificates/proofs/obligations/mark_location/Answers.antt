@@ -14,13 +14,13 @@ use Rattle.certificates.proofs.obligations.mark_location.Goals.{After-mark_group
 use Rattle.certificates.proofs.obligations.mark_location.Goals as goal
 
 -- the groups from the first on are the location
-whole : (s : Start) → marked_from (groups_left s.args.model.now s.args.index.now s.args.second.now s.args.regions.now s.args.location (entry s.args.index.now 2 + 2) 0) s.args.second.now s.args.from ≡ marked_from (location_tasks_for s.args.model.now s.args.index.now s.args.second.now s.args.regions.now s.args.location) s.args.second.now s.args.from
-whole s = ap (λ (ts : List Task). marked_from ts s.args.second.now s.args.from) (sym (location-groups s.args.model.now s.args.index.now s.args.second.now s.args.regions.now s.args.location (entry s.args.index.now 2 + 2) refl))
+whole : (s : Start) → marked_from (groups_left s.args.paper.model.now s.args.paper.index.now s.args.paper.second.now s.args.paper.regions.now s.args.location (entry s.args.paper.index.now 2 + 2) 0) s.args.paper.second.now s.args.from ≡ marked_from (location_tasks_for s.args.paper.model.now s.args.paper.index.now s.args.paper.second.now s.args.paper.regions.now s.args.location) s.args.paper.second.now s.args.from
+whole s = ap (λ (ts : List Task). marked_from ts s.args.paper.second.now s.args.from) (sym (location-groups s.args.paper.model.now s.args.paper.index.now s.args.paper.second.now s.args.paper.regions.now s.args.location (entry s.args.paper.index.now 2 + 2) refl))
 
 -- a turn's part
-part : (c : After-mark_group) → stands_at c.mark_group.result ≡ marked_from (group_tasks_for c.args.model.now c.args.index.now c.args.second.now c.args.regions.now c.args.location c.loop-g.g) c.args.second.now c.loop-g.marking
+part : (c : After-mark_group) → stands_at c.mark_group.result ≡ marked_from (group_tasks_for c.args.paper.model.now c.args.paper.index.now c.args.paper.second.now c.args.paper.regions.now c.args.location c.loop-g.g) c.args.paper.second.now c.loop-g.marking
 unfolding entry
-part c = c.mark_group.ensures.value ∙ ap (λ (ts : List Task). marked_from ts c.args.second.now c.loop-g.marking) c.group_at-group.ensures.result_after
+part c = c.mark_group.ensures.value ∙ ap (λ (ts : List Task). marked_from ts c.args.paper.second.now c.loop-g.marking) c.group_at-group.ensures.result_after
 
 pub loop-g-init : goal.loop-g-init
 loop-g-init c =
@@ -56,8 +56,8 @@ unfolding entry
 loop-g-preserved-then-group-eq0 c =
     let k = c.group_at-group in
     let i = c.loop-g.invariant.1 in
-    let none = sym k.ensures.result_after ∙ tasks-none c.args.model.now c.args.second.now _ k.new.table k.result c.if-group-eq0.true in
-    (omega (arith, c.loop-g-test.true), goes_on _ _ _ c.loop-g-test.true i (marked-none c.args.second.now c.loop-g.marking none) refl (stacked-less 0 (omega arith) k.ensures.good_group.stacked) i.fresh k.auto.table)
+    let none = sym k.ensures.result_after ∙ tasks-none c.args.paper.model.now c.args.paper.second.now _ k.new.table k.result c.if-group-eq0.true in
+    (omega (arith, c.loop-g-test.true), goes_on _ _ _ c.loop-g-test.true i (marked-none c.args.paper.second.now c.loop-g.marking none) refl (stacked-less 0 (omega arith) k.ensures.good_group.stacked) i.fresh k.auto.table)
 
 pub loop-g-preserved : goal.loop-g-preserved
 unfolding entry

@@ -9,8 +9,8 @@ use Rattle.certificates.proofs.obligations.mark_locations.Goals.{Start}
 use Rattle.certificates.proofs.obligations.mark_locations.Goals as goal
 
 -- the locations from the first on are all
-whole : (s : Start) → mark_tasks (joined_on (location_tasks_for s.args.model.now s.args.index.now s.args.second.now s.args.regions.now) s.args.locations 0) s.args.second.now s.args.at 0 ≡ mark_tasks (join_all (location_tasks_for s.args.model.now s.args.index.now s.args.second.now s.args.regions.now) (count_up 0 s.args.locations)) s.args.second.now s.args.at 0
-whole s = ap (λ (ts : List Task). mark_tasks ts s.args.second.now s.args.at 0) (joined-whole _ s.args.locations)
+whole : (s : Start) → mark_tasks (joined_on (location_tasks_for s.args.paper.model.now s.args.paper.index.now s.args.paper.second.now s.args.paper.regions.now) s.args.locations 0) s.args.paper.second.now s.args.at 0 ≡ mark_tasks (join_all (location_tasks_for s.args.paper.model.now s.args.paper.index.now s.args.paper.second.now s.args.paper.regions.now) (count_up 0 s.args.locations)) s.args.paper.second.now s.args.at 0
+whole s = ap (λ (ts : List Task). mark_tasks ts s.args.paper.second.now s.args.at 0) (joined-whole _ s.args.locations)
 
 pub loop-location-init : goal.loop-location-init
 loop-location-init c =

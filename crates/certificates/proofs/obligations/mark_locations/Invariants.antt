@@ -8,4 +8,4 @@ use Rattle.certificates.proofs.obligations.mark_locations.Given as goal
 abbrev pub invariant-loop-location : goal.invariant-loop-location
 invariant-loop-location l =
     (l.location ≤ l.locations)
-    × Going l.second l.table l.sums (length l.initial.table) (mark_tasks (joined_on (location_tasks_for l.model l.index l.second l.regions) l.locations 0) l.second l.at 0) (joined_on (location_tasks_for l.model l.index l.second l.regions) l.locations l.location) l.marking
+    × Going l.paper.second.now l.table l.sums (length l.initial.table) (mark_tasks (joined_on (location_tasks_for l.paper.model.now l.paper.index.now l.paper.second.now l.paper.regions.now) l.locations 0) l.paper.second.now l.at 0) (joined_on (location_tasks_for l.paper.model.now l.paper.index.now l.paper.second.now l.paper.regions.now) l.locations l.location) l.marking

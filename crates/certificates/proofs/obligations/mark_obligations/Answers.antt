@@ -20,19 +20,19 @@ use Rattle.certificates.proofs.obligations.mark_obligations.Goals as goal
 
 -- marking begins with nothing proved, and what it has to do is the locations' part and the rest
 module _ (s : Start) where
-  begins : Underway s.args.second.now (record { place = s.args.at; done = 0 })
+  begins : Underway s.args.paper.second.now (record { place = s.args.at; done = 0 })
   begins = record { within = s.requires.locations_value.1; few = omega arith }
 
   abbrev first : List Task
-  first = join_all (location_tasks (model_from s.args.model.now s.args.index.now) (regions_of s.args.model.now s.args.index.now s.args.second.now s.args.regions.now)) (count_up 0 s.args.locations)
+  first = join_all (location_tasks (model_from s.args.paper.model.now s.args.paper.index.now) (regions_of s.args.paper.model.now s.args.paper.index.now s.args.paper.second.now s.args.paper.regions.now)) (count_up 0 s.args.locations)
 
   abbrev rest : List Task
-  rest = joint_tasks_for s.args.model.now s.args.index.now s.args.second.now s.args.regions.now (joints (components_from s.args.model.now s.args.index.now))
+  rest = joint_tasks_for s.args.paper.model.now s.args.paper.index.now s.args.paper.second.now s.args.paper.regions.now (joints (components_from s.args.paper.model.now s.args.paper.index.now))
 
   abbrev whole : Marked (Unit {0})
-  whole = mark_proofs (obligations_for s.args.model.now s.args.index.now s.args.second.now s.args.regions.now s.args.locations) s.args.second.now s.args.at 0
+  whole = mark_proofs (obligations_for s.args.paper.model.now s.args.paper.index.now s.args.paper.second.now s.args.paper.regions.now s.args.locations) s.args.paper.second.now s.args.at 0
 
-  all : Comes s.args.second.now whole (first ++ rest) s.args.at 0
+  all : Comes s.args.paper.second.now whole (first ++ rest) s.args.at 0
   all = all_come _ _ _ _ _ _ s.requires.locations_value.0
 
 -- once the locations' proofs have passed, the rest comes
@@ -43,7 +43,7 @@ module _ (c : In_ok-marked) where
   abbrev s : Start
   s = (goal.at.In_ok-marked c).Start
 
-  rest-comes : Comes s.args.second.now (whole s) (rest s) k.place k.done
+  rest-comes : Comes s.args.paper.second.now (whole s) (rest s) k.place k.done
   rest-comes = part-on (first s) (begins s) c.mark_locations.ensures.value (rest s) (all s) c.in_ok-marked.was
 
   over : rest s ≡ [] → stands_at (Ok k) ≡ whole s
@@ -59,10 +59,10 @@ returns-in_err-marked c =
     let same : c.from_residual.result ≡ Err c.in_err-marked.field-0.0 = search rules in
     part-stops _ (begins s) c.mark_locations.ensures.value _ (all s) c.in_err-marked.was same
 
-pub returns-then-index-eq0 : goal.returns-then-index-eq0
+pub returns-then-paper-eq0 : goal.returns-then-paper-eq0
 unfolding entry
-returns-then-index-eq0 c =
-    over (goal.at.returns-then-index-eq0 c).In_ok-marked (no-joints _ _ _ _ (sym c.requires.good_paper.counted.joined ∙ c.if-index-eq0.true))
+returns-then-paper-eq0 c =
+    over (goal.at.returns-then-paper-eq0 c).In_ok-marked (no-joints _ _ _ _ (sym c.requires.good_paper.counted.joined ∙ c.if-paper-eq0.true))
 
 pub returns-then-no_rows : goal.returns-then-no_rows
 returns-then-no_rows c =
