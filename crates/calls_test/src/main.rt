@@ -47,7 +47,10 @@ fn write_row(rt: &impl Print, read: Result<TypedRow, Unread>) -> io::Result<()> 
 
 // Writes the answer on a fair copy.
 fn write_answer(rt: &impl Print, answer: Answer) -> io::Result<()> {
-    print!(rt; ": {} {} {} {} {}", answer.number, answer.sheet, answer.place, answer.done, answer.score)
+    print!(rt;
+        ": {} {} {} {} {}",
+        answer.number, answer.sheet, answer.place, answer.done, answer.score
+    )
 }
 
 // Writes bytes one after the other, each as two digits to the base 16.

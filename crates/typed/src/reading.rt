@@ -70,6 +70,7 @@ pub fn number(text: &[u8], place: usize) -> Result<Worked, Fault>
     ensures { result ≡ whole_at text.now place }
 {
     let digits = read_digits(text, place);
+    // By the limit and not by `try_from`: the edit cap_one_too_low must refuse a number that can be typed.
     if NUMBER_LIMIT <= digits.value {
         return Err(Fault { place });
     }

@@ -1,5 +1,5 @@
 -- The numbers of the row, or those of the refusal, whose place fits. Assumes nothing.
-use mathlib.Core.Path.{◌≡◌, refl, sym, ap, ◌∙◌}
+use mathlib.Core.Path.{◌≡◌, sym, ap, ◌∙◌}
 use native.Mathlib.Omega.{arith}
 use borrow.Author.Rules.{rules}
 use lib.IntN.{pos}
@@ -10,7 +10,6 @@ use mir.Val.{SFits}
 use Rattle.typed.specs.Typed.{place_of}
 use Rattle.typed.proofs.TypedLaws.{place-within}
 use Rattle.rules.specs.Marking.{answer}
-use Rattle.entries.specs.declared.ReadRow.{ReadRow}
 use Rattle.entries.specs.ReadRow.{handed_back, read_row}
 use Rattle.entries.proofs.typed_rows.silfoddra_read_row.Goals as goal
 
