@@ -27,71 +27,62 @@ pub fn count_entering(s: &[u8], index: &Index, table: &mut [u8])
     count_switches(s, index, BY_MODE, table);
 }
 
-// An index, with its switches counted by the modes that they lead into and their labels, and the modes of a location.
-// Kept apart from `Labels` (totals): a line of indexing and an `if` are alike, and what they mean of a component is in each contract.
-#[derive(Clone, Copy)]
-struct Entering<'a> {
-    s: &'a [u8],
-    index: &'a Index,
-    table: &'a EnteringTable,
-    modes: [u8; 4],
-    ghost good: { GoodIndex s.now index.now },
-    ghost told: { ByMode s.now index.now table.now },
-    ghost counted: { Counted s.now index.now },
-    ghost modes_small: { SmallModes index.now modes },
+// How many switches of a component have this label and lead into this mode. No struct with methods as `Labels` of totals: with one the
+// marking of a certificate near all limits took 1 in 100 more instructions.
+fn entering_of(s: &[u8], index: &Index, table: &EnteringTable, k: usize, mode: u8, e: u32) -> u32
+    requires good_index { GoodIndex s.now index.now × ByMode s.now index.now table.now }
+    requires k_bound { (k < components_in index.now) × ((mode < 8) × (e ≤ 15)) }
+    ensures { result ≡ entering (component_at s.now index.now k) mode e }
+{
+    u32::from(table[128 * k + (16 * usize::from(mode) + e as usize)])
 }
 
-impl Entering<'_> {
-    // How many switches of a component have this label and lead into its mode.
-    fn entering(&self, k: usize, e: u32) -> u32
-        requires { (k < components_in self.now.index.now) × (e ≤ 15) }
-        ensures { result ≡ entering (component_at self.now.s.now self.now.index.now k) (get_or self.now.modes k 0) e }
-    {
-        let mode = usize::from(self.modes[k]);
-        u32::from(self.table[128 * k + (16 * mode + e as usize)])
+// In how many ways a component comes into a mode by an event: by its switches if it is in the scope, else in one, by staying.
+fn arrivals_of(s: &[u8], index: &Index, table: &EnteringTable, k: usize, mode: u8, e: u32) -> u32
+    requires good_index { GoodIndex s.now index.now × ByMode s.now index.now table.now }
+    requires k_bound { (k < components_in index.now) × ((mode < 8) × (e ≤ 15)) }
+    ensures { result ≡ arrivals (component_at s.now index.now k) mode e }
+{
+    if in_scope(s, index, k, e) {
+        entering_of(s, index, table, k, mode, e)
+    } else {
+        1
     }
+}
 
-    // In how many ways a component comes into its mode by an event: by its switches if it is in the scope, else in one, by staying.
-    fn arrivals(&self, k: usize, e: u32) -> u32
-        requires { (k < components_in self.now.index.now) × (e ≤ 15) }
-        ensures { result ≡ arrivals (component_at self.now.s.now self.now.index.now k) (get_or self.now.modes k 0) e }
-    {
-        if in_scope(self.s, self.index, k, e) {
-            self.entering(k, e)
-        } else {
-            1
-        }
+// Event 0: a sum over the components.
+fn silent_into(s: &[u8], index: &Index, table: &EnteringTable, modes: [u8; 4]) -> u32
+    requires good_index { GoodIndex s.now index.now × ByMode s.now index.now table.now }
+    requires small_modes { SmallModes index.now modes }
+    ensures { result ≡ silent_into (components_from s.now index.now) (per_component index.now modes) }
+{
+    let mut count: u32 = 0;
+    for k in (0..component_count(s, index)).rev() {
+        count = entering_of(s, index, table, k, modes[k], 0) + count;
     }
+    count
+}
 
-    // Event 0: a sum over the components.
-    fn silent(&self) -> u32
-        ensures { result ≡ silent_into (components_from self.now.s.now self.now.index.now) (per_component self.now.index.now self.now.modes) }
-    {
-        let mut count: u32 = 0;
-        for k in (0..component_count(self.s, self.index)).rev() {
-            count = self.entering(k, 0) + count;
-        }
-        count
-    }
+// In how many ways the components come into their modes by an event: a product over them.
+fn together_into(s: &[u8], index: &Index, table: &EnteringTable, modes: [u8; 4], e: u32) -> u32
+    requires good_index { GoodIndex s.now index.now × ByMode s.now index.now table.now }
+    requires small_modes { SmallModes index.now modes × (e ≤ 15) }
+    ensures { result ≡ together_into (components_from s.now index.now) (per_component index.now modes) e }
+{
+    product_over(s, index, |k| arrivals_of(s, index, table, k, modes[k], e))
+}
 
-    // In how many ways the components come into their modes by an event: a product over them.
-    fn together(&self, e: u32) -> u32
-        requires { e ≤ 15 }
-        ensures { result ≡ together_into (components_from self.now.s.now self.now.index.now) (per_component self.now.index.now self.now.modes) e }
-    {
-        product_over(self.s, self.index, |k| self.arrivals(k, e))
+// An event from 1: none where the event has no joint switch at all, as the index says.
+fn event_into(s: &[u8], index: &Index, table: &EnteringTable, modes: [u8; 4], e: u32) -> u32
+    requires good_index { GoodIndex s.now index.now × ByMode s.now index.now table.now }
+    requires counted { Counted s.now index.now × SmallModes index.now modes }
+    requires le_e { (1 ≤ e) × (e ≤ 15) }
+    ensures { result ≡ event_into (components_from s.now index.now) (per_component index.now modes) e }
+{
+    if index[FIRST_TOTAL + e as usize] == 0 {
+        return 0;
     }
-
-    // An event from 1: none where the event has no joint switch at all, as the index says.
-    fn event(&self, e: u32) -> u32
-        requires { (1 ≤ e) × (e ≤ 15) }
-        ensures { result ≡ event_into (components_from self.now.s.now self.now.index.now) (per_component self.now.index.now self.now.modes) e }
-    {
-        if self.index[FIRST_TOTAL + e as usize] == 0 {
-            return 0;
-        }
-        self.together(e)
-    }
+    together_into(s, index, table, modes, e)
 }
 
 // How many joint switches lead into a location with these modes.
@@ -100,15 +91,9 @@ pub fn joints_into(s: &[u8], index: &Index, table: &EnteringTable, modes: [u8; 4
     requires counted { Counted s.now index.now × SmallModes index.now modes }
     ensures { result ≡ joints_into (components_from s.now index.now) (per_component index.now modes) }
 {
-    let into = Entering {
-        s,
-        index,
-        table,
-        modes,
-    };
-    let mut count = into.silent();
+    let mut count = silent_into(s, index, table, modes);
     for e in 1..16 {
-        count += into.event(e);
+        count += event_into(s, index, table, modes, e);
     }
     count
 }

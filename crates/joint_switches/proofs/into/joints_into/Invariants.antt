@@ -6,4 +6,4 @@ use Rattle.models.specs.Counts.{per_component}
 use Rattle.joint_switches.proofs.into.joints_into.Given as goal
 
 abbrev pub invariant-loop-e : goal.invariant-loop-e
-invariant-loop-e l = l.count ≡ sum_over (event_into (components_from l.s l.index) (per_component l.index l.fn.modes)) (count_up 0 l.e)
+invariant-loop-e l = l.count ≡ sum_over (event_into (components_from l.s l.index) (per_component l.index l.modes)) (count_up 0 l.e)
