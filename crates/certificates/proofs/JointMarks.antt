@@ -40,7 +40,7 @@ use Rattle.certificates.specs.declared.Leaving.{Leaving}
 use Rattle.rules.proofs.ListFacts.{joined-twice, joined-alike, joined-told}
 use Rattle.hypotheses.proofs.GroupLaws.{row-tasks}
 use Rattle.certificates.proofs.MarkLaws.{mark-tasks, Goes, goes, parts-passed, parts-stopped}
-use Rattle.certificates.proofs.MarkLoops.{Comes, comes-same, comes-end}
+use Rattle.certificates.proofs.MarkLoops.{Comes, comes-same, comes-end, Going}
 
 -- one joint switch; its number and its event do not matter
 module _ (m : Model) (region_at : ℕ → Condition) where
@@ -135,22 +135,13 @@ module _ {s : List ℕ} {m : Marking} {r : Result Marking Failed} {whole : Marke
   pub turn-stops : {w : Failed} {x : Result Marking Failed} → r ≡ Err w → x ≡ Err w → stands_at x ≡ whole
   turn-stops = part-stops (f i) u told (joined_on f n (i + 1)) (comes-same s whole m.place m.done (joined-first f n i h) c)
 
--- where a loop over numbers stands whose turns each fill the table anew: what is left, marked from here, is the whole
-pub record Going (second table : List ℕ) (sums : List ℤ) (long : ℕ) (whole : Marked (Unit {0})) (left : List Task) (m : Marking) : Type 0 where
-  pub underway : Underway second m
-  pub fresh : Fresh sums
-  pub same : length table ≡ long
-  pub stacked : Stacked table 0
-  pub comes : Comes second whole left m.place m.done
-
--- and what a turn that was marked makes of it
-module _ {second table : List ℕ} {sums : List ℤ} {long : ℕ} {whole : Marked (Unit {0})} {m : Marking} {r : Result Marking Failed} (f : ℕ → List Task) (n i : ℕ) (h : i < n) (g : Going second table sums long whole (joined_on f n i) m) (told : stands_at r ≡ marked_from (f i) second m) where
-  pub goes_on : {k : Marking} {after : List ℕ} {left : List ℤ} → r ≡ Ok k → Stacked after 0 → Fresh left → length after ≡ length table → Going second after left long whole (joined_on f n (i + 1)) k
-  goes_on e stacked fresh same =
+-- what a turn that was marked makes of where a loop over numbers stands
+module _ {second table : List ℕ} {sums : List ℤ} {whole : Marked (Unit {0})} {m : Marking} {r : Result Marking Failed} (f : ℕ → List Task) (n i : ℕ) (h : i < n) (g : Going second table sums whole (joined_on f n i) m) (told : stands_at r ≡ marked_from (f i) second m) where
+  pub goes_on : {k : Marking} {after : List ℕ} {left : List ℤ} → r ≡ Ok k → Stacked after 0 → Fresh left → Going second after left whole (joined_on f n (i + 1)) k
+  goes_on e stacked fresh =
       record {
         underway = part-underway (f i) g.underway told e;
         fresh = fresh;
-        same = same ∙ g.same;
         stacked = stacked;
         comes = turn_on f n i h g.underway told g.comes e;
       }

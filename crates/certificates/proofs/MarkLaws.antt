@@ -8,7 +8,6 @@ use native.Mathlib.Omega.{arith}
 use lib.Dec.{leb}
 use lib.ListN.{length, get_or, drop, take, replicate, length-map, length-replicate}
 use borrow.Author.Tests.{leb-true}
-use Rattle.std.proofs.lemmas.List.{nil_from_length}
 use Rattle.farkas.specs.Rows.{Row, zero_row}
 use Rattle.farkas.specs.Farkas.{Proof, farkas_test}
 use Rattle.formats.specs.Reading.{Got, got, refused, ◌>>=◌, big_endian, give, field, u8, u32, must, within}
@@ -242,9 +241,6 @@ goals-length second n g = go g.zero refl
 pub tasks-length : (model second : List ℕ) (n : ℕ) (table : List ℕ) (g : Group) → length (tasks_of model second n table g) ≡ g.goals
 unfolding tasks_of tasks_from
 tasks-length model second n table g = length-map (goals_of second n g) _ ∙ goals-length second n g
-
-pub tasks-none : (model second : List ℕ) (n : ℕ) (table : List ℕ) (g : Group) → g.goals ≡ 0 → tasks_of model second n table g ≡ []
-tasks-none model second n table g e = nil_from_length (tasks_of model second n table g) (tasks-length model second n table g ∙ e)
 
 pub task-at : (model second : List ℕ) (n : ℕ) (table : List ℕ) (g : Group) (goal : ℕ) → goal < g.goals → get_or (tasks_of model second n table g) goal no_task ≡ record { rows = hypothesis_rows (hypotheses_from model second g.version n table g.segments); zero_k = g.zero; goal = get_or (goals_of second n g) goal zero_row }
 unfolding tasks_of tasks_from

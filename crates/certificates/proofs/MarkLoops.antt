@@ -1,10 +1,12 @@
--- The loops of marking: what is still to come from here, marked, is the whole. Assumes nothing.
+-- The loops of marking: what is still to come from here, marked, is the whole. Each level of loops puts what it has still to do in front
+-- of what the levels around it have. Assumes nothing.
 use mathlib.Core.Path.{◌≡◌, refl, sym, ap, ap₂, ◌∙◌}
 use mathlib.Core.Bool.{Bool, true, false}
-use mathlib.Core.List.{List, [], ◌∷◌, ◌++◌, map, map-append}
+use mathlib.Core.List.{List, [], ◌∷◌, ◌++◌, map, append_assoc, append-nil, map-append}
 use Prim.Native.Nat.{ℕ, zero, suc, ◌+◌, ◌-◌, ◌≤◌, ◌<◌}
 use native.Mathlib.Numerals.{add-one}
 use native.Mathlib.Omega.{arith}
+use lib.IntN.{ℤ}
 use lib.ListN.{length, get_or, drop, drop_of_length-le}
 use lib.Seq.{drop-cons}
 use Rattle.farkas.specs.Rows.{zero_row}
@@ -19,9 +21,12 @@ use Rattle.rules.specs.Runs.{modes_in, modes_fit}
 use Rattle.rules.specs.Obligations.{Obligation, clear_of_unsafe, unsafe_hypotheses, start_obligations, flow_obligations, unsafe_obligations, location_obligations}
 use Rattle.rules.specs.Marking.{Marked, passed, stopped}
 use Rattle.papers.specs.Paper.{held_next, regions_of}
+use Rattle.hypotheses.specs.Tables.{Stacked}
+use Rattle.certificates.specs.declared.Marking.{Marking}
+use Rattle.certificates.specs.Passed.{Underway, Fresh}
 use Rattle.hypotheses.specs.Listing.{Task, no_task, task_of, tasks, group_tasks, no_unsafe, location_tasks, mark_task, mark_tasks}
-use Rattle.papers.proofs.JoinedLaws.{joined_on}
-use Rattle.certificates.proofs.MarkLaws.{task-passed, task-failed}
+use Rattle.papers.proofs.JoinedLaws.{joined_on, joined-first, joined-none}
+use Rattle.certificates.proofs.MarkLaws.{task-passed, task-failed, task-advances}
 
 -- unsafe conditions, one by one
 module _ (m : Model) (region_at : ℕ → Condition) (location : ℕ) where
@@ -63,7 +68,10 @@ module _ (model index : List ℕ) (region_at : ℕ → Condition) (location : �
       none : (n : ℕ) → 0 + n ≤ n
       none n = omega arith
 
--- what the loop over a location's groups has still to do
+-- what is still to do
+abbrev pub locations_left : List ℕ → List ℕ → List ℕ → List ℕ → ℕ → ℕ → List Task
+locations_left model index second regions locations location = joined_on (location_tasks (model_from model index) (regions_of model index second regions)) locations location
+
 abbrev pub groups_left : List ℕ → List ℕ → List ℕ → List ℕ → ℕ → ℕ → ℕ → List Task
 groups_left model index second regions location groups g = joined_on (group_tasks (model_from model index) (regions_of model index second regions) location) groups g
 
@@ -87,7 +95,72 @@ module _ (s : List ℕ) (whole : Marked (Unit {0})) where
   unfolding mark_tasks
   comes-end left p d e c = comes-same p d e c
 
--- the goals of a group, one by one
+  -- the goals of a group, one by one, in front of the rest
+  module _ (part rest : List Task) (goal : ℕ) (h : goal < length part) where
+    here : drop goal part ++ rest ≡ get_or part goal no_task ∷ (drop (goal + 1) part ++ rest)
+    here =
+        ap (λ (ts : List Task). ts ++ rest) (drop-cons part goal no_task h)
+        ∙ ap (λ (i : ℕ). get_or part goal no_task ∷ (drop i part ++ rest)) (sym (add-one goal))
+
+    goal-comes : (p d q : ℕ) → held_next (mark_task (get_or part goal no_task) s p) ≡ got tt q → Comes (drop goal part ++ rest) p d → Comes (drop (goal + 1) part ++ rest) q (d + 1)
+    goal-comes p d q e c =
+        sym (task-passed (get_or part goal no_task) (drop (goal + 1) part ++ rest) s p d q e)
+        ∙ comes-same p d here c
+
+    pub goal-failed : (p d number at : ℕ) → held_next (mark_task (get_or part goal no_task) s p) ≡ refused number at → Comes (drop goal part ++ rest) p d → stopped number at d ≡ whole
+    goal-failed p d number at e c =
+        sym (task-failed (get_or part goal no_task) (drop (goal + 1) part ++ rest) s p d number at e)
+        ∙ comes-same p d here c
+
+-- where a loop stands whose turns each fill the table anew: what is left, marked from here, is the whole
+pub record Going (second table : List ℕ) (sums : List ℤ) (whole : Marked (Unit {0})) (left : List Task) (m : Marking) : Type 0 where
+  pub underway : Underway second m
+  pub fresh : Fresh sums
+  pub stacked : Stacked table 0
+  pub comes : Comes second whole left m.place m.done
+
+-- one level of nested loops: a part is put in front of the rest, and left when it is done
+module _ {second table : List ℕ} {sums : List ℤ} {whole : Marked (Unit {0})} {m : Marking} where
+  going-as : {after : List ℕ} {xs ys : List Task} → xs ≡ ys → Stacked after 0 → Going second table sums whole xs m → Going second after sums whole ys m
+  going-as e stacked g =
+      record { underway = g.underway; fresh = g.fresh; stacked = stacked; comes = comes-same second whole m.place m.done e g.comes }
+
+  -- the groups of the next location
+  pub location-in : (model index regions : List ℕ) (locations location groups : ℕ) → location < locations → groups ≡ entry index 2 + 2 → Going second table sums whole (locations_left model index second regions locations location) m → Going second table sums whole (groups_left model index second regions location groups 0 ++ locations_left model index second regions locations (location + 1)) m
+  location-in model index regions locations location groups h e g =
+      going-as
+      (joined-first _ locations location h
+      ∙ ap (λ (ts : List Task). ts ++ locations_left model index second regions locations (location + 1)) (location-groups model index second regions location groups e))
+      g.stacked
+      g
+
+  -- the first of what a loop over numbers has to do, opened, as the table now tells it
+  pub comes-in : (f : ℕ → List Task) (n i : ℕ) {part : List Task} (rest : List Task) {after : List ℕ} → i < n → part ≡ f i → Stacked after 0 → Going second table sums whole (joined_on f n i ++ rest) m → Going second after sums whole (part ++ (joined_on f n (i + 1) ++ rest)) m
+  comes-in f n i rest h e =
+      going-as
+      (ap (λ (ts : List Task). ts ++ rest) (joined-first f n i h)
+      ∙ append_assoc (f i) (joined_on f n (i + 1)) rest
+      ∙ ap (λ (ts : List Task). ts ++ (joined_on f n (i + 1) ++ rest)) (sym e))
+
+  pub comes-out : (f : ℕ → List Task) (n i : ℕ) (rest : List Task) → n ≤ i → Going second table sums whole (joined_on f n i ++ rest) m → Going second table sums whole rest m
+  comes-out f n i rest h g =
+      going-as (ap (λ (ts : List Task). ts ++ rest) (joined-none f n i h)) g.stacked g
+
+  pub goals-out : (part rest : List Task) (goal : ℕ) → length part ≤ goal → Going second table sums whole (drop goal part ++ rest) m → Going second table sums whole rest m
+  goals-out part rest goal h g =
+      going-as (ap (λ (ts : List Task). ts ++ rest) (drop_of_length-le part {i = goal} h)) g.stacked g
+
+  pub goal-passed : (part rest : List Task) (goal q : ℕ) {left : List ℤ} → goal < length part → held_next (mark_task (get_or part goal no_task) second m.place) ≡ got tt q → Fresh left → Going second table sums whole (drop goal part ++ rest) m → Going second table left whole (drop (goal + 1) part ++ rest) (record { place = q; done = m.done + 1 })
+  goal-passed part rest goal q h e fresh g =
+      let ends = task-advances (get_or part goal no_task) second m.place q e in
+      record {
+        underway = record { within = ends.1; few = omega (arith, ends.0, g.underway.few) };
+        fresh = fresh;
+        stacked = g.stacked;
+        comes = goal-comes second whole part rest goal h m.place m.done q e g.comes;
+      }
+
+-- the goals of a group that is marked alone
 pub goals-left : (s : List ℕ) (part : List Task) (p d : ℕ) → mark_tasks (drop 0 part) s p (d + 0) ≡ mark_tasks part s p d
 goals-left s part p d = ap (mark_tasks part s p) (none d)
   where
@@ -95,25 +168,22 @@ goals-left s part p d = ap (mark_tasks part s p) (none d)
     none d = omega arith
 
 module _ (s : List ℕ) (whole : Marked (Unit {0})) (part : List Task) where
+  alone : (ts : List Task) (p d : ℕ) → Comes s whole ts p d → Comes s whole (ts ++ []) p d
+  alone ts p d c = comes-same s whole p d (sym (append-nil ts)) c
+
   pub goals-over : (goal goals p d : ℕ) → length part ≡ goals → goal ≡ goals → Comes s whole (drop goal part) p (d + goal) → passed tt p (d + goals) ≡ whole
   goals-over goal goals p d all e c =
       ap (λ (n : ℕ). passed tt p (d + n)) (sym e)
       ∙ comes-end s whole (drop goal part) p (d + goal) (drop_of_length-le part {i = goal} (omega (arith, all, e))) c
 
   module _ (goal : ℕ) (h : goal < length part) where
-    here : drop goal part ≡ get_or part goal no_task ∷ drop (goal + 1) part
-    here = drop-cons part goal no_task h ∙ ap (λ (i : ℕ). get_or part goal no_task ∷ drop i part) (sym (add-one goal))
-
     pub goal-on : (p d q : ℕ) → held_next (mark_task (get_or part goal no_task) s p) ≡ got tt q → Comes s whole (drop goal part) p (d + goal) → Comes s whole (drop (goal + 1) part) q (d + (goal + 1))
     goal-on p d q e c =
         ap (mark_tasks (drop (goal + 1) part) s q) (more d goal)
-        ∙ sym (task-passed (get_or part goal no_task) (drop (goal + 1) part) s p (d + goal) q e)
-        ∙ comes-same s whole p (d + goal) here c
+        ∙ comes-same s whole q (d + goal + 1) (append-nil (drop (goal + 1) part)) (goal-comes s whole part [] goal h p (d + goal) q e (alone (drop goal part) p (d + goal) c))
       where
         more : (d goal : ℕ) → d + (goal + 1) ≡ d + goal + 1
         more d goal = omega arith
 
     pub goal-stops : (p d number at : ℕ) → held_next (mark_task (get_or part goal no_task) s p) ≡ refused number at → Comes s whole (drop goal part) p d → stopped number at d ≡ whole
-    goal-stops p d number at e c =
-        sym (task-failed (get_or part goal no_task) (drop (goal + 1) part) s p d number at e)
-        ∙ comes-same s whole p d here c
+    goal-stops p d number at e c = goal-failed s whole part [] goal h p d number at e (alone (drop goal part) p d c)

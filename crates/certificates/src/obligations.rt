@@ -1,18 +1,20 @@
 // The proofs of a certificate, one per obligation, read and tested in order up to the first that fails.
-ghost use Rattle.std.specs.Prelude.{OnOk, ◌≡◌, ◌+◌, ◌*◌, ◌≤◌, ◌<◌, length};
+ghost use Rattle.std.specs.Prelude.{OnOk, ◌≡◌, ◌+◌, ◌*◌, ◌≤◌, ◌<◌, length, get_or};
 ghost use Rattle.formats.specs.Versions.{row_bytes};
 ghost use Rattle.farkas.specs.Lists.{every};
 ghost use Rattle.formats.specs.Locations.{location_count};
 ghost use Rattle.formats.specs.Joint.{count_up, join_all};
 ghost use Rattle.models.specs.Index.{components_from};
 ghost use Rattle.rules.specs.Marking.{mark_proofs};
-ghost use Rattle.papers.specs.Paper.{PaperRead, of_paper, on_paper, obligations_for};
+ghost use Rattle.papers.specs.Paper.{PaperRead, of_paper, held_next, obligations_for};
+ghost use Rattle.fields.specs.Answers.{got_as};
 ghost use Rattle.hypotheses.specs.Tables.{Stacked};
-ghost use Rattle.hypotheses.specs.Listing.{GoodGroup, tasks_of, mark_tasks, location_tasks_for};
+ghost use Rattle.hypotheses.specs.Listing.{GoodGroup, no_task, tasks_of, mark_task, mark_tasks, location_tasks_for};
 ghost use Rattle.certificates.specs.Passed.{stands_at, marked_from, goal_place, rowless, Fresh, Underway};
 
 use crate::joint_marks::mark_joints;
 use crate::{Failed, Marking};
+use fields::Next;
 use fields::versions::rows_bytes;
 use hypotheses::Group;
 use hypotheses::groups::group_at;
@@ -32,6 +34,36 @@ fn goal_place(group: Group, n: usize, goal: u32) -> usize
     group.from + rows_bytes(group.version, n, goal as usize)
 }
 
+// The proof of a group's goal, by its number: read from a place on, and tested. The sums must be 0 before, and are 0 again where it passes.
+fn mark_goal(
+    model: &[u8],
+    second: &[u8],
+    n: usize,
+    table: &[u16],
+    group: Group,
+    goal: u32,
+    place: usize,
+    sums: &mut [i64],
+) -> Next
+    requires model_len_bound { (length model.now ≤ 32768) × ((length second.now ≤ 32768) × ((n ≤ 8) × (96 ≤ length table.now))) }
+    requires good_group { GoodGroup model.now second.now n table.now group × ((goal < group.goals) × Fresh sums.old) }
+    ensures value { got_as tt result ≡ held_next (mark_task (get_or (tasks_of model.now second.now n table.now group) goal no_task) second.now place) }
+    ensures fresh { OnOk result (Fresh sums.new) }
+{
+    let row = goal_place(group, n, goal);
+    let width = group.width;
+    mark_proof(
+        model,
+        second,
+        n,
+        table,
+        group,
+        row,
+        place,
+        &mut sums[..width],
+    )
+}
+
 // The proofs of a group's goals, from where marking stands, up to the first that fails. The sums must be 0 before, and are 0 again where
 // all have passed.
 pub fn mark_group(
@@ -49,21 +81,10 @@ pub fn mark_group(
     ensures fresh { OnOk result (Fresh sums.new) }
 {
     let goals = group.goals;
-    let width = group.width;
     let mut place = from.place;
     for goal in 0..goals {
-        let row = goal_place(group, n, goal);
         // A refusal goes on with what has passed: `map_err`, whose closure would hold the counter, is no plainer than two arms.
-        match mark_proof(
-            model,
-            second,
-            n,
-            table,
-            group,
-            row,
-            place,
-            &mut sums[..width],
-        ) {
+        match mark_goal(model, second, n, table, group, goal, place, sums) {
             Ok(next) => {
                 place = next;
             }
@@ -81,37 +102,8 @@ pub fn mark_group(
     })
 }
 
-// The proofs of a location, from where marking stands, up to the first that fails: those of its start, of its flow and of each unsafe
-// condition, and of each of these one for each row. Their table is built once for all rows.
-fn mark_location(
-    paper: Paper,
-    location: u32,
-    from: Marking,
-    table: &mut [u16],
-    sums: &mut [i64],
-) -> Result<Marking, Failed>
-    requires good_paper { PaperRead paper }
-    requires location_bound { (location < location_count (components_from paper.model.now paper.index.now)) × (Underway paper.second.now from × Fresh sums.old) }
-    requires in_bounds { (96 ≤ length table.old) × Stacked table.old 0 }
-    ensures value { stands_at result ≡ marked_from (of_paper location_tasks_for paper.entry location) paper.entry.second.now from }
-    ensures stacked { OnOk result (Stacked table.new 0 × Fresh sums.new) }
-{
-    let n = paper.index[VARIABLES_AT] as usize;
-    let groups = paper.index[CONDITIONS_AT] as u32 + 2;
-    let modes = modes_at(paper.model, paper.index, location);
-    let mut marking = from;
-    for g in 0..groups {
-        let group = group_at(paper, location, modes, g, table);
-        // An empty group would cost a call: counted, half as many instructions again for a paper.model without rows.
-        if group.goals == 0 {
-            continue;
-        }
-        marking = mark_group(paper.model, paper.second, n, table, group, marking, sums)?;
-    }
-    Ok(marking)
-}
-
-// The proofs of all locations, from a place on, up to the first that fails.
+// The proofs of all locations, from a place on, up to the first that fails: of each location those of its start, of its flow and of each
+// unsafe condition, and of each of these one for each row. Their table is built once for all rows.
 fn mark_locations(
     paper: Paper,
     locations: u32,
@@ -125,11 +117,38 @@ fn mark_locations(
     ensures value { stands_at result ≡ mark_tasks (join_all (of_paper location_tasks_for paper.entry) (count_up 0 locations)) paper.entry.second.now at 0 }
     ensures stacked { OnOk result (Stacked table.new 0 × Fresh sums.new) }
 {
-    let mut marking = Marking { place: at, done: 0 };
-    for location in 0..locations {
-        marking = mark_location(paper, location, marking, table, sums)?;
+    let n = paper.index[VARIABLES_AT] as usize;
+    let groups = paper.index[CONDITIONS_AT] as u32 + 2;
+    let mut place = at;
+    let mut done = 0;
+    // Document 01 asks for a labelled break here: the first proof that fails leaves all three loops.
+    'marking: {
+        for location in 0..locations {
+            let modes = modes_at(paper.model, paper.index, location);
+            for g in 0..groups {
+                let group = group_at(paper, location, modes, g, table);
+                for goal in 0..group.goals {
+                    match mark_goal(
+                        paper.model,
+                        paper.second,
+                        n,
+                        table,
+                        group,
+                        goal,
+                        place,
+                        sums,
+                    ) {
+                        Ok(next) => {
+                            place = next;
+                            done += 1;
+                        }
+                        Err(refusal) => break 'marking Err(Failed { refusal, done }),
+                    }
+                }
+            }
+        }
+        Ok(Marking { place, done })
     }
-    Ok(marking)
 }
 
 // Whether no region has a row.

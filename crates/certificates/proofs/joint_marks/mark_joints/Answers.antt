@@ -17,24 +17,24 @@ whole s = ap (λ (ts : List Task). marked_from ts s.args.paper.second.now s.args
 
 pub loop-location-init : goal.loop-location-init
 loop-location-init c =
-    (omega arith, record { underway = c.requires.locations_value.1.0; fresh = c.requires.locations_value.1.1; same = refl; stacked = c.requires.in_bounds.1; comes = refl })
+    record { underway = c.requires.locations_value.1.0; fresh = c.requires.locations_value.1.1; stacked = c.requires.in_bounds.1; comes = refl }
 
 pub mark_leaving-requires-clause-location_bound : goal.mark_leaving-requires-clause-location_bound
 mark_leaving-requires-clause-location_bound c =
-    let i = c.loop-location.invariant.1 in
+    let i = c.loop-location.invariant in
     (omega (arith, c.loop-location-test.true, c.requires.locations_value.0), (i.underway, i.fresh))
 
 pub returns-in_err-marking : goal.returns-in_err-marking
 returns-in_err-marking c =
     let same : c.from_residual.result ≡ Err c.in_err-marking.field-0.0 = search rules in
-    goes-wrong _ _ _ c.loop-location-test.true c.loop-location.invariant.1 c.mark_leaving.ensures.value c.in_err-marking.was same ∙ whole (goal.at.returns-in_err-marking c).Start
+    goes-wrong _ _ _ c.loop-location-test.true c.loop-location.invariant c.mark_leaving.ensures.value c.in_err-marking.was same ∙ whole (goal.at.returns-in_err-marking c).Start
 
 pub loop-location-preserved : goal.loop-location-preserved
 loop-location-preserved c =
     let k = c.mark_leaving in
     let again = c.in_ok-marking.ensures.stacked in
-    (omega (arith, c.loop-location-test.true), goes_on _ _ _ c.loop-location-test.true c.loop-location.invariant.1 k.ensures.value c.in_ok-marking.was again.0 again.1 k.auto.table)
+    goes_on _ _ _ c.loop-location-test.true c.loop-location.invariant k.ensures.value c.in_ok-marking.was again.0 again.1
 
 pub returns : goal.returns
 returns c =
-    marked-end _ _ (joined-none _ _ _ c.loop-location-test.false) c.loop-location.invariant.1.comes ∙ whole (goal.at.returns c).Start
+    marked-end _ _ (joined-none _ _ _ c.loop-location-test.false) c.loop-location.invariant.comes ∙ whole (goal.at.returns c).Start
