@@ -9,7 +9,7 @@ ghost use Rattle.hypotheses.specs.Listing.{kept_lines, mode_lines, switch_line, 
 
 use fields::versions::keeps_blanks;
 use models::layout::{COMPONENTS_AT, COUNT_AT, Index, VARIABLES_AT};
-use papers::blanks::{keeps, owner_stays};
+use papers::blanks::{kept_in_flow, kept_in_jump, owner_stays};
 use papers::opening::version_of;
 use papers::standing::{mode_place, switch_place};
 
@@ -165,7 +165,7 @@ pub fn push_staying(
     if !keeps_blanks(version_of(index)) {
         return push_those(n, |v| owner_stays(index, switches, v), table, at);
     }
-    push_those(n, |v| keeps(model, index, false, switches, v), table, at)
+    push_those(n, |v| kept_in_jump(model, index, switches, v), table, at)
 }
 
 // The two rows of every variable that keeps its value in a flow in these modes.
@@ -185,5 +185,5 @@ pub fn push_still(
         return at;
     }
     let n = usize::from(index[VARIABLES_AT]);
-    push_those(n, |v| keeps(model, index, true, modes, v), table, at)
+    push_those(n, |v| kept_in_flow(model, index, modes, v), table, at)
 }

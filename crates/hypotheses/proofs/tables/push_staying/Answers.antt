@@ -50,6 +50,7 @@ push_those-requires-2-clause-kept_called c =
     search rules
 
 pub returns-clause-result_after : goal.returns-clause-result_after
+unfolding keeps_at
 returns-clause-result_after c =
     let a = c.args in
     let index = a.index.now in

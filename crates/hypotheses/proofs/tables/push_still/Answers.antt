@@ -38,6 +38,7 @@ push_those-requires-clause-kept_called c =
     search rules
 
 pub returns-clause-result_after : goal.returns-clause-result_after
+unfolding keeps_at
 returns-clause-result_after c =
     let a = c.args in
     let test = keeps_at a.model.now a.index.now true a.modes in
