@@ -3,13 +3,13 @@ use mathlib.Core.Path.{◌≡◌, refl, sym, ap, ◌∙◌}
 use mathlib.Core.Bool.{Bool, true, false, ◌&&◌}
 use mathlib.Core.List.{List}
 use Prim.Native.Nat.{ℕ, ◌+◌, ◌*◌, ◌≤◌, ◌<◌, min}
-use native.Mathlib.Nat.{min-eq_left, min-eq_right}
+use native.Mathlib.Nat.{min-eq_right}
 use native.Mathlib.Omega.{arith}
-use lib.Dec.{leb, ltb, eqb}
-use lib.ListN.{length, get_or, take, drop, drop_of_length-le}
-use lib.Seq.{take_all, take-length, drop-length}
-use borrow.Author.Tests.{leb-true, leb-false, lt-ltb, le-ltb, le-leb, lt-leb, eqb-true, eqb-false}
+use lib.Dec.{ltb, eqb}
+use lib.ListN.{length, get_or, take, drop}
+use borrow.Author.Tests.{lt-ltb, le-ltb, le-leb, lt-leb, eqb-true, eqb-false}
 use Rattle.std.proofs.Common.{Option, Some, None, Bor, is_some, unwrap_or, option_map}
+use Rattle.std.proofs.lemmas.List.{take_min, drop_min}
 use Rattle.std.specs.Option.{option_eq}
 use Rattle.formats.specs.ModelSheet.{exam_limits}
 use Rattle.formats.proofs.FieldLaws.{two_at}
@@ -17,25 +17,6 @@ use Rattle.rules.specs.declared.Answer.{Answer}
 use Rattle.rules.specs.Marking.{mark_certificate, mark_run}
 use Rattle.rules.specs.Program.{Line, safe, unsafe, turned_down, first_length, first_sheet, second_sheet, refused_line, line_for, is_run, mark_line}
 use Rattle.marking.specs.Lines.{cut_at, sheets_line}
-
--- a part that would go past the end goes to the end
-take-cut : (n : ℕ) (s : List ℕ) → take (min n (length s)) s ≡ take n s
-take-cut n s = go (leb n (length s)) refl
-  where
-    go : (b : Bool) → leb n (length s) ≡ b → take (min n (length s)) s ≡ take n s
-    go true e = ap (λ (k : ℕ). take k s) (min-eq_left (leb-true n (length s) e))
-    go false e =
-        let h : length s ≤ n = omega (arith, leb-false n (length s) e) in
-        ap (λ (k : ℕ). take k s) (min-eq_right h) ∙ take-length s ∙ sym (take_all n s h)
-
-drop-cut : (n : ℕ) (s : List ℕ) → drop (min n (length s)) s ≡ drop n s
-drop-cut n s = go (leb n (length s)) refl
-  where
-    go : (b : Bool) → leb n (length s) ≡ b → drop (min n (length s)) s ≡ drop n s
-    go true e = ap (λ (k : ℕ). drop k s) (min-eq_left (leb-true n (length s) e))
-    go false e =
-        let h : length s ≤ n = omega (arith, leb-false n (length s) e) in
-        ap (λ (k : ℕ). drop k s) (min-eq_right h) ∙ drop-length s ∙ sym (drop_of_length-le s h)
 
 -- Where the input is cut
 module _ (s : List ℕ) where
@@ -63,7 +44,7 @@ module _ (s : List ℕ) where
   pub line-cut : length s ≤ 65536 → sheets_line (take (cut_at s) s) (drop (cut_at s) s) ≡ mark_line s
   unfolding mark_line sheets_line first_sheet second_sheet cut_at
   line-cut h =
-      (λ i. sheets_line (take-cut (first_length s) s i) (drop-cut (first_length s) s i))
+      (λ i. sheets_line (take_min (first_length s) s i) (drop_min (first_length s) s i))
       ∙ sym (ap (λ b. elim b as (λ _. Line) [ true ↦ sheets_line (first_sheet s) (second_sheet s) | false ↦ turned_down 1 0 0 0 0 ]) (le-leb (length s) 65536 h))
 
 -- Whether the element at a place is there and is this number, by what `get` gives

@@ -1,6 +1,6 @@
 // The line for any input: the input is cut into two sheets, and the second is marked as a run or as a certificate.
-ghost use Rattle.std.specs.Prelude.{◌≡◌, ◌<◌};
-ghost use Rattle.rules.specs.Program.{is_run, refused_line, mark_line};
+ghost use Rattle.std.specs.Prelude.{◌≡◌, ◌<◌, ◌≤◌, length};
+ghost use Rattle.rules.specs.Program.{is_run, refused_line, mark_line, printed, text_of};
 ghost use Rattle.marking.specs.Lines.{line_of, cut_at, sheets_line};
 
 use crate::Line;
@@ -43,7 +43,8 @@ fn line_for<F: FnOnce(u32) -> Line>(accepted: F, a: Answer) -> Line
 
 // The line for two sheets, under the exam's limits.
 fn mark_sheets(first: &[u8], second: &[u8]) -> Line
-    ensures { line_of result ≡ sheets_line first.now second.now }
+    ensures line { line_of result ≡ sheets_line first.now second.now }
+    ensures upper_bound { length (text_of (line_of result)) ≤ 63 }
 {
     let exam = exam_limits();
     if is_run(second) {
@@ -53,9 +54,10 @@ fn mark_sheets(first: &[u8], second: &[u8]) -> Line
     }
 }
 
-// The line for any input; of more than 65,536 bytes it is a refusal.
+// The line for any input; of more than 65,536 bytes it is a refusal. No line has more than 63 bytes.
 pub fn mark_input(input: &[u8]) -> Line
-    ensures { line_of result ≡ mark_line input.now }
+    ensures line { line_of result ≡ mark_line input.now }
+    ensures upper_bound { length (printed input.now) ≤ 63 }
 {
     if 65536 < input.len() {
         return Line::Refused(Answer {

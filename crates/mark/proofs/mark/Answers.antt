@@ -28,4 +28,4 @@ shown None old new all e i w = tt
 shown (Some bytes) old new all e i w = subst (λ (l : List ℕ). Appends old new l) (ap text_of e ∙ ap printed i ∙ cut bytes) w
 
 pub returns : goal.returns
-returns g c = on_ok_weaker c.write.result (shown (g.R.Read.remaining c.args.input) _ _ _ c.mark_input.ensures c.in_ok-read.ensures) c.write.ensures.bytes
+returns g c = on_ok_weaker c.write.result (shown (g.R.Read.remaining c.args.input) _ _ _ c.mark_input.ensures.line c.in_ok-read.ensures) c.write.ensures.bytes
