@@ -17,12 +17,8 @@ fn read_some<R: Read>(input: &mut R, part: &mut [u8]) -> io::Result<usize>
 {
     for _ in 0..u64::MAX {
         match input.read(part) {
-            Ok(n) => return Ok(n),
-            Err(e) => {
-                if e.kind() != ErrorKind::Interrupted {
-                    return Err(e);
-                }
-            }
+            Err(e) if e.kind() == ErrorKind::Interrupted => {}
+            result => return result,
         }
     }
     input.read(part)

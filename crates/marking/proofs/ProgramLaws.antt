@@ -3,37 +3,20 @@ use mathlib.Core.Path.{◌≡◌, refl, sym, ap, ◌∙◌}
 use mathlib.Core.Bool.{Bool, true, false, ◌&&◌}
 use mathlib.Core.List.{List}
 use Prim.Native.Nat.{ℕ, ◌+◌, ◌*◌, ◌≤◌, ◌<◌, min}
-use native.Mathlib.Nat.{min-eq_left, min-eq_right}
+use native.Mathlib.Nat.{min-eq_right}
 use native.Mathlib.Omega.{arith}
-use lib.Dec.{leb, eqb}
-use lib.ListN.{length, get_or, take, drop, drop_of_length-le}
-use lib.Seq.{take_all, take-length, drop-length}
-use borrow.Author.Tests.{leb-true, leb-false, lt-ltb, le-ltb, le-leb, lt-leb, eq-eqb, ne_eqb}
+use lib.Dec.{ltb, eqb}
+use lib.ListN.{length, get_or, take, drop}
+use borrow.Author.Tests.{lt-ltb, le-ltb, le-leb, lt-leb, eqb-true, eqb-false}
+use Rattle.std.proofs.Common.{Option, Some, None, Bor, is_some, unwrap_or, option_map}
+use Rattle.std.proofs.lemmas.List.{take_min, drop_min}
+use Rattle.std.specs.Option.{option_eq}
 use Rattle.formats.specs.ModelSheet.{exam_limits}
 use Rattle.formats.proofs.FieldLaws.{two_at}
 use Rattle.rules.specs.declared.Answer.{Answer}
 use Rattle.rules.specs.Marking.{mark_certificate, mark_run}
 use Rattle.rules.specs.Program.{Line, safe, unsafe, turned_down, first_length, first_sheet, second_sheet, refused_line, line_for, is_run, mark_line}
 use Rattle.marking.specs.Lines.{cut_at, sheets_line}
-
--- a part that would go past the end goes to the end
-take-cut : (n : ℕ) (s : List ℕ) → take (min n (length s)) s ≡ take n s
-take-cut n s = go (leb n (length s)) refl
-  where
-    go : (b : Bool) → leb n (length s) ≡ b → take (min n (length s)) s ≡ take n s
-    go true e = ap (λ (k : ℕ). take k s) (min-eq_left (leb-true n (length s) e))
-    go false e =
-        let h : length s ≤ n = omega (arith, leb-false n (length s) e) in
-        ap (λ (k : ℕ). take k s) (min-eq_right h) ∙ take-length s ∙ sym (take_all n s h)
-
-drop-cut : (n : ℕ) (s : List ℕ) → drop (min n (length s)) s ≡ drop n s
-drop-cut n s = go (leb n (length s)) refl
-  where
-    go : (b : Bool) → leb n (length s) ≡ b → drop (min n (length s)) s ≡ drop n s
-    go true e = ap (λ (k : ℕ). drop k s) (min-eq_left (leb-true n (length s) e))
-    go false e =
-        let h : length s ≤ n = omega (arith, leb-false n (length s) e) in
-        ap (λ (k : ℕ). drop k s) (min-eq_right h) ∙ drop-length s ∙ sym (drop_of_length-le s h)
 
 -- Where the input is cut
 module _ (s : List ℕ) where
@@ -49,13 +32,9 @@ module _ (s : List ℕ) where
   unfolding first_length
   first-told h = rw (le-ltb (length s) 2 h, first_length) (ap (λ (n : ℕ). n + 2) (two_at s 0 h))
 
-  pub cut_all : 2 ≤ length s → length s < get_or s 0 0 * 256 + get_or s 1 0 + 2 → length s ≡ cut_at s
+  pub cut-told : (n : ℕ) → 2 ≤ length s → n ≡ get_or s 0 0 * 256 + get_or s 1 0 → min (n + 2) (length s) ≡ cut_at s
   unfolding cut_at
-  cut_all h k = sym (min-eq_right (omega (arith, first-told h)))
-
-  pub cut-first : 2 ≤ length s → get_or s 0 0 * 256 + get_or s 1 0 + 2 ≤ length s → get_or s 0 0 * 256 + get_or s 1 0 + 2 ≡ cut_at s
-  unfolding cut_at
-  cut-first h k = sym (first-told h) ∙ sym (min-eq_left (omega (arith, first-told h)))
+  cut-told n h e = ap (λ (k : ℕ). min k (length s)) (omega (arith, first-told h))
 
   -- The whole
   pub line-long : 65536 < length s → turned_down 1 0 0 0 0 ≡ mark_line s
@@ -65,27 +44,22 @@ module _ (s : List ℕ) where
   pub line-cut : length s ≤ 65536 → sheets_line (take (cut_at s) s) (drop (cut_at s) s) ≡ mark_line s
   unfolding mark_line sheets_line first_sheet second_sheet cut_at
   line-cut h =
-      (λ i. sheets_line (take-cut (first_length s) s i) (drop-cut (first_length s) s i))
+      (λ i. sheets_line (take_min (first_length s) s i) (drop_min (first_length s) s i))
       ∙ sym (ap (λ b. elim b as (λ _. Line) [ true ↦ sheets_line (first_sheet s) (second_sheet s) | false ↦ turned_down 1 0 0 0 0 ]) (le-leb (length s) 65536 h))
 
--- Whether a sheet is a run
-pub run-told : (s : List ℕ) → 3 < length s → eqb (get_or s 3 0) 3 ≡ is_run s
-unfolding is_run
-run-told s h = sym (ap (λ b. b && eqb (get_or s 3 0) 3) (lt-ltb 3 (length s) h))
+-- Whether the element at a place is there and is this number, by what `get` gives
+pub element-is : (s : List ℕ) (i : ℕ) (y : Bor ℕ) (r : Option (Bor ℕ)) → is_some r ≡ ltb i (length s) → unwrap_or (option_map (λ x. x.now) r) 0 ≡ get_or s i 0 → option_eq (λ x y. eqb x.now y.now) r (Some y) ≡ (ltb i (length s) && eqb (get_or s i 0) y.now)
+element-is s i y None e f = ap (λ b. b && eqb (get_or s i 0) y.now) e
+element-is s i y (Some x) e f = ap (λ n. eqb n y.now) f ∙ ap (λ b. b && eqb (get_or s i 0) y.now) e
 
-pub run_short : (s : List ℕ) → length s ≤ 3 → false ≡ is_run s
-unfolding is_run
-run_short s h = sym (ap (λ b. b && eqb (get_or s 3 0) 3) (le-ltb 3 (length s) h))
-
--- The line of an answer
-module _ (accepted : ℕ → Line) (a : Answer) where
-  pub line-accepted : a.number ≡ 0 → accepted a.done ≡ line_for accepted a
-  unfolding line_for
-  line-accepted e = rw (eq-eqb a.number 0 e, line_for) refl
-
-  pub line_refused : (a.number ≡ 0 → ⊥) → refused_line a ≡ line_for accepted a
-  unfolding line_for
-  line_refused f = rw (ne_eqb a.number 0 f, line_for) refl
+-- The line of an answer, by what an acceptance and a refusal give
+pub answered : (accepted : ℕ → Line) (a : Answer) {l : Line} → (a.number ≡ 0 → l ≡ accepted a.done) → (0 < a.number → l ≡ refused_line a) → l ≡ line_for accepted a
+unfolding line_for
+answered accepted a {l} w f = go (eqb a.number 0) refl
+  where
+    go : (b : Bool) → eqb a.number 0 ≡ b → l ≡ elim b as (λ _. Line) [ true ↦ accepted a.done | false ↦ refused_line a ]
+    go true e = w (eqb-true a.number 0 e)
+    go false e = f (omega (arith, eqb-false a.number 0 e))
 
 -- The line for two sheets
 module _ (first second : List ℕ) where

@@ -1,113 +1,47 @@
--- Decimal numbers as bytes: the last digit behind the others, and how many there are; and a line's text from its parts, written one after the
--- other. Assumes nothing.
-use mathlib.Core.Path.{◌≡◌, refl, sym, ap, ◌∙◌, subst}
-use mathlib.Core.Bool.{Bool, true, false}
-use mathlib.Core.List.{List, [], ◌∷◌, ◌++◌, append_assoc}
-use Prim.Native.Nat.{ℕ, zero, suc, ◌+◌, ◌/◌, ◌%◌, ◌^◌, ◌≤◌, ◌<◌}
-use native.Mathlib.Omega.{arith}
-use lib.Dec.{ltb}
-use lib.ListN.{length, length-append}
-use borrow.Author.Tests.{ltb-true, ltb-false, lt-ltb, le-ltb}
-use Rattle.rules.specs.Program.{digits, decimal}
-use Rattle.buffers.specs.Over.{over}
-use Rattle.buffers.proofs.OverLaws.{over-then}
-use Rattle.marking.specs.Lines.{Written}
-use native.Mathlib.Nat.{zero-add}
+-- Decimal numbers as bytes: the standard library writes the same digits; and how long a line is at most. Assumes nothing.
+use Rattle.std.proofs.Common.{◌≡◌, [], ◌∷◌, List, ℕ, suc, ◌<◌, ◌≤◌, ◌+◌, ◌^◌, ◌∙◌, Bool, true, false, rules, arith, sym, append-nil, length, length-append}
+use Rattle.std.specs.Fmt as std
+use Rattle.std.proofs.lemmas.Fmt.{PrependsLastDigit, decimal_from_prepends, length-decimal-le, length-decimal-le_succ}
+use Rattle.rules.specs.declared.Answer.{Answer}
+use Rattle.rules.specs.Program.{digits, decimal, numbered, Line, safe, unsafe, turned_down, refused_line, line_for, text_of}
+use lib.Dec.{eqb}
 
--- one digit more, by whether it is the last
-abbrev step : Bool → ℕ → ℕ → List ℕ → List ℕ
-step b f n rest = elim b [ true ↦ (48 + n) ∷ rest | false ↦ digits f (n / 10) ((48 + n % 10) ∷ rest) ]
-
-stepped : (f n : ℕ) (rest : List ℕ) → digits (suc f) n rest ≡ step (ltb n 10) f n rest
+prepends : PrependsLastDigit digits
 unfolding digits
-stepped f n rest = refl
+prepends = search rules
 
--- what follows stands behind the digits
-onto-step : (b : Bool) (f n : ℕ) (rest : List ℕ) → ((m : ℕ) (r : List ℕ) → digits f m r ≡ digits f m [] ++ r) → step b f n rest ≡ step b f n [] ++ rest
-onto-step true f n rest h = refl
-onto-step false f n rest h =
-    h (n / 10) ((48 + n % 10) ∷ rest)
-    ∙ sym (append_assoc (digits f (n / 10) []) ((48 + n % 10) ∷ []) rest)
-    ∙ ap (λ (xs : List ℕ). xs ++ rest) (sym (h (n / 10) ((48 + n % 10) ∷ [])))
-
-digits_onto : (f n : ℕ) (rest : List ℕ) → digits f n rest ≡ digits f n [] ++ rest
-unfolding digits
-digits_onto zero n rest = refl
-digits_onto (suc f) n rest = onto-step (ltb n 10) f n rest (digits_onto f)
-
--- as many steps as the number needs are enough
-fuel-step : (b : Bool) (f g n : ℕ) (rest : List ℕ) → ltb n 10 ≡ b → n < suc f → n < suc g → ((m : ℕ) (r : List ℕ) → m < f → m < g → digits f m r ≡ digits g m r) → step b f n rest ≡ step b g n rest
-fuel-step true f g n rest e h k w = refl
-fuel-step false f g n rest e h k w = w (n / 10) ((48 + n % 10) ∷ rest) (omega (arith, ltb-false n 10 e)) (omega (arith, ltb-false n 10 e))
-
-digits-fuel : (f g n : ℕ) (rest : List ℕ) → n < f → n < g → digits f n rest ≡ digits g n rest
-unfolding digits
-digits-fuel zero g n rest h k = absurd (omega arith)
-digits-fuel (suc f) zero n rest h k = absurd (omega arith)
-digits-fuel (suc f) (suc g) n rest h k = fuel-step (ltb n 10) f g n rest refl h k (λ m r. digits-fuel f g m r)
-
-pub decimal-small : (n : ℕ) → n < 10 → decimal n ≡ (48 + n) ∷ []
+pub decimal-written : (n : ℕ) → n < 2 ^ 64 → std.decimal n ≡ decimal n
 unfolding decimal
-decimal-small n h = stepped n n [] ∙ ap (λ (b : Bool). step b n n []) (lt-ltb n 10 h)
+decimal-written n h = sym (decimal_from_prepends digits prepends (suc n) n [] h (omega (arith, length-decimal-le_succ n h)) ∙ append-nil _)
 
-pub decimal-last : (n : ℕ) → 10 ≤ n → decimal n ≡ decimal (n / 10) ++ ((48 + n % 10) ∷ [])
-unfolding decimal
-decimal-last n h =
-    stepped n n []
-    ∙ ap (λ (b : Bool). step b n n []) (le-ltb n 10 h)
-    ∙ digits-fuel n (suc (n / 10)) (n / 10) ((48 + n % 10) ∷ []) (omega arith) (omega arith)
-    ∙ digits_onto (suc (n / 10)) (n / 10) ((48 + n % 10) ∷ [])
+-- A number of 32 bits has at most ten digits, so a line has at most 63 bytes
+ten-digits : (n : ℕ) → n < 2 ^ 32 → length (decimal n) ≤ 10
+ten-digits n h = rw (← decimal-written n (omega arith)) (length-decimal-le 10 n (omega arith) (omega arith) (omega arith))
 
--- a number below 10 ^ k has at most k digits
-pub digits-few : (k n : ℕ) → n < 10 ^ suc k → length (decimal n) ≤ suc k
-digits-few zero n h = rw (decimal-small n h) (omega arith)
-digits-few (suc k) n h = go (ltb n 10) refl (digits-few k (n / 10))
+grows : (n k : ℕ) (rest : List ℕ) → n < 2 ^ 32 → length (numbered rest) ≤ k → length (numbered (n ∷ rest)) ≤ k + 11
+unfolding numbered
+grows n k rest h w = omega (arith, length-append (decimal n) (numbered rest), ten-digits n h)
+
+one : (n : ℕ) → n < 2 ^ 32 → length (numbered (n ∷ [])) ≤ 12
+unfolding numbered
+one n h = grows n 1 [] h (omega arith)
+
+pub safe-short : (n : ℕ) → n < 2 ^ 32 → length (text_of (safe n)) ≤ 63
+unfolding text_of
+safe-short n h = omega (arith, one n h)
+
+pub unsafe-short : (n : ℕ) → n < 2 ^ 32 → length (text_of (unsafe n)) ≤ 63
+unfolding text_of
+unsafe-short n h = omega (arith, one n h)
+
+pub refused-short : (a b c d e : ℕ) → a < 2 ^ 32 → b < 2 ^ 32 → c < 2 ^ 32 → d < 2 ^ 32 → e < 2 ^ 32 → length (text_of (turned_down a b c d e)) ≤ 63
+unfolding text_of
+refused-short a b c d e ha hb hc hd he = omega (arith, grows a 45 _ ha (grows b 34 _ hb (grows c 23 _ hc (grows d 12 _ hd (one e he)))))
+
+pub line-short : (accepted : ℕ → Line) → ((n : ℕ) → n < 2 ^ 32 → length (text_of (accepted n)) ≤ 63) → (a : Answer) → a.number < 2 ^ 32 → a.sheet < 2 ^ 32 → a.place < 2 ^ 32 → a.done < 2 ^ 32 → a.score < 2 ^ 32 → length (text_of (line_for accepted a)) ≤ 63
+unfolding line_for refused_line
+line-short accepted short a hn hs hp hd hc = go (eqb a.number 0)
   where
-    go : (b : Bool) → ltb n 10 ≡ b → (n / 10 < 10 ^ suc k → length (decimal (n / 10)) ≤ suc k) → length (decimal n) ≤ suc (suc k)
-    go true e w = rw (decimal-small n (ltb-true n 10 e)) (omega arith)
-    go false e w =
-        rw (decimal-last n (ltb-false n 10 e))
-        (omega (arith, length-append (decimal (n / 10)) ((48 + n % 10) ∷ []), w (omega (arith, h))))
-
-pub ten-digits : (n : ℕ) → n < 2 ^ 32 → length (decimal n) ≤ 10
-ten-digits n h = digits-few 9 n (omega arith)
-
--- the last digit written behind the others
-pub decimal-put : (before between after : List ℕ) (at next n : ℕ) → 10 ≤ n → (next ≡ at + length (decimal (n / 10))) × (between ≡ over before at (decimal (n / 10))) → after ≡ over between next ((48 + n % 10) ∷ []) → (next + 1 ≡ at + length (decimal n)) × (after ≡ over before at (decimal n))
-decimal-put before between after at next n h w e = (
-  omega (arith, w.0, ap (λ (l : List ℕ). length l) (decimal-last n h), length-append (decimal (n / 10)) ((48 + n % 10) ∷ [])),
-  e
-      ∙ ap (λ (l : List ℕ). over l next ((48 + n % 10) ∷ [])) w.1
-      ∙ ap (λ (k : ℕ). over (over before at (decimal (n / 10))) k ((48 + n % 10) ∷ [])) w.0
-      ∙ over-then before at (decimal (n / 10)) ((48 + n % 10) ∷ [])
-      ∙ ap (over before at) (sym (decimal-last n h)),
-)
-
--- two parts, one behind the other
-pub parts-put : (before between after : List ℕ) (at next r : ℕ) (xs ys : List ℕ) → (next ≡ at + length xs) × (between ≡ over before at xs) → (r ≡ next + length ys) × (after ≡ over between next ys) → (r ≡ at + length (xs ++ ys)) × (after ≡ over before at (xs ++ ys))
-parts-put before between after at next r xs ys w v = (
-  omega (arith, w.0, v.0, length-append xs ys),
-  v.1
-      ∙ ap (λ (l : List ℕ). over l next ys) w.1
-      ∙ ap (λ (k : ℕ). over (over before at xs) k ys) w.0
-      ∙ over-then before at xs ys,
-)
-
--- one part of a text written behind the others
-pub written-first : (before after text : List ℕ) (r : ℕ) → (r ≡ 0 + length text) × (after ≡ over before 0 text) → Written before after text r
-written-first before after text r w = record { sized = omega (arith, w.0); bytes = w.1 }
-
-pub written_then : {before between after text : List ℕ} (more : List ℕ) {at r : ℕ} → Written before between text at → (r ≡ at + length more) × (after ≡ over between at more) → Written before after (text ++ more) r
-written_then {before} {between} {after} {text} more {at} {r} w p =
-    record {
-      sized = omega (arith, p.0, w.sized, length-append text more);
-      bytes =
-          p.1
-          ∙ ap (λ (l : List ℕ). over l at more) w.bytes
-          ∙ ap (λ (n : ℕ). over (over before 0 text) n more) (w.sized ∙ sym (zero-add (length text)))
-          ∙ over-then before 0 text more;
-    }
-
--- the same text, put together in another way
-pub written-so : {before after text same : List ℕ} {r : ℕ} → text ≡ same → Written before after text r → Written before after same r
-written-so {before} {after} {r = r} e w = subst (λ (l : List ℕ). Written before after l r) e w
+    go : (b : Bool) → length (text_of (elim b as (λ _. Line) [ true ↦ accepted a.done | false ↦ refused_line a ])) ≤ 63
+    go true = short a.done hd
+    go false = refused-short a.number a.sheet a.place a.done a.score hn hs hp hd hc

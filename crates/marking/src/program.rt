@@ -1,6 +1,6 @@
 // The line for any input: the input is cut into two sheets, and the second is marked as a run or as a certificate.
-ghost use Rattle.std.specs.Prelude.{◌≡◌};
-ghost use Rattle.rules.specs.Program.{safe, unsafe, is_run, refused_line, line_for, mark_line};
+ghost use Rattle.std.specs.Prelude.{◌≡◌, ◌<◌, ◌≤◌, length};
+ghost use Rattle.rules.specs.Program.{is_run, refused_line, mark_line, printed, text_of};
 ghost use Rattle.marking.specs.Lines.{line_of, cut_at, sheets_line};
 
 use crate::Line;
@@ -13,73 +13,61 @@ use runs::run::mark_run;
 fn first_length(input: &[u8]) -> usize
     ensures { result ≡ cut_at input.now }
 {
-    let all = input.len();
-    if all < 2 {
-        return all;
-    }
-    let first = input[0] as usize * 256 + input[1] as usize + 2;
-    if all < first {
-        return all;
-    }
-    first
+    let [high, low, ..] = *input else {
+        return input.len();
+    };
+    let first = usize::from(u16::from_be_bytes([high, low])) + 2;
+    first.min(input.len())
 }
 
 // Whether a second sheet is marked as a run: its byte 3 is 3.
 fn is_run(second: &[u8]) -> bool
     ensures { result ≡ is_run second.now }
 {
-    if 3 < second.len() {
-        second[3] == 3
+    second.get(3) == Some(&3)
+}
+
+// The line of an answer: that of an acceptance is made of how much was done.
+#[tactic(auto, unfolding(crate::specs::Lines::line_of))]
+fn line_for<F: FnOnce(u32) -> Line>(accepted: F, a: Answer) -> Line
+    requires { F.IsAlwaysCallable accepted }
+    ensures accepted { a.number ≡ 0 → F.post accepted a.done result }
+    ensures refused { 0 < a.number → line_of result ≡ refused_line a }
+{
+    if a.number == 0 {
+        accepted(a.done)
     } else {
-        false
+        Line::Refused(a)
     }
-}
-
-// The line of a refusal.
-fn refused_line(a: Answer) -> Line
-    ensures { line_of result ≡ refused_line a }
-{
-    Line::Refused(a.number, a.sheet, a.place, a.done, a.score)
-}
-
-// The line of a run's answer.
-fn run_line(a: Answer) -> Line
-    ensures { line_of result ≡ line_for unsafe a }
-{
-    if a.number == 0 {
-        return Line::Unsafe(a.done);
-    }
-    refused_line(a)
-}
-
-// The line of a certificate's answer.
-fn certificate_line(a: Answer) -> Line
-    ensures { line_of result ≡ line_for safe a }
-{
-    if a.number == 0 {
-        return Line::Safe(a.done);
-    }
-    refused_line(a)
 }
 
 // The line for two sheets, under the exam's limits.
 fn mark_sheets(first: &[u8], second: &[u8]) -> Line
-    ensures { line_of result ≡ sheets_line first.now second.now }
+    ensures line { line_of result ≡ sheets_line first.now second.now }
+    ensures upper_bound { length (text_of (line_of result)) ≤ 63 }
 {
     let exam = exam_limits();
     if is_run(second) {
-        return run_line(mark_run(first, second, exam));
+        line_for(Line::Unsafe, mark_run(first, second, exam))
+    } else {
+        line_for(Line::Safe, mark_certificate(first, second, exam))
     }
-    certificate_line(mark_certificate(first, second, exam))
 }
 
-// The line for any input; of more than 65,536 bytes it is a refusal.
+// The line for any input; of more than 65,536 bytes it is a refusal. No line has more than 63 bytes.
 pub fn mark_input(input: &[u8]) -> Line
-    ensures { line_of result ≡ mark_line input.now }
+    ensures line { line_of result ≡ mark_line input.now }
+    ensures upper_bound { length (printed input.now) ≤ 63 }
 {
     if 65536 < input.len() {
-        return Line::Refused(1, 0, 0, 0, 0);
+        return Line::Refused(Answer {
+            number: 1,
+            sheet: 0,
+            place: 0,
+            done: 0,
+            score: 0,
+        });
     }
-    let cut = first_length(input);
-    mark_sheets(&input[..cut], &input[cut..])
+    let (first, second) = input.split_at(first_length(input));
+    mark_sheets(first, second)
 }

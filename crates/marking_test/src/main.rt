@@ -7,202 +7,179 @@
 // the sheet's first eight bytes, the limits on locations and joint switches for the papers that follow, until then the exam's.
 #![tactic(auto)]
 
-ghost use Rattle.std.specs.Prelude.{◌-◌, ◌^◌, ◌<◌};
-
 use certificates::certificate::mark_certificate;
 use formats::Limits;
 use inputs::read_full;
 use joint_lists::list::list_begin;
-use marking::text::{LINE_LENGTH, mark_text};
+use marking::program::mark_input;
 use model_sheets::limits::exam_limits;
 use queries::show::show_row;
 use rules::Answer;
 use runs::run::mark_run;
 use std::io;
 
-// Writes a number after a separator.
-fn number(rt: &impl Print, before: &[u8], n: u32) -> io::Result<()> {
-    rt.write_all(before)?;
-    rt.print(n)
+// What a paper asks for.
+#[derive(Clone, Copy)]
+enum Kind {
+    Model,
+    Certificate,
+    Run,
+    List,
+    Line,
+    Part,
+    Limits,
 }
 
-// Writes an answer after a separator.
-fn write_answer(rt: &impl Print, before: &[u8], answer: Answer) -> io::Result<()> {
-    number(rt, before, answer.number)?;
-    number(rt, b" ", answer.sheet)?;
-    number(rt, b" ", answer.place)?;
-    number(rt, b" ", answer.done)?;
-    number(rt, b" ", answer.score)
+impl From<u8> for Kind {
+    fn from(kind: u8) -> Kind {
+        match kind {
+            0 => Kind::Model,
+            1 => Kind::Certificate,
+            2 => Kind::Run,
+            3 => Kind::List,
+            4 => Kind::Line,
+            6 => Kind::Limits,
+            _ => Kind::Part,
+        }
+    }
 }
 
-// Writes the program's line for an input, with its newline.
-fn write_line(rt: &impl Print, input: &[u8]) -> io::Result<()> {
-    let mut line = [0u8; LINE_LENGTH];
-    let size = mark_text(input, &mut line);
-    rt.write_all(b": ")?;
-    rt.write_all(&line[..size])
+// A paper, and all bytes from its sheet on: a sheet of limits that is too short is read on in what follows.
+#[derive(Clone, Copy)]
+struct Paper<'a> {
+    label: &'a [u8],
+    kind: Kind,
+    asked: u16,
+    sheet: &'a [u8],
+    onward: &'a [u8],
 }
 
-// Writes a byte after a space.
-fn write_byte(rt: &impl Print, b: u8) -> io::Result<()> {
-    number(rt, b" ", b as u32)
+// What a paper is marked beside, and under which limits.
+#[derive(Clone, Copy)]
+struct Desk<'a> {
+    model: &'a [u8],
+    limits: Limits,
+}
+
+// Writes an answer.
+fn write_answer(rt: &impl Print, answer: Answer) -> io::Result<()> {
+    let Answer {
+        number,
+        sheet,
+        place,
+        done,
+        score,
+    } = answer;
+    println!(rt; ": {number} {sheet} {place} {done} {score}")
 }
 
 // Writes how many bytes a part has, and the bytes.
 fn write_part(rt: &impl Print, part: &[u8]) -> io::Result<()> {
-    rt.write_all(b": ")?;
-    rt.print(part.len())?;
+    print!(rt; ": {}", part.len())?;
     for byte in part {
-        write_byte(rt, *byte)?;
+        print!(rt; " {byte}")?;
     }
-    Ok(())
+    println!(rt)
 }
 
-// The byte at a place, 0 past the end.
-fn byte_at(all: &[u8], at: usize) -> usize
-    ensures { result < 256 }
-{
-    if at < all.len() {
-        return all[at] as usize;
-    }
-    0
-}
-
-// The number in the two bytes at a place.
-fn two_bytes(all: &[u8], at: usize) -> usize
-    requires { at < 2 ^ 20 }
-    ensures { result < 65536 }
-{
-    byte_at(all, at) * 256 + byte_at(all, at + 1)
-}
-
-// The number in the four bytes at a place.
-fn four_bytes(all: &[u8], at: usize) -> u32
-    requires { at < 2 ^ 19 }
-{
-    (two_bytes(all, at) as u32) * 65536 + two_bytes(all, at + 2) as u32
-}
-
-// Marks a sheet beside a model.
-fn mark<'a>(
-    rt: &impl Print,
-    kind: usize,
-    asked: u32,
-    model: &'a [u8],
-    sheet: &'a [u8],
-    limits: Limits,
-) -> io::Result<()> {
-    if kind == 4 {
-        return write_line(rt, sheet);
-    }
-    if kind == 1 {
-        write_answer(rt, b": ", mark_certificate(model, sheet, limits))?;
-    } else if kind == 2 {
-        write_answer(rt, b": ", mark_run(model, sheet, limits))?;
-    } else if kind == 3 {
-        let listing = list_begin(model, asked as usize, limits.locations, limits.joints);
-        write_answer(rt, b": ", listing.answer)?;
-    } else {
-        let part = show_row(
-            model,
-            sheet,
-            asked / 256,
-            asked % 256,
-            limits.locations,
-            limits.joints,
-        );
-        write_part(rt, part)?;
-    }
-    rt.write_all(b"\n")
-}
-
-// Where the next paper begins, the model that it is marked beside, and the limits that are stated for it.
-#[derive(Clone, Copy)]
-struct Place {
-    at: usize,
-    model: usize,
-    end: usize,
-    limits: Limits,
-}
-
-// Where the papers go on after one: 0 is their model from then on, 6 states their limits.
-fn go_on(all: &[u8], place: Place, kind: usize, sheet: usize, end: usize) -> Place
-    requires { sheet < 2 ^ 19 - 8 }
-{
-    let model = place.model;
-    let model_end = place.end;
-    let limits = place.limits;
-    if kind == 0 {
-        return Place {
-            at: end,
-            model: sheet,
-            end,
-            limits,
-        };
-    }
-    if kind == 6 {
-        return Place {
-            at: end,
-            model,
-            end: model_end,
-            limits: Limits {
-                locations: four_bytes(all, sheet),
-                joints: four_bytes(all, sheet + 4),
-            },
-        };
-    }
-    Place {
-        at: end,
-        model,
-        end: model_end,
-        limits,
+// The limits that the first eight bytes state; bytes past the end are 0.
+fn stated(bytes: &[u8]) -> Limits {
+    let byte = |i: usize| bytes.get(i).copied().unwrap_or(0);
+    Limits {
+        locations: u32::from_be_bytes([byte(0), byte(1), byte(2), byte(3)]),
+        joints: u32::from_be_bytes([byte(4), byte(5), byte(6), byte(7)]),
     }
 }
 
-// Marks the paper at a place.
-fn paper(rt: &impl Print, all: &[u8], place: Place) -> io::Result<Place> {
-    let at = place.at;
-    let model = place.model;
-    let model_end = place.end;
-    let limits = place.limits;
-    if all.len() <= at {
-        return Ok(place);
+impl<'a> Desk<'a> {
+    // Marks a paper, and writes what that gives.
+    fn mark(self, rt: &impl Print, paper: Paper<'a>) -> io::Result<()> {
+        let Desk { model, limits } = self;
+        let sheet = paper.sheet;
+        rt.write_all(paper.label)?;
+        match paper.kind {
+            Kind::Certificate => write_answer(rt, mark_certificate(model, sheet, limits)),
+            Kind::Run => write_answer(rt, mark_run(model, sheet, limits)),
+            Kind::List => {
+                let lent = usize::from(paper.asked);
+                write_answer(
+                    rt,
+                    list_begin(model, lent, limits.locations, limits.joints).answer,
+                )
+            }
+            Kind::Line => print!(rt; ": {}", mark_input(sheet)),
+            // A part: `take` passes neither a model nor limits.
+            _ => {
+                let [obligation, hypothesis] = paper.asked.to_be_bytes();
+                write_part(
+                    rt,
+                    show_row(
+                        model,
+                        sheet,
+                        u32::from(obligation),
+                        u32::from(hypothesis),
+                        limits.locations,
+                        limits.joints,
+                    ),
+                )
+            }
+        }
     }
-    if 500000 <= at {
-        return Ok(place);
+
+    // Takes a paper: a model or limits for those that follow, or one to mark.
+    fn take(self, rt: &impl Print, paper: Paper<'a>) -> io::Result<Desk<'a>> {
+        match paper.kind {
+            Kind::Model => Ok(Desk {
+                model: paper.sheet,
+                limits: self.limits,
+            }),
+            Kind::Limits => Ok(Desk {
+                model: self.model,
+                limits: stated(paper.onward),
+            }),
+            _ => {
+                self.mark(rt, paper)?;
+                Ok(self)
+            }
+        }
     }
-    let label = at + 1;
-    let head = label + byte_at(all, at);
-    let sheet = head + 5;
-    let end = sheet + two_bytes(all, head + 3);
-    if end > all.len() || model > model_end || model_end > all.len() {
-        return Ok(place);
-    }
-    let kind = byte_at(all, head);
-    if kind != 0 && kind != 6 {
-        rt.write_all(&all[label..head])?;
-        mark(
-            rt,
-            kind,
-            two_bytes(all, head + 1) as u32,
-            &all[model..model_end],
-            &all[sheet..end],
-            limits,
-        )?;
-    }
-    Ok(go_on(all, place, kind, sheet, end))
 }
 
-// Marks the papers.
+// The first paper, and what follows it; none if it is cut short.
+fn first_paper(all: &[u8]) -> Option<(Paper<'_>, &[u8])> {
+    let (length, after) = all.split_first()?;
+    let (label, after) = after.split_at_checked(usize::from(*length))?;
+    let [kind, asked_high, asked_low, high, low, onward @ ..] = after else {
+        return None;
+    };
+    let size = u16::from_be_bytes([*high, *low]);
+    let (sheet, rest) = onward.split_at_checked(usize::from(size))?;
+    let paper = Paper {
+        label,
+        kind: Kind::from(*kind),
+        asked: u16::from_be_bytes([*asked_high, *asked_low]),
+        sheet,
+        onward,
+    };
+    Some((paper, rest))
+}
+
+// Takes the papers, at most 2,000, which begin within 500,000 bytes.
 fn papers(rt: &impl Print, all: &[u8]) -> io::Result<()> {
-    let mut place = Place {
-        at: 0,
-        model: 0,
-        end: 0,
+    let mut desk = Desk {
+        model: &[],
         limits: exam_limits(),
     };
+    let mut rest = all;
     for _ in 0..2000 {
-        place = paper(rt, all, place)?;
+        if 500000 <= all.len().saturating_sub(rest.len()) {
+            return Ok(());
+        }
+        let Some((paper, next)) = first_paper(rest) else {
+            return Ok(());
+        };
+        desk = desk.take(rt, paper)?;
+        rest = next;
     }
     Ok(())
 }

@@ -1,28 +1,10 @@
 -- The first two bytes tell the length, or the input is shorter. Assumes nothing.
-use native.Mathlib.Omega.{arith}
-use Rattle.marking.proofs.ProgramLaws.{cut-none, cut_all, cut-first}
+use Rattle.std.proofs.Common.{arith, ◌∙◌}
+use Rattle.marking.proofs.ProgramLaws.{cut-none, cut-told}
 use Rattle.marking.proofs.program.first_length.Goals as goal
 
-pub returns-then-all-lt2 : goal.returns-then-all-lt2
-returns-then-all-lt2 c = cut-none c.args.input.now c.if-all-lt2.true
-
-pub overflow_cast-first : goal.overflow_cast-first
-overflow_cast-first c = omega (arith, c.shared_slice_known-1.given 0)
-
-pub overflow_mul-first : goal.overflow_mul-first
-overflow_mul-first c = omega (arith, c.shared_slice_known-1.given 0)
-
-pub overflow_cast-first-2 : goal.overflow_cast-first-2
-overflow_cast-first-2 c = omega (arith, c.shared_slice_known-2-1.given 0, c.shared_slice_known-2-1.given 1)
-
-pub overflow_add-first : goal.overflow_add-first
-overflow_add-first c = omega (arith, c.shared_slice_known-2-1.given 0, c.shared_slice_known-2-1.given 1)
-
-pub overflow_add-first-2 : goal.overflow_add-first-2
-overflow_add-first-2 c = omega (arith, c.shared_slice_known-2-1.given 0, c.shared_slice_known-2-1.given 1)
-
-pub returns-then-all-first : goal.returns-then-all-first
-returns-then-all-first c = cut_all c.args.input.now c.if-all-lt2.false c.if-all-first.true
+pub returns-in_default : goal.returns-in_default
+returns-in_default c = cut-none c.args.input.now c.in_default.len_below
 
 pub returns : goal.returns
-returns c = cut-first c.args.input.now c.if-all-lt2.false c.if-all-first.false
+returns c = c.min.ensures ∙ cut-told c.args.input.now c.from-first.result c.in-len2-up.len_at_least (omega (arith, c.from-first.ensures, c.from_be_bytes.ensures))

@@ -1,9 +1,11 @@
 -- Byte 3, where there is one, tells. Assumes nothing.
-use Rattle.marking.proofs.ProgramLaws.{run-told, run_short}
+use Rattle.std.proofs.Common.{◌∙◌, arith}
+use Rattle.rules.specs.Program.{is_run}
+use Rattle.marking.proofs.ProgramLaws.{element-is}
 use Rattle.marking.proofs.program.is_run.Goals as goal
 
-pub returns-then-second-gt3 : goal.returns-then-second-gt3
-returns-then-second-gt3 c = run-told c.args.second.now c.if-second-gt3.true
-
-pub returns-else-second-gt3 : goal.returns-else-second-gt3
-returns-else-second-gt3 c = run_short c.args.second.now c.if-second-gt3.false
+pub returns : goal.returns
+unfolding is_run
+returns c =
+    let found = c.get.ensures.lookup in
+    c.eq.ensures ∙ element-is c.args.second.now 3 _ c.get.result found.0 (found.4 (omega arith) 0)
