@@ -12,13 +12,6 @@ use Rattle.fair_copies.proofs.copies.copy_open.Goals as goal
 abbrev copied : Start → ℕ
 copied s = length (fair_copy (model_from s.args.model.now s.args.index.now))
 
-pub lacking-needed-requires : goal.lacking-needed-requires
-lacking-needed-requires c = record { copyable = (c.requires.copyable, (omega arith, omega arith)); index_in_bounds = c.requires.index_in_bounds }
-
-pub overflow_cast-result : goal.overflow_cast-result
-overflow_cast-result c =
-    omega (arith, (lacks (copied (goal.at.overflow_cast-result c).Start) (length c.args.copy.now) c.lacking-needed.result c.lacking-needed.ensures c.if-needed-ne0.true).1, c.requires.index_in_bounds, c.requires.copyable.short)
-
 pub returns-then-needed-ne0 : goal.returns-then-needed-ne0
 returns-then-needed-ne0 c =
     let w = lacks (copied (goal.at.returns-then-needed-ne0 c).Start) (length c.args.copy.now) c.lacking-needed.result c.lacking-needed.ensures c.if-needed-ne0.true in record { value = answer-short (length c.args.model.now) (copied (goal.at.returns-then-needed-ne0 c).Start) c.lacking-needed.result _ w.0 w.1; copy_after = buffer-kept c.args.copy.now _ _ w.0 }
