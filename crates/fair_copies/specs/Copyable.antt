@@ -13,10 +13,6 @@ pub record Copyable (model index : List ℕ) : Type 0 where
   pub starts : (k j : ℕ) → k < entry index 1 → j < entry index (component_place k + 1) → entry index (mode_place (component_place k) j) < 256
   pub asked : (u k : ℕ) → u < entry index 2 → k < entry index 1 → entry index (unsafe_place u + k) < 256
 
--- room for the rows of a condition
-abbrev pub Room : List ℕ → List ℕ → Type 0
-Room kept sorted = (136 ≤ length kept) × (8 ≤ length sorted)
-
 -- numbers of an index, one after the other
 abbrev pub entries : List ℕ → ℕ → ℕ → List ℕ
 entries index from count = map (λ k. entry index (from + k)) (count_up 0 count)

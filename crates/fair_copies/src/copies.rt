@@ -4,9 +4,11 @@ ghost use Rattle.buffers.specs.Written.{Written};
 ghost use Rattle.models.specs.Index.{model_from, version_in, paper_in};
 ghost use Rattle.writing.specs.Writing.{write_paper, write_fields, write_body};
 ghost use Rattle.fair_models.specs.FairCopy.{fair_model, fair_copy, copy_answer, copy_over, fair_answer, buffer_after};
-ghost use Rattle.fair_copies.specs.Copyable.{Copyable, Room};
+ghost use Rattle.fair_copies.specs.Copyable.{Copyable};
 
-use crate::parts::{conditions_of, put_components, put_entries, put_items};
+use crate::parts::{
+    KEPT_LENGTH, MOST_ROWS, Scratch, conditions_of, put_components, put_entries, put_items,
+};
 use buffers::{put_byte, put_half, put_word};
 use fields::versions::{HEADER_LENGTH, has_paper};
 use formats::Limits;
@@ -20,22 +22,16 @@ const COUNTS: usize = 3;
 // The kind of a model's sheet.
 const MODEL_KIND: u8 = 1;
 
-// Eight rows of seventeen numbers, and eight row numbers: what a condition needs.
-const KEPT_LENGTH: usize = 136;
-
-const MOST_ROWS: usize = 8;
-
 // The fields of the copy's body behind its paper number. The place after them.
 fn put_fields(
     out: &mut [u8],
     at: usize,
     model: &[u8],
     index: &Index,
-    kept: &mut [u32],
-    sorted: &mut [u8],
+    scratch: &mut Scratch,
 ) -> usize
     requires copyable { Copyable model.now index.now }
-    requires at_bound { (at < 2 ^ 51) × Room kept.old sorted.old }
+    requires at_bound { at < 2 ^ 51 }
     ensures written { Written out.old at (write_fields (fair_model (model_from model.now index.now))) out.new result }
     ensures upper_bound { result ≤ at + 472059 }
 {
@@ -47,16 +43,8 @@ fn put_fields(
         FIRST_OWNER,
         number_at(index, VARIABLES_AT),
     );
-    let components = put_components(out, owners, model, index, kept, sorted);
-    put_items(
-        out,
-        components,
-        model,
-        index,
-        conditions_of(index),
-        kept,
-        sorted,
-    )
+    let components = put_components(out, owners, model, index, scratch);
+    put_items(out, components, model, index, conditions_of(index), scratch)
 }
 
 // The paper number, where the model's version has one. The place after it.
@@ -72,49 +60,36 @@ fn put_paper(out: &mut [u8], at: usize, index: &Index) -> usize
 }
 
 // The body of the copy. The place after it.
-fn put_body(
-    out: &mut [u8],
-    at: usize,
-    model: &[u8],
-    index: &Index,
-    kept: &mut [u32],
-    sorted: &mut [u8],
-) -> usize
+fn put_body(out: &mut [u8], at: usize, model: &[u8], index: &Index, scratch: &mut Scratch) -> usize
     requires copyable { Copyable model.now index.now }
-    requires at_bound { (at < 2 ^ 50) × Room kept.old sorted.old }
+    requires at_bound { at < 2 ^ 50 }
     ensures written { Written out.old at (write_body (fair_model (model_from model.now index.now))) out.new result }
     ensures upper_bound { result ≤ at + 472063 }
 {
     let fields = put_paper(out, at, index);
-    put_fields(out, fields, model, index, kept, sorted)
+    put_fields(out, fields, model, index, scratch)
 }
 
 // How long the copy is: its body on an empty buffer, after the header.
-fn copy_length(model: &[u8], index: &Index, kept: &mut [u32], sorted: &mut [u8]) -> usize
-    requires { Copyable model.now index.now × Room kept.old sorted.old }
+fn copy_length(model: &[u8], index: &Index, scratch: &mut Scratch) -> usize
+    requires { Copyable model.now index.now }
     ensures { result ≡ length (fair_copy (model_from model.now index.now)) }
 {
     let mut none = [0u8; 0];
-    put_body(&mut none, HEADER_LENGTH, model, index, kept, sorted)
+    put_body(&mut none, HEADER_LENGTH, model, index, scratch)
 }
 
 // The length that the copy needs where it does not fit so much room. It is no longer than the model, so that it is measured only where
 // there is less room than that.
-fn lacking(
-    model: &[u8],
-    index: &Index,
-    room: usize,
-    kept: &mut [u32],
-    sorted: &mut [u8],
-) -> Option<usize>
-    requires copyable { Copyable model.now index.now × Room kept.old sorted.old }
+fn lacking(model: &[u8], index: &Index, room: usize, scratch: &mut Scratch) -> Option<usize>
+    requires copyable { Copyable model.now index.now }
     requires index_in_bounds { length (fair_copy (model_from model.now index.now)) ≤ length model.now }
     ensures { result ≡ cond (leb (length (fair_copy (model_from model.now index.now))) room) None (Some (length (fair_copy (model_from model.now index.now)))) }
 {
     if model.len() <= room {
         return None;
     }
-    let needed = copy_length(model, index, kept, sorted);
+    let needed = copy_length(model, index, scratch);
     if needed <= room {
         return None;
     }
@@ -122,18 +97,12 @@ fn lacking(
 }
 
 // The copy: its body, then the header, which has its length. The place after it.
-fn put_copy(
-    out: &mut [u8],
-    model: &[u8],
-    index: &Index,
-    kept: &mut [u32],
-    sorted: &mut [u8],
-) -> usize
-    requires { Copyable model.now index.now × Room kept.old sorted.old }
+fn put_copy(out: &mut [u8], model: &[u8], index: &Index, scratch: &mut Scratch) -> usize
+    requires { Copyable model.now index.now }
     ensures written { Written out.old 0 (fair_copy (model_from model.now index.now)) out.new result }
     ensures upper_bound { result ≤ 472067 }
 {
-    let end = put_body(out, HEADER_LENGTH, model, index, kept, sorted);
+    let end = put_body(out, HEADER_LENGTH, model, index, scratch);
     put_half(out, 0, (end - 2) as u32);
     put_byte(out, 2, version_of(index) as u8);
     put_byte(out, 3, MODEL_KIND);
@@ -147,9 +116,11 @@ fn copy_open(model: &[u8], index: &Index, copy: &mut [u8]) -> Answer
     ensures value { result ≡ copy_answer (length model.now) (length (fair_copy (model_from model.now index.now))) (leb (length (fair_copy (model_from model.now index.now))) (length copy.old)) }
     ensures copy_after { copy.new ≡ copy_over copy.old (fair_copy (model_from model.now index.now)) (leb (length (fair_copy (model_from model.now index.now))) (length copy.old)) }
 {
-    let mut kept = [0u32; KEPT_LENGTH];
-    let mut sorted = [0u8; MOST_ROWS];
-    if let Some(needed) = lacking(model, index, copy.len(), &mut kept, &mut sorted) {
+    let mut scratch = Scratch {
+        kept: [0; KEPT_LENGTH],
+        sorted: [0; MOST_ROWS],
+    };
+    if let Some(needed) = lacking(model, index, copy.len(), &mut scratch) {
         return Answer {
             number: 15,
             sheet: 2,
@@ -158,7 +129,7 @@ fn copy_open(model: &[u8], index: &Index, copy: &mut [u8]) -> Answer
             score: 0,
         };
     }
-    let written = put_copy(copy, model, index, &mut kept, &mut sorted);
+    let written = put_copy(copy, model, index, &mut scratch);
     Answer {
         number: 0,
         sheet: 0,

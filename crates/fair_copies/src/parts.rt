@@ -3,7 +3,7 @@ ghost use Rattle.std.specs.Prelude.{◌≡◌, ℕ, ◌+◌, ◌*◌, ◌^◌, �
 ghost use Rattle.formats.specs.Joint.{count_up, join_all};
 ghost use Rattle.models.specs.Index.{entry, version_in, index_length, components_in, variables_in, GoodSpan};
 ghost use Rattle.buffers.specs.Written.{Written};
-ghost use Rattle.fair_copies.specs.Copyable.{Copyable, Room, entries, component_bytes};
+ghost use Rattle.fair_copies.specs.Copyable.{Copyable, entries, component_bytes};
 ghost use Rattle.fair_copies.specs.Items.{span_bytes, spans_bytes, item_bytes, items_bytes, GoodSpans, GoodItem, GoodItems, mode_items, switch_items, condition_items};
 
 use buffers::{put_byte, put_half};
@@ -14,6 +14,18 @@ use models::layout::{
     SWITCH_COUNT_AT, SWITCH_LENGTH, UNSAFE_LENGTH, UNSAFE_ROWS_AT, VARIABLES_AT,
 };
 use papers::opening::{number_at, version_of};
+
+// Eight rows of seventeen numbers, and eight row numbers: what a condition needs.
+pub(crate) const KEPT_LENGTH: usize = 136;
+
+pub(crate) const MOST_ROWS: usize = 8;
+
+// The numbers of a condition's rows and their order, while it is written.
+#[derive(Clone, Copy)]
+pub(crate) struct Scratch {
+    pub(crate) kept: [u32; KEPT_LENGTH],
+    pub(crate) sorted: [u8; MOST_ROWS],
+}
 
 // Items that an index keeps one after the other, the modes of a component, its switches, or the unsafe conditions: how many coefficients
 // their rows have, the place of the first, how many numbers each takes, and how many there are. Each has some numbers that are bytes of the
@@ -59,11 +71,10 @@ fn put_span(
     index: &Index,
     place: usize,
     n: usize,
-    kept: &mut [u32],
-    sorted: &mut [u8],
+    scratch: &mut Scratch,
 ) -> usize
     requires model_len_bound { (length model.now ≤ 32768) × ((place + 1 < index_length) × GoodSpan model.now (version_in index.now) n index.now place) }
-    requires at_bound { (at < 2 ^ 57) × ((n ≤ 16) × Room kept.old sorted.old) }
+    requires at_bound { (at < 2 ^ 57) × (n ≤ 16) }
     ensures written { Written out.old at (span_bytes model.now index.now n place) out.new result }
     ensures upper_bound { result ≤ at + 545 }
 {
@@ -76,7 +87,14 @@ fn put_span(
         place: first,
         rows,
     };
-    put_condition(out, at, model, stretch, kept, sorted)
+    put_condition(
+        out,
+        at,
+        model,
+        stretch,
+        &mut scratch.kept,
+        &mut scratch.sorted,
+    )
 }
 
 // The conditions of an item, one after the other: an index keeps each as two numbers. The place after them.
@@ -87,11 +105,10 @@ fn put_spans(
     index: &Index,
     items: Items,
     place: usize,
-    kept: &mut [u32],
-    sorted: &mut [u8],
+    scratch: &mut Scratch,
 ) -> usize
     requires model_len_bound { (length model.now ≤ 32768) × ((place + 2 * items.spans ≤ index_length) × GoodSpans model.now index.now items place) }
-    requires at_bound { (at < 2 ^ 56) × ((items.n ≤ 16) × ((items.spans ≤ 3) × Room kept.old sorted.old)) }
+    requires at_bound { (at < 2 ^ 56) × ((items.n ≤ 16) × (items.spans ≤ 3)) }
     ensures written { Written out.old at (spans_bytes model.now index.now items place) out.new result }
     ensures upper_bound { result ≤ at + 1635 }
 {
@@ -104,8 +121,7 @@ fn put_spans(
             index,
             place + SECOND_SPAN * i,
             items.n,
-            kept,
-            sorted,
+            scratch,
         );
     }
     next
@@ -119,25 +135,15 @@ fn put_item(
     index: &Index,
     items: Items,
     place: usize,
-    kept: &mut [u32],
-    sorted: &mut [u8],
+    scratch: &mut Scratch,
 ) -> usize
     requires model_len_bound { (length model.now ≤ 32768) × GoodItem model.now index.now items place }
-    requires at_bound { (at < 2 ^ 55) × Room kept.old sorted.old }
+    requires at_bound { at < 2 ^ 55 }
     ensures written { Written out.old at (item_bytes model.now index.now items place) out.new result }
     ensures upper_bound { result ≤ at + 1639 }
 {
     let head = put_entries(out, at, index, place, items.head);
-    put_spans(
-        out,
-        head,
-        model,
-        index,
-        items,
-        place + items.rows,
-        kept,
-        sorted,
-    )
+    put_spans(out, head, model, index, items, place + items.rows, scratch)
 }
 
 // All items of a kind. The place after them.
@@ -147,11 +153,10 @@ pub(crate) fn put_items(
     model: &[u8],
     index: &Index,
     items: Items,
-    kept: &mut [u32],
-    sorted: &mut [u8],
+    scratch: &mut Scratch,
 ) -> usize
     requires model_len_bound { (length model.now ≤ 32768) × GoodItems model.now index.now items }
-    requires at_bound { (at < 2 ^ 54) × Room kept.old sorted.old }
+    requires at_bound { at < 2 ^ 54 }
     ensures written { Written out.old at (items_bytes model.now index.now items) out.new result }
     ensures upper_bound { result ≤ at + 52448 }
 {
@@ -164,8 +169,7 @@ pub(crate) fn put_items(
             index,
             items,
             items.first + items.step * i,
-            kept,
-            sorted,
+            scratch,
         );
     }
     next
@@ -232,35 +236,18 @@ fn put_component(
     model: &[u8],
     index: &Index,
     k: usize,
-    kept: &mut [u32],
-    sorted: &mut [u8],
+    scratch: &mut Scratch,
 ) -> usize
     requires copyable { Copyable model.now index.now × (k < components_in index.now) }
-    requires at_bound { (at < 2 ^ 53) × Room kept.old sorted.old }
+    requires at_bound { at < 2 ^ 53 }
     ensures written { Written out.old at (component_bytes model.now index.now k) out.new result }
     ensures upper_bound { result ≤ at + 104900 }
 {
     let block = FIRST_BLOCK + BLOCK_LENGTH * k;
     let alphabet = put_half(out, at, u32::from(index[block]));
     let counts = put_entries(out, alphabet, index, block + MODE_COUNT_AT, 2);
-    let modes = put_items(
-        out,
-        counts,
-        model,
-        index,
-        modes_of(index, block),
-        kept,
-        sorted,
-    );
-    put_items(
-        out,
-        modes,
-        model,
-        index,
-        switches_of(index, block),
-        kept,
-        sorted,
-    )
+    let modes = put_items(out, counts, model, index, modes_of(index, block), scratch);
+    put_items(out, modes, model, index, switches_of(index, block), scratch)
 }
 
 // All components. The place after them.
@@ -269,18 +256,17 @@ pub(crate) fn put_components(
     at: usize,
     model: &[u8],
     index: &Index,
-    kept: &mut [u32],
-    sorted: &mut [u8],
+    scratch: &mut Scratch,
 ) -> usize
     requires copyable { Copyable model.now index.now }
-    requires at_bound { (at < 2 ^ 52) × Room kept.old sorted.old }
+    requires at_bound { at < 2 ^ 52 }
     ensures written { Written out.old at (join_all (component_bytes model.now index.now) (count_up 0 (components_in index.now))) out.new result }
     ensures upper_bound { result ≤ at + 419600 }
 {
     let count = number_at(index, COMPONENTS_AT);
     let mut next = at;
     for k in 0..count {
-        next = put_component(out, next, model, index, k, kept, sorted);
+        next = put_component(out, next, model, index, k, scratch);
     }
     next
 }

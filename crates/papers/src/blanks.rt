@@ -4,7 +4,7 @@ ghost use Rattle.std.specs.Prelude.{◌≡◌, ◌+◌, ◌*◌, ◌≤◌, ◌<
 ghost use Rattle.models.specs.Index.{GoodIndex, GoodSpan, components_in, index_length, span_rows, switch_count_in, variables_in, version_in};
 ghost use Rattle.models.specs.Counts.{KnownModes, KnownSwitches};
 ghost use Rattle.rules.specs.Runs as runs;
-ghost use Rattle.papers.specs.Blanks.{Owned, still_at, stays_at, lands_at, rests_at};
+ghost use Rattle.papers.specs.Blanks.{Owned, still_at, stays_at, lands_at, rests_at, KnownIn, keeps_at};
 
 use crate::opening::{number_at, version_of};
 use crate::standing::{mode_place, switch_place};
@@ -79,4 +79,16 @@ pub fn kept_in_jump(model: &[u8], index: &Index, switches: [u8; 4], v: usize) ->
         return true;
     }
     blank_in_jump(model, index, owner, i, v)
+}
+
+// Whether a variable keeps its value: in a flow in these modes, or in a jump by these switches.
+pub fn keeps(model: &[u8], index: &Index, flow: bool, numbers: [u8; 4], v: usize) -> bool
+    requires good_index { GoodIndex model.now index.now × (length model.now ≤ 32768) }
+    requires known_in { KnownIn flow index.now numbers × (v < variables_in index.now) }
+    ensures { result ≡ keeps_at model.now index.now flow numbers v }
+{
+    if flow {
+        return kept_in_flow(model, index, numbers, v);
+    }
+    kept_in_jump(model, index, numbers, v)
 }

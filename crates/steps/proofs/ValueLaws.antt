@@ -123,6 +123,13 @@ first-true a b e = ap (λ x. x || b) (sym e)
 pub first-false : (a b c : Bool) → a ≡ false → c ≡ b → c ≡ (a || b)
 first-false a b c e p = p ∙ ap (λ x. x || b) (sym e)
 
+-- a variable that is not kept is free
+pub kept-moves : (a b : Bool) → a ≡ false → true ≡ (not a || b)
+kept-moves a b e = ap (λ x. not x || b) (sym e)
+
+pub kept-stays : (a b c : Bool) → a ≡ true → c ≡ b → c ≡ (not a || b)
+kept-stays a b c e p = p ∙ ap (λ x. not x || b) (sym e)
+
 -- a value that is the same is kept; one that is not is where nothing asks that it be
 pub kept_same : (test : ℕ → Bool) (n : ℕ) (state : List ℤ) (v : ℕ) (same : Bool) → same ≡ same_at n state v → same ≡ true → true ≡ kept_at test n state v
 unfolding kept_at
@@ -131,6 +138,9 @@ kept_same test n state v same p e = sym (or-true (not (test v))) ∙ ap (λ x. n
 pub kept-changed : (test : ℕ → Bool) (n : ℕ) (state : List ℤ) (v : ℕ) (same kept : Bool) → same ≡ same_at n state v → same ≡ false → kept ≡ test v → not kept ≡ kept_at test n state v
 unfolding kept_at
 kept-changed test n state v same kept p e q = ap not q ∙ sym (or-false (not (test v))) ∙ ap (λ x. not (test v) || x) (sym e ∙ p)
+
+pub kept_of : (test : ℕ → Bool) (m n : ℕ) (state : List ℤ) (v : ℕ) (r : Bool) → m ≡ n → r ≡ kept_at test m state v → r ≡ kept_at test n state v
+kept_of test m n state v r e q = q ∙ ap (λ (k : ℕ). kept_at test k state v) e
 
 -- where a good index keeps rows: at an offset from a mode, of a switch, of an unsafe condition
 pub point-for : {n m : ℕ} {point : List ℤ} → n ≡ m → SmallPoint m point → SmallPoint n point

@@ -76,12 +76,16 @@ fn one_moves(model: &[u8], index: &Index, modes: [u8; 4], switches: [u8; 4]) -> 
 }
 
 // How many components move: those whose number is not 255.
-fn mover_count(model: &[u8], index: &Index, switches: [u8; 4]) -> usize
+fn mover_count(model: &[u8], index: &Index, switches: [u8; 4]) -> u32
     requires { GoodIndex model.now index.now }
     ensures { result ≡ length (runs.movers (components_from model.now index.now) (per_component index.now switches)) }
 {
     let components = number_at(index, COMPONENTS_AT);
-    switches[..components].iter().filter(|i| **i != 255).count()
+    let mut count: u32 = 0;
+    for k in 0..components {
+        count += u32::from(switches[k] != 255);
+    }
+    count
 }
 
 // Whether switch numbers, one per component, are a joint switch of an event from a location with these modes. As many components
@@ -94,7 +98,7 @@ pub fn is_joint(model: &[u8], index: &Index, modes: [u8; 4], e: u32, switches: [
     if e == 0 {
         return one_moves(model, index, modes, switches);
     }
-    let members = scope_mask(model, index, e).count_ones() as usize;
+    let members = scope_mask(model, index, e).count_ones();
     members != 0
         && mover_count(model, index, switches) == members
         && members_move(model, index, modes, e, switches)

@@ -46,10 +46,14 @@ pub fn condition_holds(
     ensures { result ≡ runs.condition_holds q (take count point.now) (span_rows s.now (version_in index.now) count index.now place) }
 {
     let version = version_of(index);
-    let first = number_at(index, place);
     let rows = number_at(index, place + COUNT_AT);
-    let size = row_bytes(version, count);
-    (0..rows).all(|j| row_holds(s, first + size * j, version, count, point, q))
+    let first = number_at(index, place);
+    for j in 0..rows {
+        if !row_holds(s, first + row_bytes(version, count) * j, version, count, point, q) {
+            return false;
+        }
+    }
+    true
 }
 
 // Whether the rows hold that an index keeps of the modes at an offset: 1 initial, 3 invariant, 5 flow.

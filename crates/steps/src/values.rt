@@ -1,6 +1,6 @@
 // Tests on the values of states, which stand in a lent slice: the values before in its first numbers, one to a variable, those after in as
 // many numbers from there on, and then their change. How a run may begin, unsafe states, the rules of flows and jumps.
-ghost use Rattle.std.specs.Prelude.{Bool, ◌≡◌, false, not, ℕ, ◌+◌, ◌*◌, ◌^◌, ◌≤◌, ◌<◌, eqb, length};
+ghost use Rattle.std.specs.Prelude.{◌≡◌, false, not, ℕ, ◌+◌, ◌*◌, ◌^◌, ◌≤◌, ◌<◌, eqb, length};
 ghost use Rattle.farkas.specs.Lists.{every};
 ghost use Rattle.formats.specs.Joint.{stays, count_up};
 ghost use Rattle.models.specs.Index.{model_from, GoodIndex, components_in, conditions_in, switch_count_in, variables_in};
@@ -77,19 +77,26 @@ fn same_value(v: usize, n: usize, state: &[i64]) -> bool
     state[n + v] == state[v]
 }
 
-// Whether the variables keep their values that a test says are kept. It is asked only where a value has changed.
-fn values_kept<K: Fn(usize) -> bool>(index: &Index, state: &[i64], keeps: K) -> bool
-    requires callable { (v : ℕ) → v < variables_in index.now → K.pre keeps v }
-    requires state_bound { 2 * variables_in index.now ≤ length state.now }
-    ensures { (test : ℕ → Bool) → ((v : ℕ) (r : Bool) → K.post keeps v r → r ≡ test v) → result ≡ every (kept_at test (variables_in index.now) state.now) (count_up 0 (variables_in index.now)) }
+// Whether a variable's value has changed though a flow in these modes, or a jump by these switches, keeps it. Rows are looked at only where
+// it has changed.
+fn moved(
+    model: &[u8],
+    index: &Index,
+    flow: bool,
+    numbers: [u8; 4],
+    v: usize,
+    n: usize,
+    state: &[i64],
+) -> bool
+    requires good_index { GoodIndex model.now index.now × (length model.now ≤ 32768) }
+    requires known_in { KnownIn flow index.now numbers × (v < variables_in index.now) }
+    requires v_lt_n { (v < n) × (2 * n ≤ length state.now) }
+    ensures { not result ≡ kept_at (keeps_at model.now index.now flow numbers) n state.now v }
 {
-    let n = number_at(index, VARIABLES_AT);
-    for v in 0..n {
-        if !same_value(v, n, state) && keeps(v) {
-            return false;
-        }
+    if same_value(v, n, state) {
+        return false;
     }
-    true
+    keeps(model, index, flow, numbers, v)
 }
 
 // Whether the variables keep their values that no flow row mentions.
@@ -101,7 +108,8 @@ fn still_kept(model: &[u8], index: &Index, modes: [u8; 4], state: &[i64]) -> boo
     if !keeps_blanks(version_of(index)) {
         return true;
     }
-    values_kept(index, state, |v| keeps(model, index, true, modes, v))
+    let n = number_at(index, VARIABLES_AT);
+    (0..n).all(|v| !moved(model, index, true, modes, v, n, state))
 }
 
 // Whether a flow of this time meets its rule. The changes of the values stand behind them then.
@@ -151,6 +159,18 @@ pub fn jump_rows(model: &[u8], index: &Index, q: u32, switches: [u8; 4], state: 
     (0..components).all(|k| move_holds(model, index, k, switches[k], state, q))
 }
 
+// Whether a variable's value is the same after as before, where its owner stays.
+fn value_kept(index: &Index, switches: [u8; 4], v: usize, n: usize, state: &[i64]) -> bool
+    requires owned { Owned index.now × (v < variables_in index.now) }
+    requires v_lt_n { (v < n) × (2 * n ≤ length state.now) }
+    ensures { result ≡ kept_at (stays_at index.now switches) n state.now v }
+{
+    if !owner_stays(index, switches, v) {
+        return true;
+    }
+    same_value(v, n, state)
+}
+
 // Whether the variables keep their values that a jump by these switches keeps, from whichever location. Where no blank is kept, only
 // owners are looked at.
 pub fn staying_kept(model: &[u8], index: &Index, switches: [u8; 4], state: &[i64]) -> bool
@@ -158,10 +178,11 @@ pub fn staying_kept(model: &[u8], index: &Index, switches: [u8; 4], state: &[i64
     requires known_switches { KnownSwitches index.now switches × (2 * variables_in index.now ≤ length state.now) }
     ensures { (location : ℕ) → result ≡ runs.staying_kept (model_from model.now index.now) (state_of index.now location state.now) (per_component index.now switches) (values_after index.now state.now) }
 {
+    let n = number_at(index, VARIABLES_AT);
     if !keeps_blanks(version_of(index)) {
-        return values_kept(index, state, |v| owner_stays(index, switches, v));
+        return (0..n).all(|v| value_kept(index, switches, v, n, state));
     }
-    values_kept(index, state, |v| keeps(model, index, false, switches, v))
+    (0..n).all(|v| !moved(model, index, false, switches, v, n, state))
 }
 
 // The values after a step are those before the next.

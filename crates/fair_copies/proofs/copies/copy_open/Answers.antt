@@ -12,9 +12,6 @@ use Rattle.fair_copies.proofs.copies.copy_open.Goals as goal
 abbrev copied : Start → ℕ
 copied s = length (fair_copy (model_from s.args.model.now s.args.index.now))
 
-pub lacking-requires : goal.lacking-requires
-lacking-requires c = record { copyable = (c.requires.copyable, (omega arith, omega arith)); index_in_bounds = c.requires.index_in_bounds }
-
 pub overflow_cast-result : goal.overflow_cast-result
 overflow_cast-result c =
     omega (arith, (lacks (copied (goal.at.overflow_cast-result c).Start) (length c.args.copy.now) c.in-Some.needed c.in-Some.ensures).1, c.requires.index_in_bounds, c.requires.copyable.short)

@@ -7,26 +7,8 @@ use Rattle.fair_copies.proofs.CopyLaws.{headed}
 use native.Mathlib.Omega.{arith}
 use Rattle.fair_copies.proofs.copies.put_copy.Goals as goal
 
-pub put_body-end-requires : goal.put_body-end-requires
-put_body-end-requires c = record { copyable = c.requires.0; at_bound = (omega arith, c.requires.1) }
-
-pub overflow_sub-end : goal.overflow_sub-end
-overflow_sub-end c = omega (arith, c.put_body-end.ensures.written.ends)
-
-pub overflow_cast-end : goal.overflow_cast-end
-overflow_cast-end c = omega (arith, c.put_body-end.ensures.upper_bound)
-
-pub put_half-requires : goal.put_half-requires
-put_half-requires c = omega arith
-
 pub overflow_cast-version_of : goal.overflow_cast-version_of
-overflow_cast-version_of c = omega (arith, c.version_of.ensures, version-small 1 _ c.requires.0.good.version)
-
-pub put_byte-requires : goal.put_byte-requires
-put_byte-requires c = omega arith
-
-pub put_byte-requires-2 : goal.put_byte-requires-2
-put_byte-requires-2 c = omega arith
+overflow_cast-version_of c = omega (arith, c.version_of.ensures, version-small 1 _ c.requires.good.version)
 
 pub returns : goal.returns
 unfolding model_from

@@ -1,5 +1,5 @@
 -- Counts, owners, components, unsafe conditions. Assumes nothing.
-use mathlib.Core.Path.{sym, ◌∙◌, subst}
+use mathlib.Core.Path.{sym, subst}
 use Prim.Native.Nat.{ℕ}
 use Rattle.models.specs.Index.{owner_place}
 use Rattle.buffers.specs.Written.{Written}
@@ -7,34 +7,20 @@ use Rattle.buffers.proofs.WritingLaws.{left-all, left-on, left-last, left_as}
 use Rattle.fair_copies.specs.Copyable.{entries}
 use Rattle.fair_copies.specs.declared.parts.Items.{Items}
 use Rattle.fair_copies.specs.Items.{items_bytes, GoodItems}
-use Rattle.fair_copies.proofs.PartLaws.{three-small, conditions-good}
+use Rattle.fair_copies.proofs.PartLaws.{conditions-good}
 use Rattle.fair_copies.proofs.CopyLaws.{fields-parts}
 use native.Mathlib.Omega.{arith}
 use Rattle.fair_copies.proofs.copies.put_fields.Goals as goal
-
-pub put_entries-counts-requires : goal.put_entries-counts-requires
-put_entries-counts-requires c =
-    let g = c.requires.copyable.good in
-    (omega (arith, c.requires.at_bound.0), (omega arith, three-small c.args.index.now 0 (omega (arith, g.most)) (omega (arith, g.few)) (omega (arith, g.conditions))))
-
-pub number_at-requires : goal.number_at-requires
-number_at-requires c = omega arith
 
 pub put_entries-owners-requires : goal.put_entries-owners-requires
 unfolding owner_place
 put_entries-owners-requires c =
     let g = c.requires.copyable.good in
-    (omega (arith, c.requires.at_bound.0, c.put_entries-counts.ensures.value), (omega (arith, c.number_at.ensures, g.most), λ k h. omega (arith, g.owners k (omega (arith, c.number_at.ensures)), g.few)))
-
-pub put_components-components-requires : goal.put_components-components-requires
-put_components-components-requires c = record { copyable = c.requires.copyable; at_bound = (omega (arith, c.requires.at_bound.0, c.put_entries-counts.ensures.value, c.put_entries-owners.ensures.value, c.number_at.ensures, c.requires.copyable.good.most), c.requires.at_bound.1) }
+    (omega (arith, c.requires.at_bound, c.put_entries-counts.ensures.value), (omega (arith, c.number_at.ensures, g.most), λ k h. omega (arith, g.owners k (omega (arith, c.number_at.ensures)), g.few)))
 
 pub put_items-requires : goal.put_items-requires
 put_items-requires c =
-    let w = c.put_components-components in record { model_len_bound = (c.requires.copyable.short, subst (λ (x : Items). GoodItems c.args.model.now c.args.index.now x) (sym c.conditions_of.ensures) (conditions-good c.args.model.now c.args.index.now c.requires.copyable)); at_bound = (omega (arith, c.requires.at_bound.0, w.ensures.upper_bound, c.put_entries-counts.ensures.value, c.put_entries-owners.ensures.value, c.number_at.ensures, c.requires.copyable.good.most), (omega (arith, w.auto.kept, c.requires.at_bound.1.0), omega (arith, w.auto.sorted, c.requires.at_bound.1.1))) }
-
-pub shape_of-out : goal.shape_of-out
-shape_of-out c = c.put_items.auto.out ∙ c.put_components-components.auto.out ∙ c.put_entries-owners.auto.out ∙ c.put_entries-counts.auto.out
+    let w = c.put_components-components in record { model_len_bound = (c.requires.copyable.short, subst (λ (x : Items). GoodItems c.args.model.now c.args.index.now x) (sym c.conditions_of.ensures) (conditions-good c.args.model.now c.args.index.now c.requires.copyable)); at_bound = omega (arith, c.requires.at_bound, w.ensures.upper_bound, c.put_entries-counts.ensures.value, c.put_entries-owners.ensures.value, c.number_at.ensures, c.requires.copyable.good.most) }
 
 pub returns : goal.returns
 returns c =

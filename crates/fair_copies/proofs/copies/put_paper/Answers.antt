@@ -16,9 +16,6 @@ returns-then-not-has_paper c =
     let index = a.index.now in
     let e = ap has_paper (sym c.version_of.ensures) ∙ sym c.has_paper.ensures ∙ c.if-not-has_paper.true in record { written = paper-none (version_in index) (paper_in index) a.out.now a.at e; upper_bound = omega arith }
 
-pub put_word-requires : goal.put_word-requires
-put_word-requires c = omega (arith, c.requires)
-
 pub returns : goal.returns
 returns c =
     let a = c.args in

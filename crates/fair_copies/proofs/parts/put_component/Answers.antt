@@ -27,18 +27,18 @@ unfolding component_place
 put_entries-counts-requires c =
     let g = blocked (goal.at.put_entries-counts-requires c).Start in
     let block = 16 + 219 * c.args.k in
-    (omega (arith, c.put_half-alphabet.ensures.0, c.requires.at_bound.0), (omega (arith, few (goal.at.put_entries-counts-requires c).Start), two-small c.args.index.now (block + 1) (omega (arith, g.most)) (subst (λ (p : ℕ). entry c.args.index.now p < 256) (onward block) (omega (arith, g.few)))))
+    (omega (arith, c.put_half-alphabet.ensures.0, c.requires.at_bound), (omega (arith, few (goal.at.put_entries-counts-requires c).Start), two-small c.args.index.now (block + 1) (omega (arith, g.most)) (subst (λ (p : ℕ). entry c.args.index.now p < 256) (onward block) (omega (arith, g.few)))))
 
 pub put_items-modes-requires : goal.put_items-modes-requires
 unfolding component_place
 put_items-modes-requires c =
-    let g = c.requires.copyable.0 in record { model_len_bound = (g.short, subst (λ (x : Items). GoodItems c.args.model.now c.args.index.now x) (sym c.modes_of.ensures) (modes-good c.args.model.now c.args.index.now g c.args.k c.requires.copyable.1)); at_bound = (omega (arith, c.put_entries-counts.ensures.value, c.put_half-alphabet.ensures.0, c.requires.at_bound.0), c.requires.at_bound.1) }
+    let g = c.requires.copyable.0 in record { model_len_bound = (g.short, subst (λ (x : Items). GoodItems c.args.model.now c.args.index.now x) (sym c.modes_of.ensures) (modes-good c.args.model.now c.args.index.now g c.args.k c.requires.copyable.1)); at_bound = omega (arith, c.put_entries-counts.ensures.value, c.put_half-alphabet.ensures.0, c.requires.at_bound) }
 
 pub put_items-requires : goal.put_items-requires
 unfolding component_place
 put_items-requires c =
     let g = c.requires.copyable.0 in
-    let m = c.put_items-modes in record { model_len_bound = (g.short, subst (λ (x : Items). GoodItems c.args.model.now c.args.index.now x) (sym c.switches_of.ensures) (switches-good c.args.model.now c.args.index.now g c.args.k c.requires.copyable.1)); at_bound = (omega (arith, m.ensures.upper_bound, c.put_entries-counts.ensures.value, c.put_half-alphabet.ensures.0, c.requires.at_bound.0), (omega (arith, m.auto.kept, c.requires.at_bound.1.0), omega (arith, m.auto.sorted, c.requires.at_bound.1.1))) }
+    let m = c.put_items-modes in record { model_len_bound = (g.short, subst (λ (x : Items). GoodItems c.args.model.now c.args.index.now x) (sym c.switches_of.ensures) (switches-good c.args.model.now c.args.index.now g c.args.k c.requires.copyable.1)); at_bound = omega (arith, m.ensures.upper_bound, c.put_entries-counts.ensures.value, c.put_half-alphabet.ensures.0, c.requires.at_bound) }
 
 pub returns : goal.returns
 unfolding component_place entry

@@ -16,7 +16,7 @@ returns-then-e-eq0 c =
     c.one_moves.ensures
     ∙ sym (joint-one components (per_component a.index.now a.modes) (per_component a.index.now a.switches) a.e c.if-e-eq0.true)
 
-some-members : (c : Then-mover_count-members) → ones c.scope_mask.result ≡ 0 → ⊥
+some-members : (c : Then-mover_count-members) → ones c.scope_mask-members.result ≡ 0 → ⊥
 some-members c none =
     elim c.if-members-ne0.branch [
       | then-members-ne0 w ↦ w.if-members-ne0.true none
@@ -27,7 +27,7 @@ pub returns-then-mover_count-members : goal.returns-then-mover_count-members
 returns-then-mover_count-members c =
     let a = c.args in
     let components = components_from a.model.now a.index.now in
-    let mask = c.scope_mask in
+    let mask = c.scope_mask-members in
     c.members_move.ensures
     ∙ sym (joint-members components (per_component a.index.now a.modes) (per_component a.index.now a.switches) a.e mask.result c.if-e-eq0.false mask.ensures (some-members (goal.at.returns-then-mover_count-members c).Then-mover_count-members))
 
@@ -37,7 +37,7 @@ returns-else-mover_count-members c =
     let components = components_from a.model.now a.index.now in
     let modes = per_component a.index.now a.modes in
     let switches = per_component a.index.now a.switches in
-    let mask = c.scope_mask in
+    let mask = c.scope_mask-members in
     let lost = c.if-mover_count-members.false in
     lost
     ∙ elim c.if-members-ne0.branch [

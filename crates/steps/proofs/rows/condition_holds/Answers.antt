@@ -1,38 +1,56 @@
--- Every row's test, at its place. Assumes nothing.
-use Rattle.std.proofs.Common.{rules, tests, ◌∙◌, ap, arith, ℕ, ◌*◌, ◌+◌, ◌≤◌, ◌<◌, length, subst, sym, take, Bool}
-use Rattle.std.proofs.lemmas.Iterator.{serves_from_Range}
-use Rattle.formats.specs.Versions.{row_bytes}
-use Rattle.models.specs.Index.{entry}
+-- The rows that are left hold exactly when all do. Assumes nothing.
+use mathlib.Core.Path.{◌≡◌, refl, ap, ◌∙◌}
+use mathlib.Core.Bool.{Bool}
+use Prim.Native.Nat.{ℕ, ◌+◌, ◌*◌}
+use native.Mathlib.Omega.{arith}
+use lib.ListN.{take}
+use Rattle.farkas.specs.Lists.{every}
 use Rattle.farkas.specs.Rows.{row_holds}
 use Rattle.fields.specs.Places.{row_at}
-use Rattle.steps.proofs.ValueLoops.{all-range}
-use Rattle.steps.proofs.ValueLaws.{row_room, rows-range}
-use Rattle.steps.proofs.rows.condition_holds.Goals.{After-row_bytes-size}
+use Rattle.formats.specs.Joint.{count_up}
+use Rattle.formats.specs.Versions.{row_bytes}
+use Rattle.models.specs.Index.{entry, span_rows}
+use Rattle.rules.specs.Runs as runs
+use Rattle.steps.proofs.ValueLoops.{each-pass, each-fail, each_none}
+use Rattle.steps.proofs.ValueLaws.{rows-range}
+use Rattle.steps.proofs.rows.condition_holds.Goals.{After-number_at-first, After-row_holds}
 use Rattle.steps.proofs.rows.condition_holds.Goals as goal
 
-rows-within : (c : After-row_bytes-size) (j : ℕ) → j < c.number_at-rows.result → c.number_at-first.result + c.row_bytes-size.result * j + row_bytes c.version_of-version.result c.args.count ≤ length c.args.s.now
-rows-within c j h =
+-- what is asked of a row, and of all
+abbrev test : After-number_at-first → ℕ → Bool
+test c j =
     let a = c.args in
-    let first = c.number_at-first in
-    let version = c.version_of-version in
-    let size = c.row_bytes-size in
-    let few : j < entry a.index.now (a.place + 1) = omega (arith, h, c.number_at-rows.ensures) in
-    row_room (entry a.index.now a.place) version.result a.count (first.result + size.result * j) j (ap (λ (k : ℕ). k + size.result * j) first.ensures ∙ ap (λ (k : ℕ). entry a.index.now a.place + k * j) size.ensures) (length a.s.now)
-    (subst (λ (v : ℕ). entry a.index.now a.place + row_bytes v a.count * (j + 1) ≤ length a.s.now) (sym version.ensures) (c.requires.s_len_bound.1.1.within j few))
+    row_holds a.q (take a.count a.point.now) (row_at a.s.now c.version_of-version.result a.count (c.number_at-first.result + row_bytes c.version_of-version.result a.count * j)).row
 
-pub all-requires-clause-callable : goal.all-requires-clause-callable
-all-requires-clause-callable c = serves_from_Range (λ x q k. search (rules, tests)) (λ x low high. let within = rows-within (goal.at.all-requires-clause-callable c).After-row_bytes-size x high in search rules)
+whole : (c : After-number_at-first) → every (test c) (count_up 0 c.number_at-rows.result) ≡ runs.condition_holds c.args.q (take c.args.count c.args.point.now) (span_rows c.args.s.now (entry c.args.index.now 11) c.args.count c.args.index.now c.args.place)
+whole c =
+    let a = c.args in
+    let version = c.version_of-version in
+    let first = c.number_at-first in
+    ap (λ (n : ℕ). every (test c) (count_up 0 n)) c.number_at-rows.ensures
+    ∙ rows-range a.s.now (entry a.index.now 11) a.count a.q (take a.count a.point.now) a.index.now a.place version.result first.result (row_bytes version.result a.count) version.ensures first.ensures refl
+
+-- what a turn tells of its row
+told : (c : After-row_holds) → c.row_holds.result ≡ test (goal.at.After-row_holds c).After-number_at-first c.loop-j.j
+told c =
+    let a = c.args in
+    c.row_holds.ensures
+    ∙ ap (λ (size : ℕ). row_holds a.q (take a.count a.point.now) (row_at a.s.now c.version_of-version.result a.count (c.number_at-first.result + size * c.loop-j.j)).row) c.row_bytes.ensures
+
+pub returns-then-not-row_holds : goal.returns-then-not-row_holds
+returns-then-not-row_holds c =
+    let start = (goal.at.returns-then-not-row_holds c).After-number_at-first in
+    let rows = c.number_at-rows.result in
+    each-fail (test start) rows c.loop-j.j (every (test start) (count_up 0 rows)) c.row_holds.result c.loop-j-test.true (told (goal.at.returns-then-not-row_holds c).After-row_holds) c.if-not-row_holds.true c.loop-j.invariant ∙ whole start
+
+pub loop-j-preserved : goal.loop-j-preserved
+loop-j-preserved c =
+    let start = (goal.at.loop-j-preserved c).After-number_at-first in
+    let rows = c.number_at-rows.result in
+    each-pass (test start) rows c.loop-j.j (every (test start) (count_up 0 rows)) c.row_holds.result c.loop-j-test.true (told (goal.at.loop-j-preserved c).After-row_holds) c.if-not-row_holds.false c.loop-j.invariant
 
 pub returns : goal.returns
 returns c =
-    let a = c.args in
-    let s = a.s.now in
-    let point = take a.count a.point.now in
-    let index = a.index.now in
-    let version = c.version_of-version in
-    let first = c.number_at-first in
-    let rows = c.number_at-rows in
-    let size = c.row_bytes-size in
-    let test : ℕ → Bool = λ j. row_holds a.q point (row_at s version.result a.count (first.result + size.result * j)).row in
-    all-range test rows.result (entry index (a.place + 1)) rows.ensures c.all.ensures.ran (λ x b q k. search (rules, tests))
-    ∙ rows-range s (entry index 11) a.count a.q point index a.place version.result first.result size.result version.ensures first.ensures size.ensures
+    let start = (goal.at.returns c).After-number_at-first in
+    let rows = c.number_at-rows.result in
+    each_none (test start) rows c.loop-j.j (every (test start) (count_up 0 rows)) (omega arith) c.loop-j.invariant ∙ whole start

@@ -14,6 +14,10 @@ use Rattle.models.specs.Counts.{per_component}
 use Rattle.papers.specs.Blanks.{rests_at, stays_at, KnownIn, keeps_at}
 use Rattle.rules.specs.Runs as runs
 use Rattle.steps.specs.Held.{state_of, values_after, kept_at}
+use Rattle.papers.proofs.BlankLaws.{owners-known}
+use Rattle.std.proofs.lemmas.Iterator.{serves_from_Range}
+use Rattle.steps.proofs.ValueLaws.{kept_of}
+use Rattle.steps.proofs.ValueLoops.{all-range}
 use Rattle.steps.proofs.ValueStates.{owned-all, staying-told}
 use Rattle.steps.proofs.values.staying_kept.Goals.{Start}
 use Rattle.steps.proofs.values.staying_kept.Goals as goal
@@ -34,19 +38,31 @@ whole_is c location =
 
 pub returns-then-not-keeps_blanks : goal.returns-then-not-keeps_blanks
 returns-then-not-keeps_blanks c =
-    let index = c.args.index.now in
+    let a = c.args in
+    let index = a.index.now in
+    let n = c.number_at-n in
     let keeps = c.keeps_blanks in
     let free : keeps.result ≡ keeps_blanks (entry index 11) = keeps.ensures ∙ ap keeps_blanks c.version_of.ensures in
     λ location.
-    c.values_kept.ensures (stays_at index c.args.switches) (λ v r k. search (rules, tests))
-    ∙ owned-all c.args.model.now index c.args.switches (entry index 0) c.args.state.now (sym free ∙ c.if-not-keeps_blanks.true) ∙ whole_is (goal.at.returns-then-not-keeps_blanks c).Start location
+    all-range (kept_at (stays_at index a.switches) (entry index 0) a.state.now) n.result (entry index 0) n.ensures c.all.ensures.ran (λ x b q k. search (rules, tests, kept_of))
+    ∙ owned-all a.model.now index a.switches (entry index 0) a.state.now (sym free ∙ c.if-not-keeps_blanks.true) ∙ whole_is (goal.at.returns-then-not-keeps_blanks c).Start location
 
-pub values_kept-requires-2-clause-callable : goal.values_kept-requires-2-clause-callable
+pub all-requires-clause-callable : goal.all-requires-clause-callable
+all-requires-clause-callable c =
+    let owned = owners-known c.requires.good_index.0 in
+    serves_from_Range (λ x q k. search (rules, tests)) (λ x low high. search rules)
+
+pub all-requires-2-clause-callable : goal.all-requires-2-clause-callable
 unfolding KnownIn
-values_kept-requires-2-clause-callable c = λ v h. search rules
+all-requires-2-clause-callable c = serves_from_Range (λ x q k. search (rules, tests)) (λ x low high. search rules)
 
 pub returns : goal.returns
 unfolding keeps_at
-returns c = λ location.
-    c.values_kept-2.ensures (rests_at c.args.model.now c.args.index.now c.args.switches) (λ v r k. search (rules, tests))
+returns c =
+    let a = c.args in
+    let index = a.index.now in
+    let n = c.number_at-n in
+    let rests = rests_at a.model.now index a.switches in
+    λ location.
+    all-range (kept_at rests (entry index 0) a.state.now) n.result (entry index 0) n.ensures c.all-2.ensures.ran (λ x b q k. search (rules, tests, kept_of))
     ∙ whole_is (goal.at.returns c).Start location
