@@ -14,7 +14,6 @@ use Rattle.models.specs.Counts.{per_component}
 use Rattle.papers.specs.Blanks.{rests_at, stays_at, KnownIn, keeps_at}
 use Rattle.rules.specs.Runs as runs
 use Rattle.steps.specs.Held.{state_of, values_after, kept_at}
-use Rattle.papers.proofs.BlankLaws.{owners-known}
 use Rattle.std.proofs.lemmas.Iterator.{serves_from_Range}
 use Rattle.steps.proofs.ValueLaws.{kept_of}
 use Rattle.steps.proofs.ValueLoops.{all-range}
@@ -46,11 +45,6 @@ returns-then-not-keeps_blanks c =
     λ location.
     all-range (kept_at (stays_at index a.switches) (entry index 0) a.state.now) n.result (entry index 0) n.ensures c.all.ensures.ran (λ x b q k. search (rules, tests, kept_of))
     ∙ owned-all a.model.now index a.switches (entry index 0) a.state.now (sym free ∙ c.if-not-keeps_blanks.true) ∙ whole_is (goal.at.returns-then-not-keeps_blanks c).Start location
-
-pub all-requires-clause-callable : goal.all-requires-clause-callable
-all-requires-clause-callable c =
-    let owned = owners-known c.requires.good_index.0 in
-    serves_from_Range (λ x q k. search (rules, tests)) (λ x low high. search rules)
 
 pub all-requires-2-clause-callable : goal.all-requires-2-clause-callable
 unfolding KnownIn

@@ -5,17 +5,11 @@ use Rattle.steps.specs.Held.{same_at, kept_at}
 use Rattle.steps.proofs.ValueLaws.{kept-moves, kept-stays}
 use Rattle.steps.proofs.values.value_kept.Goals as goal
 
-pub owner_stays-requires : goal.owner_stays-requires
-owner_stays-requires c = c.requires.owned
-
 pub returns-then-not-owner_stays : goal.returns-then-not-owner_stays
 unfolding kept_at
 returns-then-not-owner_stays c =
     let a = c.args in
     kept-moves (stays_at a.index.now a.switches a.v) (same_at a.n a.state.now a.v) (sym c.owner_stays.ensures ∙ c.if-not-owner_stays.true)
-
-pub same_value-requires : goal.same_value-requires
-same_value-requires c = c.requires.v_lt_n
 
 pub returns : goal.returns
 unfolding kept_at
