@@ -49,14 +49,8 @@ pub fn condition_holds(
     let rows = number_at(index, place + COUNT_AT);
     let first = number_at(index, place);
     for j in 0..rows {
-        if !row_holds(
-            s,
-            first + row_bytes(version, count) * j,
-            version,
-            count,
-            point,
-            q,
-        ) {
+        let at = first + row_bytes(version, count) * j;
+        if !row_holds(s, at, version, count, point, q) {
             return false;
         }
     }
