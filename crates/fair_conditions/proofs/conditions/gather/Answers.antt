@@ -11,7 +11,6 @@ use Rattle.fair_rows.specs.FairRows.{fair_rows}
 use Rattle.fair_conditions.specs.Held.{rows_by}
 use Rattle.fair_conditions.proofs.GatherLaws.{gather-starts, gather-goes-on}
 use native.Mathlib.Omega.{arith}
-use Rattle.fair_conditions.proofs.conditions.gather.Goals.{In-loop-j}
 use Rattle.fair_conditions.proofs.conditions.gather.Goals as goal
 
 pub loop-j-init : goal.loop-j-init
