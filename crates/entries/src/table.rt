@@ -23,15 +23,13 @@ pub extern "C" fn silfoddra_joint_list(
     let count = record_count(answer);
     let mut at = list_start();
     let mut j: usize = 0;
-    let mut i: usize = 0;
-    while i < count {
+    for i in 0..count {
         if j == at.count {
             at = next_batch(model, index, at);
             j = 0;
         }
         table[i] = unpacked(at.words[j]);
         j += 1;
-        i += 1;
     }
     answer
 }

@@ -88,20 +88,6 @@ pub fn leaves_by(s: &[u8], index: &Index, k: usize, i: usize, mode: u8, e: u32) 
     u32::from(index[place + LABEL_AT]) == e && index[place] == u16::from(mode)
 }
 
-// 1 for yes, 0 for no.
-pub fn bit_of(yes: bool) -> u32
-    ensures { result ≡ bit yes }
-{
-    if yes { 1 } else { 0 }
-}
-
-// A number of an index, as other numbers have it.
-pub fn wide(x: u16) -> u32
-    ensures { result ≡ x }
-{
-    x as u32
-}
-
 // Whether a component is in the scope of an event.
 pub fn in_scope(s: &[u8], index: &Index, k: usize, e: u32) -> bool
     requires good_index { GoodIndex s.now index.now }

@@ -1,5 +1,4 @@
 use mathlib.Core.Path.{◌≡◌}
-use Prim.Native.Nat.{◌-◌}
 use lib.ListN.{length}
 use Rattle.formats.specs.ModelSheet.{stated}
 use Rattle.entries.proofs.ListPlan.{Plan, Written}
@@ -9,6 +8,3 @@ use Rattle.entries.proofs.table.silfoddra_joint_list.Given as goal
 abbrev pub invariant-loop-i : goal.invariant-loop-i
 invariant-loop-i l =
     (p : Plan (stated l.locations l.joints) l.model l.index l.count l.initial.table) × (Written p l.i l.j l.at l.table × (length l.at.words ≡ 64))
-
-abbrev pub decreases-loop-i : goal.decreases-loop-i
-decreases-loop-i l = l.count - l.i
