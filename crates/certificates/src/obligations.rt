@@ -35,6 +35,8 @@ fn goal_place(group: Group, n: usize, goal: u32) -> usize
 }
 
 // The proof of a group's goal, by its number: read from a place on, and tested. The sums must be 0 before, and are 0 again where it passes.
+// A part of both loops over goals: a call for each costs, counted, up to half as many instructions again.
+#[inline(always)]
 fn mark_goal(
     model: &[u8],
     second: &[u8],

@@ -109,6 +109,8 @@ pub fn line_strict(model: &[u8], second: &[u8], version: u32, n: usize, line: Li
 }
 
 // A hypothesis, its mark aside, added m times: a row on x, a row on x', a flow row, or a later form.
+// A part of the loop over entries wherever a proof is marked: a call for each costs, counted, up to a third more.
+#[inline(always)]
 pub fn add_line(
     model: &[u8],
     second: &[u8],

@@ -21,6 +21,8 @@ use second_sheets::certificate::{entry, proof_head};
 // The next entry of a proof, read and added to the sums. Where the sums at all unknowns and the summed bound were those of the first i
 // entries, they are now those of the first i + 1 (document 02, order 3), from whatever place the entries begin at. After a refusal the sums
 // are of no use.
+// A part of the loop over entries wherever a proof is marked: a call for each costs, counted, up to a third more.
+#[inline(always)]
 fn add_entry(
     model: &[u8],
     second: &[u8],
@@ -61,6 +63,8 @@ fn add_entry(
 }
 
 // So many entries of a proof, read from a place on and summed one by one; the sums must be 0 before.
+// Part of a proof wherever it is marked, as its entries are.
+#[inline(always)]
 fn sum_entries(
     model: &[u8],
     second: &[u8],
@@ -127,6 +131,8 @@ fn judged(verdict: Result<(), Mismatch>, at: usize, end: usize) -> Next
 
 // A proof at a place, read and tested: from the hypotheses of a group's table, with the goal at a place. The sums must be 0 before, and
 // where the proof passes they are 0 again; else they are of no use.
+// Two loops mark proofs, and it is a part of both: a call for each costs, counted, up to half as many instructions again.
+#[inline(always)]
 pub fn mark_proof(
     model: &[u8],
     second: &[u8],
