@@ -107,7 +107,8 @@ fn put_rows(
     next
 }
 
-// A condition of so many rows: the count of its fair rows, then the rows. The place after them.
+// A condition of so many rows: the count of its fair rows, then the rows. The place after them. The room is two slices, of at least so many
+// numbers: a struct of arrays would ask for just so many.
 pub fn put_condition(
     out: &mut [u8],
     at: usize,

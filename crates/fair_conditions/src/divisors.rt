@@ -44,7 +44,7 @@ pub(crate) fn coded(raised: u32) -> u32
     raised - SIGN_BIT
 }
 
-// The greatest common divisor of two numbers, by Euclid: 0 of two zeros.
+// The greatest common divisor of two numbers, by Euclid: 0 of two zeros. No `for`: nothing is counted.
 fn common(a: u32, b: u32) -> u32
     ensures { Common a b result }
 {

@@ -51,7 +51,8 @@ fn add_numbers(sums: &mut [i64], to: usize, words: &[u8], at: usize, count: usiz
     }
 }
 
-// A number of times, and its opposite, with a sign.
+// A number of times, and its opposite, with a sign. Beside the library's conversion each says how large the number is, once for all who
+// add it.
 pub fn times(m: u32) -> i64
     ensures { (result ≡ pos m) × (nat_abs result ≡ m) }
 {

@@ -24,7 +24,8 @@ fn read_some<R: Read>(input: &mut R, part: &mut [u8]) -> io::Result<usize>
     input.read(part)
 }
 
-// Reads until the buffer is full or the input ends. How many bytes were read: they stand at the buffer's start.
+// Reads until the buffer is full or the input ends. How many bytes were read: they stand at the buffer's start. No `for`: a turn goes on by
+// as many bytes as the reader gives.
 pub fn read_full<R: Read>(input: &mut R, buffer: &mut [u8]) -> io::Result<usize>
     // At any reader.
     ensures bound { ReadsAtMost result buffer.new }

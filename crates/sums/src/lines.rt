@@ -10,8 +10,8 @@ use crate::Line;
 use farkas::{add_one, add_rates, add_row, opposite, times};
 use fields::versions::{is_strict, rows_bytes};
 
-// The segment of a hypothesis, from a segment on that does not come after it. How many segments there are is not asked: the hypothesis
-// lies before the end of the last.
+// The segment of a hypothesis, from a segment on that does not come after it. How many segments there are is not asked, so no `for`: the
+// hypothesis lies before the end of the last.
 pub fn segment_of(table: &[u16], from: usize, segments: usize, h: u32) -> usize
     requires le_from { (1 ≤ from) × ((from ≤ segments) × ((segments ≤ 23) × (96 ≤ length table.now))) }
     requires from_bound { (end_of table.now (from - 1) ≤ h) × (h < end_of table.now segments) }
