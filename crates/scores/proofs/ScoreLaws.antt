@@ -33,3 +33,9 @@ module _ (done total score : ℕ) (some : total ≡ 0 → ⊥) (e : score ≡ ne
   pub score-capped : min score 99 ≡ refused_score done total
   unfolding refused_score
   score-capped = omega (arith, rounded)
+
+  pub score-most : 99 < score → 99 ≡ refused_score done total
+  score-most l = omega (arith, l, score-capped)
+
+  pub score-some : score ≤ 99 → score ≡ refused_score done total
+  score-some l = omega (arith, l, score-capped)
