@@ -29,8 +29,9 @@ use Rattle.sums.proofs.LineLaws.{line-there}
 use Rattle.papers.specs.Standing.{Stands}
 use Rattle.papers.specs.Paper.{regions_of}
 use Rattle.hypotheses.specs.Listing.{start_lines, flow_lines, unsafe_lines, jump_lines}
-use Rattle.rules.specs.Beside.{found, unfound}
-use Rattle.queries.specs.Finding.{stands_in, row_found, hypothesis_found, located, no_row, role_at, located_at, group_kind, group_line, group_hypotheses, group_roles, joint_hypotheses, Held}
+use Rattle.std.specs.Prelude.{Option, Some, None}
+use Rattle.queries.specs.declared.Located.{Located}
+use Rattle.queries.specs.Finding.{stands_in, row_of, in_role, located_at, group_kind, group_line, group_hypotheses, group_roles, joint_hypotheses, Held}
 use Rattle.hypotheses.proofs.HypothesisLines.{told, start-told, flow-told, unsafe-told, jump-lines-told}
 use Rattle.hypotheses.proofs.RoleLines.{roles, start-roles, flow-roles, unsafe-roles, jump-lines-roles}
 use Rattle.papers.proofs.RegionLaws.{region-at}
@@ -55,32 +56,24 @@ module _ (model second : List ℕ) (version n : ℕ) (table : List ℕ) (segment
       mapped_at role_of (lines_in table segments) h (line 0 0 0 0) no_role (omega (arith, l, lines-length table segments s))
       ∙ ap role_of (line-there table segments g h s i (line 0 0 0 0))
 
-  row-found-there : (g h : ℕ) {l : Line} {r : RowFound} → InSegment table segments g h → h < end_of table segments → l ≡ line_in table g h → r ≡ row_found (found (hypothesis_in model second version n l.form l.place l.row)) → r ≡ row_found (hypothesis_found (hypotheses_from model second version n table segments) h)
-  unfolding hypothesis_found
-  row-found-there g h i u q e =
+  pub row-there : (g h : ℕ) {l : Line} {r : RowFound} → InSegment table segments g h → h < end_of table segments → l ≡ line_in table g h → r ≡ row_of (hypothesis_in model second version n l.form l.place l.row) → Some (in_role r (owned l.form (owner_of table g))) ≡ located_at (hypotheses_from model second version n table segments) (roles_from table segments) h
+  unfolding located_at line_in
+  row-there g h {l} {r} i u q e =
       let all = hypotheses_from model second version n table segments in
+      let same : r ≡ row_of (get_or all h (nowhere zero_row)) =
       e
-      ∙ ap (λ (k : Line). row_found (found (hypothesis_in model second version n k.form k.place k.row))) q
-      ∙ ap (λ (x : Hypothesis). row_found (found x)) (sym (hypothesis-at g h i u))
-      ∙ ap (λ (b : Bool). row_found (elim b [ true ↦ found (get_or all h (nowhere zero_row)) | false ↦ unfound 5 2 0 ])) (sym (lt-ltb h (length all) (omega (arith, u, hypotheses-length))))
+      ∙ ap (λ (k : Line). row_of (hypothesis_in model second version n k.form k.place k.row)) q
+      ∙ ap row_of (sym (hypothesis-at g h i u)) in
+      let role : owned l.form (owner_of table g) ≡ get_or (roles_from table segments) h no_role =
+      ap (λ (k : Line). owned k.form (owner_of table g)) q ∙ sym (role-at g h i u) in
+      ap₂ (λ (x : RowFound) (k : Role). Some (in_role x k)) same role
+      ∙ ap (λ (b : Bool). elim b as (λ _. Option Located) [ true ↦ Some (in_role (row_of (get_or all h (nowhere zero_row))) (get_or (roles_from table segments) h no_role)) | false ↦ None ]) (sym (lt-ltb h (length all) (omega (arith, u, hypotheses-length))))
 
-  role-there : (g h : ℕ) {l : Line} → InSegment table segments g h → h < end_of table segments → l ≡ line_in table g h → owned l.form (owner_of table g) ≡ role_at (length (hypotheses_from model second version n table segments)) (roles_from table segments) h
-  unfolding role_at line_in
-  role-there g h i u q =
-      let count = length (hypotheses_from model second version n table segments) in
-      ap (λ (k : Line). owned k.form (owner_of table g)) q
-      ∙ sym (role-at g h i u)
-      ∙ ap (λ (b : Bool). elim b as (λ x. Role) [ true ↦ get_or (roles_from table segments) h no_role | false ↦ no_role ]) (sym (lt-ltb h count (omega (arith, u, hypotheses-length))))
-
-  pub row-there : (g h : ℕ) {l : Line} {r : RowFound} → InSegment table segments g h → h < end_of table segments → l ≡ line_in table g h → r ≡ row_found (found (hypothesis_in model second version n l.form l.place l.row)) → located r (owned l.form (owner_of table g)) ≡ located_at (hypotheses_from model second version n table segments) (roles_from table segments) h
+  pub row-beyond : (h : ℕ) → end_of table segments ≤ h → None ≡ located_at (hypotheses_from model second version n table segments) (roles_from table segments) h
   unfolding located_at
-  row-there g h i u q e = ap₂ located (row-found-there g h i u q e) (role-there g h i u q)
-
-  pub row-beyond : (h : ℕ) → end_of table segments ≤ h → no_row 5 2 0 ≡ located_at (hypotheses_from model second version n table segments) (roles_from table segments) h
-  unfolding hypothesis_found row_found located_at role_at no_row
   row-beyond h l =
       let all = hypotheses_from model second version n table segments in
-      ap (λ (b : Bool). located (row_found (elim b [ true ↦ found (get_or all h (nowhere zero_row)) | false ↦ unfound 5 2 0 ])) (elim b [ true ↦ get_or (roles_from table segments) h no_role | false ↦ no_role ])) (sym (le-ltb h (length all) (omega (arith, l, hypotheses-length))))
+      ap (λ (b : Bool). elim b as (λ _. Option Located) [ true ↦ Some (in_role (row_of (get_or all h (nowhere zero_row))) (get_or (roles_from table segments) h no_role)) | false ↦ None ]) (sym (le-ltb h (length all) (omega (arith, l, hypotheses-length))))
 
 -- a table that has nothing yet
 pub empty-stacked : (table : List ℕ) → entry table 0 ≡ 0 → Stacked table 0
@@ -93,18 +86,18 @@ empty-stacked table h = record {
 -- the sheet, place and size of a line's row, by its form
 module _ (model second : List ℕ) (version n place i : ℕ) where
   abbrev at : ℕ → RowFound
-  at form = row_found (found (hypothesis_in model second version n form place i))
+  at form = row_of (hypothesis_in model second version n form place i)
 
   pub form-second : (form : ℕ) → form ≡ 1 → row.InSecond (row_place version n place i) (row_bytes version n) ≡ at form
-  unfolding hypothesis_in standing row_at row_found stands_in
+  unfolding hypothesis_in standing row_at row_of stands_in
   form-second form e = ap at (sym e)
 
   pub form-jump : (form : ℕ) → form ≡ 7 → row.InModel (row_place version (2 * n) place i) (row_bytes version (2 * n)) ≡ at form
-  unfolding hypothesis_in standing row_at row_found stands_in
+  unfolding hypothesis_in standing row_at row_of stands_in
   form-jump form e = ap at (sym e)
 
   pub form-model : (form : ℕ) → form ≤ 5 → (form ≡ 1 → ⊥) → row.InModel (row_place version n place i) (row_bytes version n) ≡ at form
-  unfolding hypothesis_in standing row_at row_found stands_in
+  unfolding hypothesis_in standing row_at row_of stands_in
   form-model zero h f = refl
   form-model (suc zero) h f = absurd (f refl)
   form-model (suc (suc zero)) h f = refl
@@ -114,7 +107,7 @@ module _ (model second : List ℕ) (version n place i : ℕ) where
   form-model (suc (suc (suc (suc (suc (suc form)))))) h f = absurd (omega (arith, h))
 
   pub form-nowhere : (form : ℕ) → 5 < form → (form ≡ 7 → ⊥) → row.Nowhere ≡ at form
-  unfolding hypothesis_in nowhere row_found stands_in
+  unfolding hypothesis_in nowhere row_of stands_in
   form-nowhere zero h f = absurd (omega (arith, h))
   form-nowhere (suc zero) h f = absurd (omega (arith, h))
   form-nowhere (suc (suc zero)) h f = absurd (omega (arith, h))

@@ -89,63 +89,67 @@ stands_in zero place size = row.InModel place size
 stands_in (suc zero) place size = row.InSecond place size
 stands_in (suc (suc sheet)) place size = row.Nowhere
 
-unfoldable pub row_found : Found → RowFound
-row_found (found h) = stands_in h.sheet h.place h.size
-row_found (unfound number sheet place) = row.Refused number sheet place
+unfoldable pub row_of : Hypothesis → RowFound
+row_of h = stands_in h.sheet h.place h.size
+
+-- or why it is refused, by number, sheet and place
+unfoldable pub row_found : Found → Result RowFound Answer
+row_found (found h) = Ok (row_of h)
+row_found (unfound number sheet place) = Err (answer number sheet place 0 0)
 
 -- what each case stands for: the sister call's numbers, "the number, with the row's sheet and offset (2 and 0 for a row in no sheet)", and
 -- how many bytes the row has
-unfoldable pub row_answer : RowFound → Answer
-row_answer (row.InModel place size) = answer 0 0 place 0 0
-row_answer (row.InSecond place size) = answer 0 1 place 0 0
-row_answer row.Nowhere = answer 0 2 0 0 0
-row_answer (row.Refused number sheet place) = answer number sheet place 0 0
+unfoldable pub stood_answer : RowFound → Answer
+stood_answer (row.InModel place size) = answer 0 0 place 0 0
+stood_answer (row.InSecond place size) = answer 0 1 place 0 0
+stood_answer row.Nowhere = answer 0 2 0 0 0
 
 unfoldable pub row_length : RowFound → ℕ
 row_length (row.InModel place size) = size
 row_length (row.InSecond place size) = size
 row_length row.Nowhere = 0
-row_length (row.Refused number sheet place) = 0
+
+-- a refusal is the sister call's answer as it is
+unfoldable pub row_answer : Result Located Answer → Answer
+row_answer (Ok l) = stood_answer l.row
+row_answer (Err a) = a
 
 -- and that it lies inside its sheet
 unfoldable pub RowInside : List ℕ → List ℕ → RowFound → Type 0
 RowInside model second (row.InModel place size) = place + size ≤ length model
 RowInside model second (row.InSecond place size) = place + size ≤ length second
 RowInside model second row.Nowhere = Unit {0}
-RowInside model second (row.Refused number sheet place) = Unit {0}
 
--- The part that is shown: so many bytes of that sheet from that place on, or none
-unfoldable pub PartIs : List ℕ → List ℕ → RowFound → List ℕ → Type 0
-PartIs model second (row.InModel place size) part =
+-- The part that is shown: so many bytes of that sheet from that place on, or none; of a refusal none
+unfoldable pub PartIs : List ℕ → List ℕ → Result RowFound Answer → List ℕ → Type 0
+PartIs model second (Ok (row.InModel place size)) part =
     (place + size ≤ length model) × ((part ≡ take size (drop place model)) × (length part ≡ size))
-PartIs model second (row.InSecond place size) part =
+PartIs model second (Ok (row.InSecond place size)) part =
     (place + size ≤ length second) × ((part ≡ take size (drop place second)) × (length part ≡ size))
-PartIs model second row.Nowhere part = part ≡ []
-PartIs model second (row.Refused number sheet place) part = part ≡ []
+PartIs model second (Ok row.Nowhere) part = part ≡ []
+PartIs model second (Err a) part = part ≡ []
 
--- a hypothesis by its number among those of an obligation, and both answers on one obligation or none
-unfoldable pub hypothesis_found : List Hypothesis → ℕ → Found
-hypothesis_found hypotheses h =
-    elim (ltb h (length hypotheses)) [ true ↦ found (get_or hypotheses h (nowhere zero_row)) | false ↦ unfound 5 2 0 ]
+-- a row with its role and owner, which a refusal does not have
+unfoldable pub in_role : RowFound → Role → Located
+in_role r k = record { row = r; role = k.role; owner = k.owner }
 
--- with its role and owner, which a refusal does not have
-unfoldable pub located : RowFound → Role → Located
-located r k = record { row = r; role = k.role; owner = k.owner }
+unfoldable pub located : Result RowFound Answer → Role → Result Located Answer
+located (Ok r) k = Ok (in_role r k)
+located (Err a) k = Err a
 
-unfoldable pub no_row : ℕ → ℕ → ℕ → Located
-no_row number sheet place = located (row.Refused number sheet place) no_role
+-- a hypothesis by its number among those of an obligation, or none where there are not so many; and both answers on one obligation or none
+unfoldable pub located_at : List Hypothesis → List Role → ℕ → Option Located
+located_at hypotheses roles h =
+    elim (ltb h (length hypotheses)) [
+      | true ↦ Some (in_role (row_of (get_or hypotheses h (nowhere zero_row))) (get_or roles h no_role))
+      | false ↦ None
+    ]
 
-unfoldable pub role_at : ℕ → List Role → ℕ → Role
-role_at count roles h = elim (ltb h count) [ true ↦ get_or roles h no_role | false ↦ no_role ]
-
-unfoldable pub located_at : List Hypothesis → List Role → ℕ → Located
-located_at hypotheses roles h = located (row_found (hypothesis_found hypotheses h)) (role_at (length hypotheses) roles h)
-
-unfoldable pub located_of : (Obligation → List Role) → List Obligation → ℕ → Located
-located_of roles [] h = no_row 5 2 0
+unfoldable pub located_of : (Obligation → List Role) → List Obligation → ℕ → Option Located
+located_of roles [] h = None
 located_of roles (o ∷ rest) h = located_at o.hypotheses (roles o) h
 
-unfoldable pub hypothesis_located : Limits → List ℕ → List ℕ → ℕ → ℕ → Located
+unfoldable pub hypothesis_located : Limits → List ℕ → List ℕ → ℕ → ℕ → Result Located Answer
 hypothesis_located limits model second o h =
     located (row_found (find_hypothesis limits model second o h)) (hypothesis_role limits model second o h)
 
@@ -156,10 +160,10 @@ which_of size (o ∷ rest) = which_tells size o
 -- both answers, of a refusal, once the model is read, and from the start
 pub record Told : Type 0 where
   pub which : Which
-  pub row : Located
+  pub row : Result Located Answer
 
-unfoldable pub told_refused : ℕ → ℕ → ℕ → Told
-told_refused number sheet place = record { which = which_refused number sheet place; row = no_row number sheet place }
+unfoldable pub told_refused : Answer → Told
+told_refused a = record { which = which_refused a.number a.sheet a.place; row = Err a }
 
 unfoldable pub told_in : ℕ → (Obligation → List Role) → List Obligation → ℕ → ℕ → Told
 told_in size roles all o h = record { which = which_in size all o; row = located (row_found (find_in all o h)) (role_in roles all o h) }
@@ -334,13 +338,13 @@ group_hypotheses_for model index second regions = group_hypotheses (model_from m
 abbrev pub joint_hypotheses_for : List ℕ → List ℕ → List ℕ → List ℕ → JointSwitch → List Hypothesis
 joint_hypotheses_for model index second regions = joint_hypotheses (model_from model index) (regions_of model index second regions)
 
-abbrev pub group_row_for : List ℕ → List ℕ → List ℕ → List ℕ → ℕ → ℕ → ℕ → Located
+abbrev pub group_row_for : List ℕ → List ℕ → List ℕ → List ℕ → ℕ → ℕ → ℕ → Option Located
 group_row_for model index second regions location g =
     located_at
     (group_hypotheses_for model index second regions location g)
     (group_roles (model_from model index) (regions_of model index second regions) location g)
 
-abbrev pub joint_row_for : List ℕ → List ℕ → List ℕ → List ℕ → JointSwitch → ℕ → Located
+abbrev pub joint_row_for : List ℕ → List ℕ → List ℕ → List ℕ → JointSwitch → ℕ → Option Located
 joint_row_for model index second regions j =
     located_at (joint_hypotheses_for model index second regions j) (joint_roles (model_from model index) (regions_of model index second regions) j)
 
@@ -364,7 +368,7 @@ JointHeld model index second regions j table segments =
     (joint_hypotheses_for model index second regions j)
     (joint_roles (model_from model index) (regions_of model index second regions) j)
 
-abbrev pub sought_row_for : List ℕ → List ℕ → List ℕ → List ℕ → Sought → ℕ → Located
+abbrev pub sought_row_for : List ℕ → List ℕ → List ℕ → List ℕ → Sought → ℕ → Option Located
 sought_row_for model index second regions s =
     located_of (roles_for model index second regions) (sought_one model index (regions_of model index second regions) s)
 
@@ -394,4 +398,4 @@ pub record OpenFor (limits : Limits) (model index second regions : List ℕ) : T
 unfoldable pub OpensTo : Limits → List ℕ → List ℕ → List ℕ → List ℕ → Result (Unit {0}) Answer → Type 0
 OpensTo limits model index second regions (Ok done) = OpenFor limits model index second regions
 OpensTo limits model index second regions (Err a) =
-    (o h : ℕ) → told_refused a.number a.sheet a.place ≡ told_for limits model second o h
+    (o h : ℕ) → told_refused a ≡ told_for limits model second o h

@@ -39,23 +39,29 @@ fn find_location(paper: Paper, locations: u32, o: u32) -> Spot
     }
 }
 
+// How many goals a location's start has.
+fn start_goals(paper: Paper, location: u32, modes: [u8; 4]) -> u32
+    requires good_paper { PaperRead paper }
+    requires stands { Stands paper.model.now paper.index.now location modes }
+    ensures { result ≡ length (of_paper group_obligations_for paper.entry location 0) }
+{
+    if all_start(paper.model, paper.index, modes) {
+        region_rows(paper, location)
+    } else {
+        0
+    }
+}
+
 // How many goals a group of a location has.
 fn group_goals(paper: Paper, location: u32, modes: [u8; 4], g: u32) -> u32
     requires good_paper { PaperRead paper }
     requires stands { Stands paper.model.now paper.index.now location modes × (g < 2 + conditions_in paper.index.now) }
     ensures { result ≡ length (of_paper group_obligations_for paper.entry location g) }
 {
-    if 1 < g {
-        return u32::from(modes_fit(paper.model, paper.index, (g - 2) as usize, modes));
-    }
-    let rows = region_rows(paper, location);
-    if g == 1 {
-        return rows;
-    }
-    if all_start(paper.model, paper.index, modes) {
-        rows
-    } else {
-        0
+    match g {
+        0 => start_goals(paper, location, modes),
+        1 => region_rows(paper, location),
+        _ => u32::from(modes_fit(paper.model, paper.index, (g - 2) as usize, modes)),
     }
 }
 

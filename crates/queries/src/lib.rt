@@ -44,17 +44,15 @@ pub enum Sought {
     AtJoint(JumpLine),
 }
 
-// Where the row of a hypothesis stands: in the model or in the second sheet, at a place and with a size in bytes; in no sheet; or why it is
-// refused, by number, sheet and place.
+// Where the row of a hypothesis stands: in the model or in the second sheet, at a place and with a size in bytes; or in no sheet.
 #[derive(Clone, Copy)]
 pub enum RowFound {
     InModel(u32, u32),
     InSecond(u32, u32),
     Nowhere,
-    Refused(u32, u32, u32),
 }
 
-// Where the row of a hypothesis stands; its role, which is the form of its line; and its owner. A refusal has 0 and 0.
+// Where the row of a hypothesis stands; its role, which is the form of its line; and its owner.
 #[derive(Clone, Copy)]
 pub struct Located {
     pub row: RowFound,

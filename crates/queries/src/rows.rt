@@ -7,8 +7,7 @@ ghost use Rattle.models.specs.Index.{components_from, conditions_in};
 ghost use Rattle.hypotheses.specs.Tables.{row_place, hypothesis_in, hypotheses_from, roles_from, Stacked};
 ghost use Rattle.papers.specs.Paper.{PaperRead, of_paper, on_paper};
 ghost use Rattle.papers.specs.Standing.{Stands};
-ghost use Rattle.rules.specs.Beside.{found};
-ghost use Rattle.queries.specs.Finding.{row_found, no_row, located_at, joint_here, KnownSought, GroupHeld, JointHeld, group_row_for, joint_row_for, sought_row_for};
+ghost use Rattle.queries.specs.Finding.{row_of, located_at, joint_here, KnownSought, GroupHeld, JointHeld, group_row_for, joint_row_for, sought_row_for};
 
 use crate::{Located, RowFound, Sought};
 use fields::versions::row_bytes;
@@ -28,13 +27,11 @@ fn table_at(paper: Paper, location: u32, modes: [u8; 4], g: u32, table: &mut [u1
     ensures group_held { on_paper GroupHeld paper.entry location g table.new result }
     ensures stacked { Stacked table.new result × (result ≤ 23) }
 {
-    if g == 0 {
-        return start_table(paper.model, paper.index, modes, table);
+    match g {
+        0 => start_table(paper.model, paper.index, modes, table),
+        1 => flow_table(paper, location, modes, table),
+        _ => unsafe_table(paper, location, modes, (g - 2) as usize, table),
     }
-    if g == 1 {
-        return flow_table(paper, location, modes, table);
-    }
-    unsafe_table(paper, location, modes, (g - 2) as usize, table)
 }
 
 // Where the row of a hypothesis stands, one of rows with n coefficients.
@@ -57,7 +54,7 @@ fn row_size(version: u32, n: usize) -> u32
 // contract: no byte of them is read.
 fn line_row(model: &[u8], second: &[u8], version: u32, n: usize, line: Line) -> RowFound
     requires { (n ≤ 8) × ((line.place < 65536) × (line.row < 65536)) }
-    ensures { result ≡ row_found (found (hypothesis_in model.now second.now version n line.form line.place line.row)) }
+    ensures { result ≡ row_of (hypothesis_in model.now second.now version n line.form line.place line.row) }
 {
     if line.form == 7 {
         let at = row_at(version, 2 * n, line);
@@ -74,18 +71,7 @@ fn line_row(model: &[u8], second: &[u8], version: u32, n: usize, line: Line) -> 
     RowFound::InModel(at, size)
 }
 
-// A refusal, which has no role.
-pub fn refused_row(number: u32, sheet: u32, place: u32) -> Located
-    ensures { result ≡ no_row number sheet place }
-{
-    Located {
-        row: RowFound::Refused(number, sheet, place),
-        role: 0,
-        owner: 0,
-    }
-}
-
-// Where the row of a table's hypothesis stands, by its number, and its role and owner.
+// Where the row of a table's hypothesis stands, by its number, and its role and owner. None where it has not so many.
 fn row_in(
     model: &[u8],
     second: &[u8],
@@ -94,24 +80,24 @@ fn row_in(
     table: &[u16],
     segments: usize,
     h: u32,
-) -> Located
+) -> Option<Located>
     requires n_bound { n ≤ 8 }
     requires in_bounds { (96 ≤ length table.now) × (Stacked table.now segments × (segments ≤ 23)) }
     ensures { result ≡ located_at (hypotheses_from model.now second.now version n table.now segments) (roles_from table.now segments) h }
 {
     if lines(table, segments) <= h {
-        return refused_row(5, 2, 0);
+        return None;
     }
     let g = segment_of(table, 1, segments, h);
     let line = line_at(table, g, segments, h);
     let role = line.form;
     let owner = table[4 * g + 3] as u32;
     let row = line_row(model, second, version, n, line);
-    Located { row, role, owner }
+    Some(Located { row, role, owner })
 }
 
 // Where the row of a hypothesis of a location's group stands, and its role and owner.
-fn location_row(paper: Paper, location: u32, g: u32, h: u32) -> Located
+fn location_row(paper: Paper, location: u32, g: u32, h: u32) -> Option<Located>
     requires good_paper { PaperRead paper }
     requires location_bound { (location < location_count (components_from paper.model.now paper.index.now)) × (g < 2 + conditions_in paper.index.now) }
     ensures { result ≡ of_paper group_row_for paper.entry location g h }
@@ -143,7 +129,7 @@ fn joint_table(paper: Paper, location: u32, e: u32, x: u32, table: &mut [u16]) -
 }
 
 // Where the row of a hypothesis of a joint switch stands, and its role and owner.
-fn joint_row(paper: Paper, location: u32, e: u32, x: u32, h: u32) -> Located
+fn joint_row(paper: Paper, location: u32, e: u32, x: u32, h: u32) -> Option<Located>
     requires good_paper { PaperRead paper }
     requires location_bound { (location < location_count (components_from paper.model.now paper.index.now)) × ((e ≤ 15) × (x < length (switches_of (components_from paper.model.now paper.index.now) (modes_at (components_from paper.model.now paper.index.now) location) e))) }
     ensures { result ≡ of_paper joint_row_for paper.entry (joint_here paper.entry.model.now paper.entry.index.now location e x) h }
@@ -156,7 +142,7 @@ fn joint_row(paper: Paper, location: u32, e: u32, x: u32, h: u32) -> Located
 }
 
 // Where the row of a hypothesis of what was found stands, and its role and owner.
-pub fn sought_row(paper: Paper, sought: Sought, h: u32) -> Located
+pub fn sought_row(paper: Paper, sought: Sought, h: u32) -> Option<Located>
     requires good_paper { PaperRead paper }
     requires known_sought { KnownSought paper.model.now paper.index.now sought }
     ensures { result ≡ of_paper sought_row_for paper.entry sought h }

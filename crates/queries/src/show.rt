@@ -1,12 +1,13 @@
 // Show row: which obligation has a number, and where the row of one of its hypotheses stands, in what role and whose it is.
-ghost use Rattle.std.specs.Prelude.{◌≡◌, length};
+ghost use Rattle.std.specs.Prelude.{IfOk, ◌≡◌, ◌+◌, ◌≤◌, length, take, drop};
 ghost use Rattle.formats.specs.ModelSheet.{stated};
 ghost use Rattle.papers.specs.Paper.{PaperRead, of_paper, on_paper};
 ghost use Rattle.rules.specs.Beside.{find_hypothesis, show_answer, show_part};
-ghost use Rattle.queries.specs.Finding.{which_obligation, which_refused, group_which, row_found, hypothesis_located, hypothesis_answer, RowInside, which_of, OpensTo, PartIs, sought_one_for, row_answer};
+ghost use Rattle.queries.specs.Finding.{which_obligation, which_refused, group_which, row_found, hypothesis_located, hypothesis_answer, RowInside, which_of, OpensTo, PartIs, sought_one_for, row_answer, stood_answer, row_length, shown_as};
+ghost use Rattle.rules.specs.Roles.{owned};
 
 use crate::find::find;
-use crate::rows::{refused_row, sought_row};
+use crate::rows::sought_row;
 use crate::{Located, RowFound, Shown, Sought, Which};
 use formats::Limits;
 use models::layout::{INDEX_LENGTH, Index, LOCATIONS_AT, VARIABLES_AT, VERSION_AT};
@@ -17,27 +18,36 @@ use rules::Answer;
 use second_sheets::certificate::read_regions;
 use second_sheets::ranges::{REGIONS_LENGTH, Regions};
 
-// Which obligation a location's group has at a line.
-fn group_which(size: u32, location: u32, g: u32, line: u32) -> Which
-    ensures { result ≡ group_which size location g line }
+// Why there is no obligation or hypothesis with a number.
+const NOT_THERE: Answer = Answer {
+    number: 5,
+    sheet: 2,
+    place: 0,
+    done: 0,
+    score: 0,
+};
+
+// Which obligation it is, with the second sheet and its length.
+fn told(size: u32, kind: u32, subject: u32, line: u32) -> Which
+    ensures { result ≡ record { number = 0; sheet = 1; place = size; kind = kind; subject = subject; line = line } }
 {
-    if 1 < g {
-        return Which {
-            number: 0,
-            sheet: 1,
-            place: size,
-            kind: 2,
-            subject: location,
-            line: g - 2,
-        };
-    }
     Which {
         number: 0,
         sheet: 1,
         place: size,
-        kind: g,
-        subject: location,
+        kind,
+        subject,
         line,
+    }
+}
+
+// Which obligation a location's group has at a line.
+fn group_which(size: u32, location: u32, g: u32, line: u32) -> Which
+    ensures { result ≡ group_which size location g line }
+{
+    match g {
+        0 | 1 => told(size, g, location, line),
+        _ => told(size, 2, location, g - 2),
     }
 }
 
@@ -49,25 +59,18 @@ fn sought_which(paper: Paper, sought: Sought) -> Which
     let size = paper.second.len() as u32;
     match sought {
         Sought::AtLocation(location, g, line) => group_which(size, location, g, line),
-        Sought::AtJoint(jump) => Which {
-            number: 0,
-            sheet: 1,
-            place: size,
-            kind: 3,
-            subject: jump.number,
-            line: jump.line,
-        },
+        Sought::AtJoint(jump) => told(size, 3, jump.number, jump.line),
     }
 }
 
 // Why no obligation was found.
-fn no_which(number: u32, sheet: u32, place: u32) -> Which
-    ensures { result ≡ which_refused number sheet place }
+fn no_which(refusal: Answer) -> Which
+    ensures { result ≡ which_refused refusal.number refusal.sheet refusal.place }
 {
     Which {
-        number,
-        sheet,
-        place,
+        number: refusal.number,
+        sheet: refusal.sheet,
+        place: refusal.place,
         kind: 0,
         subject: 0,
         line: 0,
@@ -100,8 +103,8 @@ pub fn which(model: &[u8], second: &[u8], o: u32, limits: Limits) -> Which
 {
     let mut index = [0u16; INDEX_LENGTH];
     let mut regions = [0u16; REGIONS_LENGTH];
-    if let Err(answer) = open_regions(model, second, &mut index, &mut regions, limits) {
-        return no_which(answer.number, answer.sheet, answer.place);
+    if let Err(refusal) = open_regions(model, second, &mut index, &mut regions, limits) {
+        return no_which(refusal);
     }
     let paper = Paper {
         model,
@@ -111,30 +114,51 @@ pub fn which(model: &[u8], second: &[u8], o: u32, limits: Limits) -> Which
     };
     match find(paper, o) {
         Some(sought) => sought_which(paper, sought),
-        None => no_which(5, 2, 0),
+        None => no_which(NOT_THERE),
     }
 }
 
 // Where the row of a hypothesis stands, with its role and owner; and that it lies inside its sheet.
-pub fn find_row(model: &[u8], second: &[u8], o: u32, h: u32, limits: Limits) -> Located
+pub fn find_row(
+    model: &[u8],
+    second: &[u8],
+    o: u32,
+    h: u32,
+    limits: Limits,
+) -> Result<Located, Answer>
     ensures value { result ≡ hypothesis_located limits model.now second.now o h }
-    ensures row_inside { RowInside model.now second.now result.row }
-    ensures row_value { row_answer result.row ≡ show_answer limits model.now second.now o h }
+    ensures row_inside { IfOk result (λ located. RowInside model.now second.now located.row) }
+    ensures row_value { row_answer result ≡ show_answer limits model.now second.now o h }
 {
     let mut index = [0u16; INDEX_LENGTH];
     let mut regions = [0u16; REGIONS_LENGTH];
-    if let Err(answer) = open_regions(model, second, &mut index, &mut regions, limits) {
-        return refused_row(answer.number, answer.sheet, answer.place);
-    }
+    open_regions(model, second, &mut index, &mut regions, limits)?;
     let paper = Paper {
         model,
         index: &index,
         second,
         regions: &regions,
     };
-    match find(paper, o) {
-        Some(sought) => sought_row(paper, sought, h),
-        None => refused_row(5, 2, 0),
+    let sought = find(paper, o).ok_or(NOT_THERE)?;
+    sought_row(paper, sought, h).ok_or(NOT_THERE)
+}
+
+// What is told of a hypothesis by its row, role and owner.
+fn shown(located: Located) -> Shown
+    ensures { result ≡ shown_as (stood_answer located.row) (row_length located.row) (owned located.role located.owner) }
+{
+    let (sheet, place, size) = match located.row {
+        RowFound::InModel(place, size) => (0, place, size),
+        RowFound::InSecond(place, size) => (1, place, size),
+        RowFound::Nowhere => (2, 0, 0),
+    };
+    Shown {
+        number: 0,
+        sheet,
+        place,
+        size,
+        role: located.role,
+        owner: located.owner,
     }
 }
 
@@ -142,42 +166,15 @@ pub fn find_row(model: &[u8], second: &[u8], o: u32, h: u32, limits: Limits) -> 
 pub fn show_hypothesis(model: &[u8], second: &[u8], o: u32, h: u32, limits: Limits) -> Shown
     ensures { result ≡ hypothesis_answer limits model.now second.now o h }
 {
-    let located = find_row(model, second, o, h, limits);
-    let role = located.role;
-    let owner = located.owner;
-    let row = located.row;
-    match row {
-        RowFound::InModel(place, size) => Shown {
-            number: 0,
-            sheet: 0,
-            place,
-            size,
-            role,
-            owner,
-        },
-        RowFound::InSecond(place, size) => Shown {
-            number: 0,
-            sheet: 1,
-            place,
-            size,
-            role,
-            owner,
-        },
-        RowFound::Nowhere => Shown {
-            number: 0,
-            sheet: 2,
-            place: 0,
+    match find_row(model, second, o, h, limits) {
+        Ok(located) => shown(located),
+        Err(refusal) => Shown {
+            number: refusal.number,
+            sheet: refusal.sheet,
+            place: refusal.place,
             size: 0,
-            role,
-            owner,
-        },
-        RowFound::Refused(number, sheet, place) => Shown {
-            number,
-            sheet,
-            place,
-            size: 0,
-            role,
-            owner,
+            role: 0,
+            owner: 0,
         },
     }
 }
@@ -196,6 +193,16 @@ pub fn show_answer(model: &[u8], second: &[u8], o: u32, h: u32, limits: Limits) 
     }
 }
 
+// So many bytes of a sheet from a place on.
+fn part(sheet: &[u8], place: u32, size: u32) -> &[u8]
+    requires { place + size ≤ length sheet.now }
+    ensures { result.now ≡ take size (drop place sheet.now) }
+{
+    let from = place as usize;
+    let to = from + size as usize;
+    &sheet[from..to]
+}
+
 // Show row: the bytes of one hypothesis in whichever sheet holds it, or no bytes.
 pub fn show_row<'a>(
     model: &'a [u8],
@@ -209,20 +216,12 @@ pub fn show_row<'a>(
     ensures part_is { PartIs model.now second.now (row_found (find_hypothesis (stated locations joints) model.now second.now o h)) result.now }
 {
     let limits = Limits { locations, joints };
-    let located = find_row(model, second, o, h, limits);
-    let row = located.row;
-    match row {
-        RowFound::InModel(place, size) => {
-            let from = place as usize;
-            let to = from + size as usize;
-            &model[from..to]
-        }
-        RowFound::InSecond(place, size) => {
-            let from = place as usize;
-            let to = from + size as usize;
-            &second[from..to]
-        }
-        RowFound::Nowhere => &model[0..0],
-        RowFound::Refused(_, _, _) => &model[0..0],
+    let Ok(located) = find_row(model, second, o, h, limits) else {
+        return &model[..0];
+    };
+    match located.row {
+        RowFound::InModel(place, size) => part(model, place, size),
+        RowFound::InSecond(place, size) => part(second, place, size),
+        RowFound::Nowhere => &model[..0],
     }
 }

@@ -8,6 +8,7 @@ use Rattle.formats.specs.Joint.{JointSwitch}
 use Rattle.models.specs.Index.{model_from}
 use Rattle.queries.specs.declared.Sought.{Sought}
 use Rattle.queries.specs.declared.Located.{Located}
+use Rattle.std.specs.Prelude.{Option}
 use Rattle.papers.specs.Paper.{regions_of}
 use Rattle.rules.specs.Roles.{Role, joint_roles, kind_roles, roles_of}
 use Rattle.queries.specs.Finding.{located_at, located_of, jump_one, sought_one, group_hypotheses, group_one, joint_here, joint_hypotheses, joint_one, KnownSought}
@@ -23,7 +24,7 @@ module _ (s : Start) where
   abbrev region_at : ℕ → Condition
   region_at = regions_of s.args.paper.model.now s.args.paper.index.now s.args.paper.second.now s.args.paper.regions.now
 
-  abbrev tells : Sought → Located
+  abbrev tells : Sought → Option Located
   tells x = located_of (roles_of m region_at) (sought_one s.args.paper.model.now s.args.paper.index.now region_at x) s.args.h
 
   known : {x : Sought} → s.args.sought ≡ x → KnownSought s.args.paper.model.now s.args.paper.index.now x

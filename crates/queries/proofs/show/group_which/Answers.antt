@@ -1,13 +1,15 @@
 -- By the number of the group. Assumes nothing.
+use mathlib.Core.Path.{◌∙◌}
+use native.Mathlib.Omega.{arith}
 use Rattle.queries.proofs.ShowLaws.{group-unsafe, group-rows}
 use Rattle.queries.proofs.show.group_which.Goals as goal
 
-pub returns-then-g-gt1 : goal.returns-then-g-gt1
-returns-then-g-gt1 c =
+pub returns-in-0 : goal.returns-in-0
+returns-in-0 c =
     let a = c.args in
-    group-unsafe a.size a.location a.g a.line c.if-g-gt1.true
+    c.told.ensures ∙ group-rows a.size a.location a.g a.line (omega (arith, c.in-0.is))
 
-pub returns : goal.returns
-returns c =
+pub returns-in_default : goal.returns-in_default
+returns-in_default c =
     let a = c.args in
-    group-rows a.size a.location a.g a.line c.if-g-gt1.false
+    c.told-in_default.ensures ∙ group-unsafe a.size a.location a.g a.line (omega (arith, c.in_default))

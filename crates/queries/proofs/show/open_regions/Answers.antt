@@ -12,7 +12,6 @@ use Rattle.fields.proofs.ChainLaws.{told_at, told-refused}
 use Rattle.models.specs.Index.{entry, model_from}
 use Rattle.second_sheets.specs.CertificateAnswers.{regions_from, regions_for}
 use Rattle.fields.specs.Causes.{number_of}
-use Rattle.rules.specs.declared.Answer.{Answer}
 use Rattle.rules.specs.Marking.{answer}
 use Rattle.papers.specs.Opening.{paper_answer}
 use Rattle.papers.proofs.OpenLaws.{numbered}
@@ -59,7 +58,7 @@ returns-in_err-body c =
     let told = c.in_err-body.ensures in
     subst (OpensTo _ _ _ _ _) (sym same)
     (λ k h.
-    ap (λ (x : Answer). told_refused x.number x.sheet x.place) (told.value)
+    ap told_refused told.value
     ∙ told-refused-first _ _ _ k h (numbered told.value told.refused))
 
 pub overflow_cast-version : goal.overflow_cast-version
@@ -87,7 +86,7 @@ second_refused-requires c =
 
 pub returns-in-Err : goal.returns-in-Err
 unfolding OpensTo answer
-returns-in-Err c = λ k h. ap (λ (x : Answer). told_refused x.number x.sheet x.place) c.second_refused.ensures ∙ told-stops _ _ k h _ _ _ (refusal (goal.at.returns-in-Err c).In-Err) ∙ told-open _ _ _ k h (opens (goal.at.returns-in-Err c).In_ok-body)
+returns-in-Err c = λ k h. ap told_refused c.second_refused.ensures ∙ told-stops _ _ k h _ _ _ (refusal (goal.at.returns-in-Err c).In-Err) ∙ told-open _ _ _ k h (opens (goal.at.returns-in-Err c).In_ok-body)
 
 pub returns-in-Ok : goal.returns-in-Ok
 unfolding OpensTo entry

@@ -31,4 +31,4 @@ returns-in-AtJoint c =
     let regions = a.paper.regions.now in
     let m = model_from model index in
     let region_at = regions_of model index second regions in
-    sym (ap (λ (s : Sought). which_of (length second) (sought_one model index region_at s)) c.in-AtJoint.is)
+    c.told.ensures ∙ sym (ap (λ (s : Sought). which_of (length second) (sought_one model index region_at s)) c.in-AtJoint.is)
