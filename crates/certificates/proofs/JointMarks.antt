@@ -15,6 +15,7 @@ use Rattle.models.specs.Index.{entry, components_from, model_from, GoodIndex, Ke
 use Rattle.models.specs.Counts.{per_component}
 use Rattle.joint_switches.specs.declared.Landing.{Landing}
 use Rattle.joint_switches.specs.declared.Slot.{Slot}
+use Rattle.joint_switches.specs.declared.slots.Way.{Way}
 use Rattle.joint_switches.specs.Slots.{landing_in, Listed}
 use Rattle.papers.specs.Standing.{Stands}
 use Rattle.papers.proofs.LandedLaws.{landed-first, landed-target}
@@ -173,7 +174,7 @@ all-parts model index second regions locations e =
 
 -- the proofs of a joint switch, as a table tells it, come first among those that are left
 pub landing-next :
-    {model index modes ways : List ℕ} {location e : ℕ} {slot : Slot} {landing : Landing} → GoodIndex model index → Stands model index location modes → e ≤ 15 → Listed model index modes e ways slot
+    {model index modes : List ℕ} {ways : List Way} {location e : ℕ} {slot : Slot} {landing : Landing} → GoodIndex model index → Stands model index location modes → e ≤ 15 → Listed model index modes e ways slot
     → (x : ℕ) → x < length (switches_of (components_from model index) (modes_at (components_from model index) location) e) → landing ≡ landing_in index slot ways x → (region_at : ℕ → Condition)
     → jumps_left model index region_at location e x ≡ jump_tasks (model_from model index) region_at location (per_component index landing.switches) landing.target ++ jumps_left model index region_at location e (x + 1)
 landing-next {model} {index} {location = location} {e = e} g stands k listed x l q region_at =

@@ -16,7 +16,7 @@ use crate::{Failed, Leaving, Listing, Marking};
 use hypotheses::groups::{jump_group, push_here};
 use joint_switches::Landing;
 use joint_switches::joints::modes_at;
-use joint_switches::slots::{WAYS_LENGTH, landing_at, list_slot};
+use joint_switches::slots::{NO_WAYS, Way, landing_at, list_slot};
 use models::layout::{FIRST_TOTAL, VARIABLES_AT};
 use papers::Paper;
 use papers::regions::region_rows;
@@ -57,7 +57,7 @@ fn mark_switch(
 fn mark_switches(
     paper: Paper,
     listing: Listing,
-    ways: &[u8],
+    ways: &[Way],
     table: &mut [u16],
     sums: &mut [i64],
 ) -> Result<Marking, Failed>
@@ -97,7 +97,7 @@ fn mark_event(
     if paper.index[FIRST_TOTAL + e as usize] == 0 {
         return Ok(from.marking);
     }
-    let mut ways = [0u8; WAYS_LENGTH];
+    let mut ways = NO_WAYS;
     let modes = from.modes;
     let slot = list_slot(paper.model, paper.index, from.location, modes, e, &mut ways);
     let listing = Listing { slot, from };

@@ -12,6 +12,7 @@ use Rattle.models.specs.Index.{components_from, GoodIndex}
 use Rattle.models.specs.Counts.{per_component}
 use Rattle.joint_switches.specs.declared.Slot.{Slot}
 use Rattle.joint_switches.specs.declared.Landing.{Landing}
+use Rattle.joint_switches.specs.declared.slots.Way.{Way}
 use Rattle.joint_switches.specs.Slots.{landing_in, landing_of, Listed}
 use Rattle.rules.specs.declared.Joint.{Joint}
 use Rattle.papers.proofs.FoundLaws.{found_below}
@@ -76,7 +77,7 @@ module _ (model index : List ℕ) (at x from : ℕ) (before : List ℕ) where
         ap (λ (rs : List Joint). records_in words count ++ rs) (sym (records-past model index at y total h e l)) ∙ f.same
 
 -- the table of a slot tells its records
-pub slot-tells : {model index : List ℕ} → GoodIndex model index → location_count (components_from model index) ≤ 64 → (at : ℕ) → at < 16 * location_count (components_from model index) → (modes : List ℕ) → per_component index modes ≡ modes_at (components_from model index) (at / 16) → (slot : Slot) (ways : List ℕ) → Listed model index modes (at % 16) ways slot → Tells model index at slot ways
+pub slot-tells : {model index : List ℕ} → GoodIndex model index → location_count (components_from model index) ≤ 64 → (at : ℕ) → at < 16 * location_count (components_from model index) → (modes : List ℕ) → per_component index modes ≡ modes_at (components_from model index) (at / 16) → (slot : Slot) (ways : List Way) → Listed model index modes (at % 16) ways slot → Tells model index at slot ways
 unfolding landing_of
 slot-tells {model} {index} g few at h modes p slot ways listed =
     let components = components_from model index in

@@ -3,6 +3,7 @@ use Rattle.std.specs.Prelude.{◌≡◌, List, [], ◌∷◌, ◌++◌, map, ℕ
 use Rattle.models.specs.Index.{components_from}
 use Rattle.joint_switches.specs.declared.Slot.{Slot}
 use Rattle.joint_switches.specs.declared.Landing.{Landing}
+use Rattle.joint_switches.specs.declared.slots.Way.{Way}
 use Rattle.joint_switches.specs.Slots.{landing_in, Ready}
 use Rattle.rules.specs.declared.Joint.{Joint}
 use Rattle.rules.specs.Beside.{record_of}
@@ -33,7 +34,7 @@ abbrev pub records_with : List ℕ → List ℕ → List ℕ → Filled → List
 records_with model index words f = records_in words f.count ++ records_from model index f.slot f.x
 
 -- a table that tells the joint switches of a slot
-pub record Tells (model index : List ℕ) (at : ℕ) (slot : Slot) (ways : List ℕ) : Type 0 where
+pub record Tells (model index : List ℕ) (at : ℕ) (slot : Slot) (ways : List Way) : Type 0 where
   pub ready : Ready index slot ways
   pub counted : slot.count ≡ length (slot_joints (components_from model index) at)
   pub small : (x : ℕ) → x < slot.count → (landing_in index slot ways x).target < 256

@@ -10,7 +10,7 @@ ghost use Rattle.joint_lists.specs.Batches.{unpacked_of, record_by, records_in, 
 
 use crate::{Batch, Filled};
 use joint_switches::joints::modes_at;
-use joint_switches::slots::{WAYS_LENGTH, landing_at, list_slot};
+use joint_switches::slots::{NO_WAYS, Way, landing_at, list_slot};
 use joint_switches::{Landing, Slot};
 use models::layout::{FIRST_TOTAL, Index, LOCATIONS_AT};
 use rules::Joint;
@@ -45,7 +45,7 @@ fn fill(
     model: &[u8],
     index: &Index,
     slot: Slot,
-    ways: &[u8],
+    ways: &[Way],
     from: Filled,
     words: &mut [u64],
 ) -> Filled
@@ -89,7 +89,7 @@ fn fill_slot(model: &[u8], index: &Index, from: Filled, words: &mut [u64]) -> Fi
     }
     let location = from.slot / 16;
     let modes = modes_at(model, index, location);
-    let mut ways = [0u8; WAYS_LENGTH];
+    let mut ways = NO_WAYS;
     let slot = list_slot(model, index, location, modes, e, &mut ways);
     fill(model, index, slot, &ways, from, words)
 }

@@ -16,22 +16,23 @@ use Rattle.models.specs.Index.{entry, components_from, GoodIndex}
 use Rattle.models.specs.Counts.{component_at, per_component}
 use Rattle.joint_switches.specs.declared.Landing.{Landing}
 use Rattle.joint_switches.specs.declared.slots.Part.{Part}
-use Rattle.joint_switches.specs.Slots.{digit_switches, digit_target, digit_landing, landing_of, together_in, parts_by, WaysAt}
+use Rattle.joint_switches.specs.declared.slots.Way.{Way}
+use Rattle.joint_switches.specs.Slots.{no_way, digit_switches, digit_target, digit_landing, landing_of, together_in, parts_by, WaysAt}
 use Rattle.formats.proofs.JointCounts.{together-length, together-some, left-positive, together-digit}
 use Rattle.formats.proofs.JointsInto.{target_of, target-step}
 use Rattle.models.proofs.GoodIndexLaws.{components-drop, components-end}
 use Rattle.joint_switches.proofs.JointLoops.{fill_none, fill-back, filled_to, padded-none, padded-more, padded-four, nil-only, quotient-left, components_on, numbers_on, together_on, per-component-drop, together-starts}
 
 -- the last digit
-module _ (counts ways : List ℕ) where
-  pub digits-back : (k x : ℕ) → 0 < k → digit_switches counts ways k x ≡ digit_switches counts ways (k - 1) (x / get_or counts (k - 1) 0) ++ (get_or ways (32 * (k - 1) + x % get_or counts (k - 1) 0) 0 ∷ [])
+module _ (counts : List ℕ) (ways : List Way) where
+  pub digits-back : (k x : ℕ) → 0 < k → digit_switches counts ways k x ≡ digit_switches counts ways (k - 1) (x / get_or counts (k - 1) 0) ++ ((get_or ways (32 * (k - 1) + x % get_or counts (k - 1) 0) no_way).switch ∷ [])
   unfolding digit_switches
   digits-back k x h = ap (λ (n : ℕ). digit_switches counts ways n x) (back k h)
     where
       back : (k : ℕ) → 0 < k → k ≡ suc (k - 1)
       back k h = omega arith
 
-  pub target-back : (k x : ℕ) → 0 < k → digit_target counts ways k x ≡ digit_target counts ways (k - 1) (x / get_or counts (k - 1) 0) + get_or ways (128 + (32 * (k - 1) + x % get_or counts (k - 1) 0)) 0
+  pub target-back : (k x : ℕ) → 0 < k → digit_target counts ways k x ≡ digit_target counts ways (k - 1) (x / get_or counts (k - 1) 0) + (get_or ways (32 * (k - 1) + x % get_or counts (k - 1) 0) no_way).landing
   unfolding digit_target
   target-back k x h = ap (λ (n : ℕ). digit_target counts ways n x) (back k h)
     where
@@ -56,10 +57,10 @@ module _ (counts ways : List ℕ) where
       zero-and : (n : ℕ) → 0 + n ≡ n
       zero-and n = omega arith
 
-  pub taking-goes-on : (c x k left : ℕ) (switches : List ℕ) (target : ℕ) → 0 < k → k ≤ 4 → Taking c x k left switches target → Taking c x (k - 1) (left / get_or counts (k - 1) 0) (set switches (k - 1) (get_or ways (32 * (k - 1) + left % get_or counts (k - 1) 0) 0)) (target + get_or ways (128 + (32 * (k - 1) + left % get_or counts (k - 1) 0)) 0)
+  pub taking-goes-on : (c x k left : ℕ) (switches : List ℕ) (target : ℕ) → 0 < k → k ≤ 4 → Taking c x k left switches target → Taking c x (k - 1) (left / get_or counts (k - 1) 0) (set switches (k - 1) (get_or ways (32 * (k - 1) + left % get_or counts (k - 1) 0) no_way).switch) (target + (get_or ways (32 * (k - 1) + left % get_or counts (k - 1) 0) no_way).landing)
   taking-goes-on c x k left switches target h l w =
       let n = get_or counts (k - 1) 0 in
-      let v = get_or ways (32 * (k - 1) + left % n) 0 in
+      let v = (get_or ways (32 * (k - 1) + left % n) no_way).switch in
       record {
         rest = v ∷ w.rest;
         whole =
@@ -86,12 +87,12 @@ abbrev pub part_of : List ℕ → List ℕ → List ℕ → ℕ → ℕ → Part
 part_of s index modes e j =
     record { k = j; mode = get_or modes j 0; e = e; rest = 0; unit = location_count (components_on s index (j + 1)) }
 
-pub record PartAt (s index modes : List ℕ) (e : ℕ) (counts ways : List ℕ) (j : ℕ) : Type 0 where
+pub record PartAt (s index modes : List ℕ) (e : ℕ) (counts : List ℕ) (ways : List Way) (j : ℕ) : Type 0 where
   pub counted : get_or counts j 0 ≡ length (parts_by s index (part_of s index modes e j))
   pub listed : WaysAt s index (part_of s index modes e j) (32 * j) (parts_by s index (part_of s index modes e j)) ways
 
 -- The digits tell the joint switch of the list
-module _ {s index : List ℕ} (g : GoodIndex s index) (modes : List ℕ) (long : entry index 1 ≤ length modes) (e : ℕ) (counts ways : List ℕ) (told : (j : ℕ) → j < entry index 1 → PartAt s index modes e counts ways j) (x : ℕ) (below : x < length (together_in s index modes e)) where
+module _ {s index : List ℕ} (g : GoodIndex s index) (modes : List ℕ) (long : entry index 1 ≤ length modes) (e : ℕ) (counts : List ℕ) (ways : List Way) (told : (j : ℕ) → j < entry index 1 → PartAt s index modes e counts ways j) (x : ℕ) (below : x < length (together_in s index modes e)) where
   count : ℕ → ℕ
   count k = length (together_on s index modes e k)
 
@@ -170,11 +171,11 @@ module _ {s index : List ℕ} (g : GoodIndex s index) (modes : List ℕ) (long :
     unfolding digit
     inside = omega (arith, mod-lt (x / count (k + 1)) some, counted)
 
-    switch-told : get_or ways (32 * k + digit) 0 ≡ number
+    switch-told : (get_or ways (32 * k + digit) no_way).switch ≡ number
     unfolding number c mode
     switch-told = (told k h).listed.switches digit inside
 
-    landing-told : get_or ways (128 + (32 * k + digit)) 0 ≡ mode_after c mode number * location_count (components_on s index (k + 1))
+    landing-told : (get_or ways (32 * k + digit) no_way).landing ≡ mode_after c mode number * location_count (components_on s index (k + 1))
     unfolding number c mode
     landing-told = (told k h).listed.landings digit inside ∙ none-and (mode_after c mode number * location_count (components_on s index (k + 1)))
       where

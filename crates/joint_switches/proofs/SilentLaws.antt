@@ -14,7 +14,8 @@ use Rattle.formats.specs.Parts.{mode_after}
 use Rattle.models.specs.Index.{entry, components_from, GoodIndex}
 use Rattle.models.specs.Counts.{component_at, per_component}
 use Rattle.joint_switches.specs.declared.slots.Part.{Part}
-use Rattle.joint_switches.specs.Slots.{line_landing, landing_of, ListedAs, silent_in, leaving_by, Fitting, WaysAt, MoversAt, OtherLines}
+use Rattle.joint_switches.specs.declared.slots.Way.{Way}
+use Rattle.joint_switches.specs.Slots.{no_way, way_landing, line_landing, landing_of, ListedAs, silent_in, leaving_by, Fitting, WaysAt, MoversAt, OtherLines}
 use Rattle.formats.proofs.Locations.{Modes, no-modes, mode-and, modes-at, number_of}
 use Rattle.formats.proofs.JointCounts.{silent-length, silent-now, silent-later, leaving-few}
 use Rattle.formats.proofs.JointsInto.{target_of, target-step, staying-after, stays_after}
@@ -61,18 +62,18 @@ module _ (c : Component) (cs : List Component) (m : ℕ) (ms : List ℕ) (i : �
   part-below (suc k) (d ∷ components) (n ∷ modes) p q = omega (arith, part-below k components modes p q)
 
 -- What a line tells
-pub record LineTold (s index modes ways : List ℕ) (x : ℕ) : Type 0 where
-  pub mover : get_or ways (256 + x) 0 < 4
+pub record LineTold (s index modes : List ℕ) (ways : List Way) (x : ℕ) : Type 0 where
+  pub mover : (get_or ways x no_way).mover < 4
   pub line : line_landing ways x ≡ landing_of (components_from s index) (per_component index modes) (get_or (silent_in s index modes) x [])
 
 -- The components before one have their lines; those of the others are still to come
-pub record Passed (s index modes : List ℕ) (k at : ℕ) (ways : List ℕ) : Type 0 where
+pub record Passed (s index modes : List ℕ) (k at : ℕ) (ways : List Way) : Type 0 where
   pub few : at ≤ 32 * k
   pub rest : at + length (silent_on s index modes k) ≡ length (silent_in s index modes)
   pub later : (d : ℕ) → d < length (silent_on s index modes k) → get_or (silent_in s index modes) (at + d) [] ≡ replicate k stays ++ get_or (silent_on s index modes k) d []
   pub told : (x : ℕ) → x < at → LineTold s index modes ways x
 
-pub passed_none : (s index modes ways : List ℕ) → Passed s index modes 0 0 ways
+pub passed_none : (s index modes : List ℕ) (ways : List Way) → Passed s index modes 0 0 ways
 passed_none s index modes ways = record {
   few = omega arith;
   rest = omega arith;
@@ -143,30 +144,24 @@ module _ {s index : List ℕ} (g : GoodIndex s index) (modes : List ℕ) (long :
           subst (Fitting s index) (sym is) (record { inside = h; small = omega (arith, product, later-few g k, few, below, mode-part) })
 
       -- its lines: each tells a joint switch in which it moves alone
-      module _ (at : ℕ) (ways after : List ℕ) (passed : Passed s index modes k at ways) (new : WaysAt s index part at (leaving_by s index part) after) (movers : MoversAt part.k at (length (leaving_by s index part)) after) (lines : OtherLines at ways after) where
+      module _ (at : ℕ) (ways after : List Way) (passed : Passed s index modes k at ways) (new : WaysAt s index part at (leaving_by s index part) after) (movers : MoversAt part.k at (length (leaving_by s index part)) after) (lines : OtherLines at ways after) where
         mine : leaving_by s index part ≡ leaving c mode 0
         unfolding c mode
         mine = ap (leaving_by s index) is
 
-        low : at ≤ 96
-        low = omega (arith, passed.few, g.few)
-
         old : (x : ℕ) → x < at → LineTold s index modes after x
         old x l =
-            let first : get_or after x 0 ≡ get_or ways x 0 = lines.kept x (λ a b. omega arith) (λ a b. omega (arith, low)) (λ a b. omega (arith, low)) in
-            let second : get_or after (128 + x) 0 ≡ get_or ways (128 + x) 0 = lines.kept (128 + x) (λ a b. omega (arith, low)) (λ a b. omega arith) (λ a b. omega (arith, low)) in
-            let third : get_or after (256 + x) 0 ≡ get_or ways (256 + x) 0 = lines.kept (256 + x) (λ a b. omega (arith, low)) (λ a b. omega (arith, low)) (λ a b. omega arith) in
             let w = passed.told x l in
-            let same : line_landing after x ≡ line_landing ways x = λ i. record { switches = set (replicate 4 stays) (third i) (first i); target = second i } in
-            record { mover = omega (arith, third, w.mover); line = same ∙ w.line }
+            let same : get_or after x no_way ≡ get_or ways x no_way = lines.kept x (λ a b. omega arith) in
+            record { mover = omega (arith, ap (λ (v : Way). v.mover) same, w.mover); line = ap way_landing same ∙ w.line }
 
-        to : (d : ℕ) → d < length (leaving_by s index part) → get_or after (128 + (at + d)) 0 ≡ location - mode * unit + mode_after c mode (get_or (leaving_by s index part) d stays) * unit
+        to : (d : ℕ) → d < length (leaving_by s index part) → (get_or after (at + d) no_way).landing ≡ location - mode * unit + mode_after c mode (get_or (leaving_by s index part) d stays) * unit
         unfolding c mode unit
         to d l =
             new.landings d l
             ∙ ap (λ (x : Part). x.rest + mode_after (component_at s index x.k) x.mode (get_or (leaving_by s index part) d stays) * x.unit) is
 
-        joined : (x : ℕ) → set (replicate 4 stays) (get_or after (256 + x) 0) (get_or after x 0) ≡ four_switches (get_or (silent_in s index modes) x []) → get_or after (128 + x) 0 ≡ target_of (components_from s index) (per_component index modes) (get_or (silent_in s index modes) x []) → line_landing after x ≡ landing_of (components_from s index) (per_component index modes) (get_or (silent_in s index modes) x [])
+        joined : (x : ℕ) → set (replicate 4 stays) (get_or after x no_way).mover (get_or after x no_way).switch ≡ four_switches (get_or (silent_in s index modes) x []) → (get_or after x no_way).landing ≡ target_of (components_from s index) (per_component index modes) (get_or (silent_in s index modes) x []) → line_landing after x ≡ landing_of (components_from s index) (per_component index modes) (get_or (silent_in s index modes) x [])
         unfolding landing_of target_of
         joined x a b = λ i. record { switches = a i; target = b i }
 
@@ -176,15 +171,15 @@ module _ {s index : List ℕ} (g : GoodIndex s index) (modes : List ℕ) (long :
             let i = get_or (leaving c mode 0) d stays in
             let inside : d < length (leaving_by s index part) = omega (arith, l, ap length mine) in
             let same : get_or (leaving_by s index part) d stays ≡ i = ap (λ xs. get_or xs d stays) mine in
-            let mover : get_or after (256 + (at + d)) 0 ≡ k = movers.movers d inside ∙ ap (λ (x : Part). x.k) is in
-            let switch : get_or after (at + d) 0 ≡ i = new.switches d inside ∙ same in
-            let target : get_or after (128 + (at + d)) 0 ≡ location - mode * unit + mode_after c mode i * unit = to d inside ∙ ap (λ (j : ℕ). location - mode * unit + mode_after c mode j * unit) same in
+            let mover : (get_or after (at + d) no_way).mover ≡ k = movers.movers d inside ∙ ap (λ (x : Part). x.k) is in
+            let switch : (get_or after (at + d) no_way).switch ≡ i = new.switches d inside ∙ same in
+            let target : (get_or after (at + d) no_way).landing ≡ location - mode * unit + mode_after c mode i * unit = to d inside ∙ ap (λ (j : ℕ). location - mode * unit + mode_after c mode j * unit) same in
             let this : get_or (silent_in s index modes) (at + d) [] ≡ replicate k stays ++ (i ∷ all_staying (components_on s index (k + 1))) =
             passed.later d (omega (arith, l, counted))
             ∙ ap (λ xs. replicate k stays ++ xs) (ap (λ xs. get_or xs d []) silent-here ∙ silent-now c (components_on s index (k + 1)) mode (numbers_on index modes (k + 1)) d [] l) in
-            let four : set (replicate 4 stays) (get_or after (256 + (at + d)) 0) (get_or after (at + d) 0) ≡ four_switches (get_or (silent_in s index modes) (at + d) []) =
+            let four : set (replicate 4 stays) (get_or after (at + d) no_way).mover (get_or after (at + d) no_way).switch ≡ four_switches (get_or (silent_in s index modes) (at + d) []) =
             ap₂ (λ (a b : ℕ). set (replicate 4 stays) a b) mover switch ∙ sym (ap four_switches this ∙ alone-four k i (components_on s index (k + 1)) (omega (arith, g.few))) in
-            let there : get_or after (128 + (at + d)) 0 ≡ target_of (components_from s index) (per_component index modes) (get_or (silent_in s index modes) (at + d) []) =
+            let there : (get_or after (at + d) no_way).landing ≡ target_of (components_from s index) (per_component index modes) (get_or (silent_in s index modes) (at + d) []) =
             target ∙ landing i ∙ sym (ap (target_of (components_from s index) (per_component index modes)) this) in
             record { mover = omega (arith, mover, g.few); line = joined (at + d) four there }
 
@@ -225,7 +220,7 @@ module _ {s index : List ℕ} (g : GoodIndex s index) (modes : List ℕ) (long :
             })
 
   -- all components have their lines
-  pub listed-silent : (k at : ℕ) (ways counts : List ℕ) → 384 ≤ length ways → k ≡ entry index 1 → Passed s index modes k at ways → ListedAs (silent_in s index modes) s index modes 0 ways (record { e = 0; count = at; ways = counts })
+  pub listed-silent : (k at : ℕ) (ways : List Way) (counts : List ℕ) → 128 ≤ length ways → k ≡ entry index 1 → Passed s index modes k at ways → ListedAs (silent_in s index modes) s index modes 0 ways (record { e = 0; count = at; ways = counts })
   unfolding silent
   listed-silent k at ways counts wide end w =
       let none : length (silent_on s index modes k) ≡ 0 = ap (λ (i : ℕ). length (silent_on s index modes i)) end ∙ ap (λ components. length (silent components (numbers_on index modes (entry index 1)))) (components-end s index) in

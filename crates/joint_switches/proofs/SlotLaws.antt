@@ -22,6 +22,7 @@ use Rattle.models.specs.Index.{entry, components_from, GoodIndex}
 use Rattle.models.specs.Counts.{component_at, per_component, KnownModes}
 use Rattle.joint_switches.specs.declared.Slot.{Slot}
 use Rattle.joint_switches.specs.declared.slots.Part.{Part}
+use Rattle.joint_switches.specs.declared.slots.Way.{Way}
 use Rattle.joint_switches.specs.Slots.{line_landing, digit_landing, landing_in, ListedAs, together_in, parts_by, Fitting, WaysAt, OtherLines}
 use Rattle.formats.proofs.Locations.{HaveModes}
 use Rattle.formats.proofs.JointCounts.{parts-few, event-length}
@@ -33,12 +34,12 @@ use Rattle.joint_switches.proofs.LineLaws.{ways-kept}
 use Rattle.joint_switches.proofs.DigitLaws.{part_of, PartAt, ways-some, digits-told}
 
 -- by its event
-pub by-line : (index : List ℕ) (slot : Slot) (ways : List ℕ) (x : ℕ) → slot.e ≡ 0 → landing_in index slot ways x ≡ line_landing ways x
+pub by-line : (index : List ℕ) (slot : Slot) (ways : List Way) (x : ℕ) → slot.e ≡ 0 → landing_in index slot ways x ≡ line_landing ways x
 unfolding landing_in
 by-line index slot ways x h =
     ap (λ b. cond b (line_landing ways x) (digit_landing index slot.ways ways x)) (eq-eqb slot.e 0 h)
 
-pub by_digits : (index : List ℕ) (slot : Slot) (ways : List ℕ) (x : ℕ) → (slot.e ≡ 0 → ⊥) → landing_in index slot ways x ≡ digit_landing index slot.ways ways x
+pub by_digits : (index : List ℕ) (slot : Slot) (ways : List Way) (x : ℕ) → (slot.e ≡ 0 → ⊥) → landing_in index slot ways x ≡ digit_landing index slot.ways ways x
 unfolding landing_in
 by_digits index slot ways x h =
     ap (λ b. cond b (line_landing ways x) (digit_landing index slot.ways ways x)) (ne_eqb slot.e 0 h)
@@ -51,7 +52,7 @@ count-later none (suc k) = omega arith
 count-later (more {a = c} {xs = components} h rest) (suc k) = omega (arith, count-later rest k, mul-le-mul_right (location_count components) h)
 
 -- An event from 1: the components from one on stand in the table
-abbrev pub PartsFrom : List ℕ → List ℕ → List ℕ → ℕ → List ℕ → List ℕ → ℕ → Type 0
+abbrev pub PartsFrom : List ℕ → List ℕ → List ℕ → ℕ → List ℕ → List Way → ℕ → Type 0
 PartsFrom s index modes e counts ways k = (j : ℕ) → k ≤ j → j < entry index 1 → PartAt s index modes e counts ways j
 
 pub part-is : (s index modes : List ℕ) (e k unit : ℕ) → 0 < k → unit ≡ location_count (components_on s index k) → ◌≡◌ {A = Part} (record { k = k - 1; mode = get_or modes (k - 1) 0; e = e; rest = 0; unit = unit }) (part_of s index modes e (k - 1))
@@ -83,7 +84,7 @@ module _ {s index : List ℕ} (g : GoodIndex s index) where
             one-off : (j : ℕ) → j + 1 - 1 ≡ j
             one-off j = omega arith
 
-    pub parts-go-on : (n : ℕ) (counts ways after : List ℕ) → entry index 1 ≤ length counts → n ≡ length (parts_by s index part) → WaysAt s index part (32 * (k - 1)) (parts_by s index part) after → OtherLines (32 * (k - 1)) ways after → PartsFrom s index modes e counts ways k → PartsFrom s index modes e (set counts (k - 1) n) after (k - 1)
+    pub parts-go-on : (n : ℕ) (counts : List ℕ) (ways after : List Way) → entry index 1 ≤ length counts → n ≡ length (parts_by s index part) → WaysAt s index part (32 * (k - 1)) (parts_by s index part) after → OtherLines (32 * (k - 1)) ways after → PartsFrom s index modes e counts ways k → PartsFrom s index modes e (set counts (k - 1) n) after (k - 1)
     parts-go-on n counts ways after room q new others old j a b = here (ℕ_discrete j (k - 1))
       where
         few : (i : ℕ) → i < entry index 1 → length (parts_by s index (part_of s index modes e i)) ≤ 32
@@ -98,11 +99,11 @@ module _ {s index : List ℕ} (g : GoodIndex s index) where
             let w = old j (omega (arith, f)) b in
             record {
               counted = get_or-set_other counts (k - 1) j n 0 f ∙ w.counted;
-              listed = ways-kept (32 * j) (32 * (k - 1)) (few j b) (omega (arith, g.few)) (omega (arith, g.few)) (λ d u v z. omega (arith, f)) others w.listed;
+              listed = ways-kept (32 * j) (32 * (k - 1)) (few j b) (λ d u v z. omega (arith, f)) others w.listed;
             }
 
 -- none at all
-pub listed-none : {s index : List ℕ} → GoodIndex s index → (list : List (List ℕ)) (modes : List ℕ) (e : ℕ) (counts ways : List ℕ) → 384 ≤ length ways → 0 ≡ length list → ListedAs list s index modes e ways (record { e = e; count = 0; ways = counts })
+pub listed-none : {s index : List ℕ} → GoodIndex s index → (list : List (List ℕ)) (modes : List ℕ) (e : ℕ) (counts : List ℕ) (ways : List Way) → 128 ≤ length ways → 0 ≡ length list → ListedAs list s index modes e ways (record { e = e; count = 0; ways = counts })
 listed-none g list modes e counts ways long q = record {
   event = refl;
   counted = q;
@@ -116,7 +117,7 @@ listed-none g list modes e counts ways long q = record {
 }
 
 -- all of an event from 1
-pub listed-together : {s index : List ℕ} → GoodIndex s index → (modes : List ℕ) → entry index 1 ≤ length modes → (e : ℕ) → 1 ≤ e → (count k : ℕ) (counts ways : List ℕ) → 384 ≤ length ways → k ≤ 0 → 0 < count → count ≡ length (together_on s index modes e k) → PartsFrom s index modes e counts ways k → ListedAs (together_in s index modes e) s index modes e ways (record { e = e; count = count; ways = counts })
+pub listed-together : {s index : List ℕ} → GoodIndex s index → (modes : List ℕ) → entry index 1 ≤ length modes → (e : ℕ) → 1 ≤ e → (count k : ℕ) (counts : List ℕ) (ways : List Way) → 128 ≤ length ways → k ≤ 0 → 0 < count → count ≡ length (together_on s index modes e k) → PartsFrom s index modes e counts ways k → ListedAs (together_in s index modes e) s index modes e ways (record { e = e; count = count; ways = counts })
 listed-together {s} {index} g modes wide e some count k counts ways long end positive counted parts =
     let all : count ≡ length (together_in s index modes e) = counted ∙ ap (λ (i : ℕ). length (together_on s index modes e i)) (le-zero end) in
     let told : (j : ℕ) → j < entry index 1 → PartAt s index modes e counts ways j = λ j h. parts j (omega arith) h in

@@ -1,5 +1,5 @@
--- The joint switches of one event from one location, in a table of three columns with 128 numbers each: by which switch a component moves,
--- where that leads, and which component it is. Assumes nothing.
+-- The joint switches of one event from one location, in a table of 128 lines: by which switch a component moves, where that leads, and
+-- which component it is. Assumes nothing.
 use Rattle.std.specs.Prelude.{◌≡◌, Bool, cond, List, [], ◌∷◌, ◌++◌, ℕ, zero, suc, ◌+◌, ◌*◌, ◌/◌, ◌%◌, ◌≤◌, ◌<◌, eqb, length, get_or, set, replicate}
 use Rattle.formats.specs.Model.{Component}
 use Rattle.formats.specs.Locations.{location_of}
@@ -10,28 +10,35 @@ use Rattle.models.specs.Counts.{component_at, per_component}
 use Rattle.joint_switches.specs.declared.Slot.{Slot}
 use Rattle.joint_switches.specs.declared.Landing.{Landing}
 use Rattle.joint_switches.specs.declared.slots.Part.{Part}
+use Rattle.joint_switches.specs.declared.slots.Way.{Way}
+
+-- what a table tells beyond its lines
+abbrev pub no_way : Way
+no_way = record { switch = 0; landing = 0; mover = 0 }
 
 -- An event from 1. A component has 32 places, and a joint switch's number a digit for each component, the last component's last
-unfoldable pub digit_switches : List ℕ → List ℕ → ℕ → ℕ → List ℕ
+unfoldable pub digit_switches : List ℕ → List Way → ℕ → ℕ → List ℕ
 digit_switches counts ways zero x = []
 digit_switches counts ways (suc k) x =
-    digit_switches counts ways k (x / get_or counts k 0) ++ (get_or ways (32 * k + x % get_or counts k 0) 0 ∷ [])
+    digit_switches counts ways k (x / get_or counts k 0) ++ ((get_or ways (32 * k + x % get_or counts k 0) no_way).switch ∷ [])
 
-unfoldable pub digit_target : List ℕ → List ℕ → ℕ → ℕ → ℕ
+unfoldable pub digit_target : List ℕ → List Way → ℕ → ℕ → ℕ
 digit_target counts ways zero x = 0
 digit_target counts ways (suc k) x =
-    digit_target counts ways k (x / get_or counts k 0) + get_or ways (128 + (32 * k + x % get_or counts k 0)) 0
+    digit_target counts ways k (x / get_or counts k 0) + (get_or ways (32 * k + x % get_or counts k 0) no_way).landing
 
 -- what the table tells of a joint switch by its number: of event 0 by one line, of another by its digits
-abbrev pub line_landing : List ℕ → ℕ → Landing
-line_landing ways x =
-    record { switches = set (replicate 4 stays) (get_or ways (256 + x) 0) (get_or ways x 0); target = get_or ways (128 + x) 0 }
+abbrev pub way_landing : Way → Landing
+way_landing way = record { switches = set (replicate 4 stays) way.mover way.switch; target = way.landing }
 
-abbrev pub digit_landing : List ℕ → List ℕ → List ℕ → ℕ → Landing
+abbrev pub line_landing : List Way → ℕ → Landing
+line_landing ways x = way_landing (get_or ways x no_way)
+
+abbrev pub digit_landing : List ℕ → List ℕ → List Way → ℕ → Landing
 digit_landing index counts ways x =
     record { switches = four_switches (digit_switches counts ways (entry index 1) x); target = digit_target counts ways (entry index 1) x }
 
-unfoldable pub landing_in : List ℕ → Slot → List ℕ → ℕ → Landing
+unfoldable pub landing_in : List ℕ → Slot → List Way → ℕ → Landing
 landing_in index slot ways x = cond (eqb slot.e 0) (line_landing ways x) (digit_landing index slot.ways ways x)
 
 -- every component has ways, and no more than it has places
@@ -40,14 +47,14 @@ pub record Digits (index counts : List ℕ) : Type 0 where
   pub most : (k : ℕ) → k < entry index 1 → get_or counts k 0 ≤ 32
 
 -- every line has a component
-pub record Lines (count : ℕ) (ways : List ℕ) : Type 0 where
+pub record Lines (count : ℕ) (ways : List Way) : Type 0 where
   pub few : count ≤ 128
-  pub movers : (x : ℕ) → x < count → get_or ways (256 + x) 0 < 4
+  pub movers : (x : ℕ) → x < count → (get_or ways x no_way).mover < 4
 
 -- what is read of a table lies in it
-pub record Ready (index : List ℕ) (slot : Slot) (ways : List ℕ) : Type 0 where
+pub record Ready (index : List ℕ) (slot : Slot) (ways : List Way) : Type 0 where
   pub few : entry index 1 ≤ 4
-  pub long : 384 ≤ length ways
+  pub long : 128 ≤ length ways
   pub lines : slot.e ≡ 0 → Lines slot.count ways
   pub digits : (slot.e ≡ 0 → ⊥) → 0 < slot.count → Digits index slot.ways
 
@@ -57,14 +64,14 @@ landing_of components modes switches =
     record { switches = four_switches switches; target = location_of components (modes_after components modes switches) }
 
 -- a list of joint switches from a location with these modes, as the table tells them
-pub record ListedAs (list : List (List ℕ)) (s index modes : List ℕ) (e : ℕ) (ways : List ℕ) (slot : Slot) : Type 0 where
+pub record ListedAs (list : List (List ℕ)) (s index modes : List ℕ) (e : ℕ) (ways : List Way) (slot : Slot) : Type 0 where
   pub event : slot.e ≡ e
   pub counted : slot.count ≡ length list
   pub ready : Ready index slot ways
   pub landings : (x : ℕ) → x < slot.count → landing_in index slot ways x ≡ landing_of (components_from s index) (per_component index modes) (get_or list x [])
 
 -- those of an event
-abbrev pub Listed : List ℕ → List ℕ → List ℕ → ℕ → List ℕ → Slot → Type 0
+abbrev pub Listed : List ℕ → List ℕ → List ℕ → ℕ → List Way → Slot → Type 0
 Listed s index modes e = ListedAs (switches_of (components_from s index) (per_component index modes) e) s index modes e
 
 abbrev pub silent_in : List ℕ → List ℕ → List ℕ → List (List ℕ)
@@ -93,23 +100,22 @@ pub record Fitting (s index : List ℕ) (part : Part) : Type 0 where
   pub inside : part.k < entry index 1
   pub small : part.rest + length (component_at s index part.k).modes * part.unit ≤ 255
 
--- a line that is put, and one that is put for a switch that is listed
-abbrev pub line_at : ℕ → ℕ → ℕ → ℕ → List ℕ → List ℕ
-line_at at i landing k ways = set (set (set ways at i) (128 + at) landing) (256 + at) k
+-- the line of a switch, and one that is put for a switch that is listed
+abbrev pub way_by : List ℕ → List ℕ → Part → ℕ → Way
+way_by s index part i = record { switch = i; landing = landing_by s index part i; mover = part.k }
 
-abbrev pub line_for : List ℕ → List ℕ → Part → ℕ → ℕ → List ℕ → List ℕ
-line_for s index part i at ways =
-    cond (leaves_by s index part i) (line_at at i (landing_by s index part i) part.k ways) ways
+abbrev pub line_for : List ℕ → List ℕ → Part → ℕ → ℕ → List Way → List Way
+line_for s index part i at ways = cond (leaves_by s index part i) (set ways at (way_by s index part i)) ways
 
 -- these ways stand in the table from a place on, with where they lead
-pub record WaysAt (s index : List ℕ) (part : Part) (from : ℕ) (numbers ways : List ℕ) : Type 0 where
-  pub switches : (d : ℕ) → d < length numbers → get_or ways (from + d) 0 ≡ get_or numbers d stays
-  pub landings : (d : ℕ) → d < length numbers → get_or ways (128 + (from + d)) 0 ≡ landing_by s index part (get_or numbers d stays)
+pub record WaysAt (s index : List ℕ) (part : Part) (from : ℕ) (numbers : List ℕ) (ways : List Way) : Type 0 where
+  pub switches : (d : ℕ) → d < length numbers → (get_or ways (from + d) no_way).switch ≡ get_or numbers d stays
+  pub landings : (d : ℕ) → d < length numbers → (get_or ways (from + d) no_way).landing ≡ landing_by s index part (get_or numbers d stays)
 
 -- and with who moves
-pub record MoversAt (k from count : ℕ) (ways : List ℕ) : Type 0 where
-  pub movers : (d : ℕ) → d < count → get_or ways (256 + (from + d)) 0 ≡ k
+pub record MoversAt (k from count : ℕ) (ways : List Way) : Type 0 where
+  pub movers : (d : ℕ) → d < count → (get_or ways (from + d) no_way).mover ≡ k
 
 -- nothing but 32 lines has changed
-pub record OtherLines (from : ℕ) (before after : List ℕ) : Type 0 where
-  pub kept : (p : ℕ) → (from ≤ p → p < from + 32 → ⊥) → (128 + from ≤ p → p < 160 + from → ⊥) → (256 + from ≤ p → p < 288 + from → ⊥) → get_or after p 0 ≡ get_or before p 0
+pub record OtherLines (from : ℕ) (before after : List Way) : Type 0 where
+  pub kept : (p : ℕ) → (from ≤ p → p < from + 32 → ⊥) → get_or after p no_way ≡ get_or before p no_way

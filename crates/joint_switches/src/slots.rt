@@ -16,12 +16,25 @@ use models::layout::{
     SWITCH_LENGTH, TARGET_AT,
 };
 
-// A table has three columns: by which switch a component moves, where that leads, and which component it is.
-pub const WAYS_LENGTH: usize = 384;
+// A line of a table: by which switch a component moves, where that leads, and which component it is.
+#[derive(Clone, Copy)]
+pub struct Way {
+    pub switch: u8,
+    pub landing: u8,
+    pub mover: u8,
+}
 
-const LANDINGS_AT: usize = 128;
+pub const WAYS_LENGTH: usize = 128;
 
-const MOVERS_AT: usize = 256;
+// A table for the joint switches of one event from one location.
+pub type Ways = [Way; WAYS_LENGTH];
+
+// One without lines.
+pub const NO_WAYS: Ways = [Way {
+    switch: 0,
+    landing: 0,
+    mover: 0,
+}; WAYS_LENGTH];
 
 // A component's part in an event: its number and mode, the event, and what the target's number is by its mode after it, a rest from the
 // other components and a unit for each mode.
@@ -44,10 +57,10 @@ fn target_in(s: &[u8], index: &Index, k: usize, i: usize) -> u32
 }
 
 // Puts a switch in a line of the table if it has the event's label and leaves the mode, and tells which line is next.
-fn take_switch(s: &[u8], index: &Index, part: Part, i: usize, at: usize, ways: &mut [u8]) -> usize
+fn take_switch(s: &[u8], index: &Index, part: Part, i: usize, at: usize, ways: &mut [Way]) -> usize
     requires good_index { GoodIndex s.now index.now × Fitting s.now index.now part }
     requires i_in_bounds { i < length (component_at s.now index.now part.k).switches }
-    requires at_bound { (at < 128) × (384 ≤ length ways.old) }
+    requires at_bound { (at < 128) × (128 ≤ length ways.old) }
     ensures value { result ≡ at + bit (leaves_by s.now index.now part i) }
     ensures ways_after { ways.new ≡ line_for s.now index.now part i at ways.old }
 {
@@ -56,16 +69,18 @@ fn take_switch(s: &[u8], index: &Index, part: Part, i: usize, at: usize, ways: &
         return at;
     }
     let landing = part.rest + target_in(s, index, k, i) * part.unit;
-    ways[at] = i as u8;
-    ways[LANDINGS_AT + at] = landing as u8;
-    ways[MOVERS_AT + at] = k as u8;
+    ways[at] = Way {
+        switch: i as u8,
+        landing: landing as u8,
+        mover: k as u8,
+    };
     at + 1
 }
 
 // Lists the switches of a component that have the event's label and leave its mode, from a line on, and tells which line is next.
-fn list_leaving(s: &[u8], index: &Index, part: Part, from: usize, ways: &mut [u8]) -> usize
+fn list_leaving(s: &[u8], index: &Index, part: Part, from: usize, ways: &mut [Way]) -> usize
     requires good_index { GoodIndex s.now index.now × Fitting s.now index.now part }
-    requires from_bound { (from ≤ 96) × (384 ≤ length ways.old) }
+    requires from_bound { (from ≤ 96) × (128 ≤ length ways.old) }
     ensures value { result ≡ from + length (leaving_by s.now index.now part) }
     ensures ways_at { WaysAt s.now index.now part from (leaving_by s.now index.now part) ways.new }
     ensures movers_at { MoversAt part.k from (length (leaving_by s.now index.now part)) ways.new }
@@ -80,10 +95,10 @@ fn list_leaving(s: &[u8], index: &Index, part: Part, from: usize, ways: &mut [u8
 
 // Lists the ways in which a component takes part in an event from 1, at its own places, and tells how many: by its switches if it is in
 // the scope, else one, by staying.
-fn list_part(s: &[u8], index: &Index, part: Part, ways: &mut [u8]) -> u32
+fn list_part(s: &[u8], index: &Index, part: Part, ways: &mut [Way]) -> u32
     requires good_index { GoodIndex s.now index.now × Fitting s.now index.now part }
     requires mode_in_bounds { (part.mode < length (component_at s.now index.now part.k).modes) × (part.e ≤ 15) }
-    requires in_bounds { 384 ≤ length ways.old }
+    requires in_bounds { 128 ≤ length ways.old }
     ensures value { result ≡ length (parts_by s.now index.now part) }
     ensures ways_at { WaysAt s.now index.now part (32 * part.k) (parts_by s.now index.now part) ways.new }
     ensures other_lines { OtherLines (32 * part.k) ways.old ways.new }
@@ -93,17 +108,20 @@ fn list_part(s: &[u8], index: &Index, part: Part, ways: &mut [u8]) -> u32
         return (list_leaving(s, index, part, 32 * k, ways) - 32 * k) as u32;
     }
     let landing = part.rest + u32::from(part.mode) * part.unit;
-    ways[32 * k] = 255;
-    ways[LANDINGS_AT + 32 * k] = landing as u8;
+    ways[32 * k] = Way {
+        switch: 255,
+        landing: landing as u8,
+        mover: k as u8,
+    };
     1
 }
 
 // Lists the joint switches of an event from 1 whose scope is not empty: the ways of each component from these modes. It is over with the
 // first component that cannot take part.
-fn list_together(s: &[u8], index: &Index, modes: [u8; 4], e: u32, ways: &mut [u8]) -> Slot
+fn list_together(s: &[u8], index: &Index, modes: [u8; 4], e: u32, ways: &mut [Way]) -> Slot
     requires good_index { GoodIndex s.now index.now × KnownModes index.now modes }
     requires index_bound { (location_count (components_from s.now index.now) ≤ 64) × ((1 ≤ e) × (e ≤ 15)) }
-    requires in_bounds { 384 ≤ length ways.old }
+    requires in_bounds { 128 ≤ length ways.old }
     ensures { ListedAs (together_in s.now index.now modes e) s.now index.now modes e ways.new result }
 {
     let mut counts = [0u32; 4];
@@ -137,11 +155,11 @@ fn list_together(s: &[u8], index: &Index, modes: [u8; 4], e: u32, ways: &mut [u8
 }
 
 // Lists the joint switches of event 0: each component moves alone, and the others keep their part of the location's number.
-fn list_silent(s: &[u8], index: &Index, location: u32, modes: [u8; 4], ways: &mut [u8]) -> Slot
+fn list_silent(s: &[u8], index: &Index, location: u32, modes: [u8; 4], ways: &mut [Way]) -> Slot
     requires good_index { GoodIndex s.now index.now × Counted s.now index.now }
     requires index_bound { location_count (components_from s.now index.now) ≤ 64 }
     requires location_bound { (location < location_count (components_from s.now index.now)) × (per_component index.now modes ≡ modes_at (components_from s.now index.now) location) }
-    requires in_bounds { 384 ≤ length ways.old }
+    requires in_bounds { 128 ≤ length ways.old }
     ensures { ListedAs (silent_in s.now index.now modes) s.now index.now modes 0 ways.new result }
 {
     let mut unit = u32::from(index[LOCATIONS_AT]);
@@ -172,12 +190,12 @@ pub fn list_slot(
     location: u32,
     modes: [u8; 4],
     e: u32,
-    ways: &mut [u8],
+    ways: &mut [Way],
 ) -> Slot
     requires good_index { GoodIndex s.now index.now × Counted s.now index.now }
     requires index_bound { (location_count (components_from s.now index.now) ≤ 64) × (e ≤ 15) }
     requires location_bound { (location < location_count (components_from s.now index.now)) × (per_component index.now modes ≡ modes_at (components_from s.now index.now) location) }
-    requires in_bounds { 384 ≤ length ways.old }
+    requires in_bounds { 128 ≤ length ways.old }
     ensures { Listed s.now index.now modes e ways.new result }
 {
     if index[FIRST_TOTAL + e as usize] == 0 {
@@ -204,8 +222,8 @@ pub fn alone(k: usize, i: u8) -> [u8; 4]
 }
 
 // A joint switch of an event from 1, by the digits of its number.
-fn together_at(index: &Index, ways: &[u8], counts: [u32; 4], x: u32) -> Landing
-    requires index_bound { (components_in index.now ≤ 4) × (384 ≤ length ways.now) }
+fn together_at(index: &Index, ways: &[Way], counts: [u32; 4], x: u32) -> Landing
+    requires index_bound { (components_in index.now ≤ 4) × (128 ≤ length ways.now) }
     requires digits { Digits index.now counts }
     ensures { result ≡ digit_landing index.now counts ways.now x }
 {
@@ -215,24 +233,24 @@ fn together_at(index: &Index, ways: &[u8], counts: [u32; 4], x: u32) -> Landing
     for k in (0..usize::from(index[COMPONENTS_AT])).rev() {
         let count = counts[k];
         let way = 32 * k + (left % count) as usize;
-        switches[k] = ways[way];
-        target += u32::from(ways[LANDINGS_AT + way]);
+        switches[k] = ways[way].switch;
+        target += u32::from(ways[way].landing);
         left /= count;
     }
     Landing { switches, target }
 }
 
 // A joint switch by its number, as the table tells it.
-pub fn landing_at(index: &Index, slot: Slot, ways: &[u8], x: u32) -> Landing
+pub fn landing_at(index: &Index, slot: Slot, ways: &[Way], x: u32) -> Landing
     requires { Ready index.now slot ways.now × (x < slot.count) }
     ensures { result ≡ landing_in index.now slot ways.now x }
 {
     if slot.e == 0 {
-        let at = x as usize;
-        let switches = alone(usize::from(ways[MOVERS_AT + at]), ways[at]);
+        let way = ways[x as usize];
+        let switches = alone(usize::from(way.mover), way.switch);
         return Landing {
             switches,
-            target: u32::from(ways[LANDINGS_AT + at]),
+            target: u32::from(way.landing),
         };
     }
     let counts = slot.ways;

@@ -10,6 +10,7 @@ use Rattle.models.specs.Index.{components_from, GoodIndex}
 use Rattle.models.specs.Counts.{per_component, KnownSwitches}
 use Rattle.joint_switches.specs.declared.Slot.{Slot}
 use Rattle.joint_switches.specs.declared.Landing.{Landing}
+use Rattle.joint_switches.specs.declared.slots.Way.{Way}
 use Rattle.joint_switches.specs.Slots.{landing_in, landing_of, Listed}
 use Rattle.papers.specs.Standing.{Stands}
 use Rattle.papers.proofs.StandingLaws.{stands_at_lem}
@@ -22,7 +23,7 @@ stands-there {model} {index} g location h =
     stands_at_lem model index location modes [] g h (sym (append-nil modes))
 
 -- the modes that a table was made from are those of the location
-pub listed-there : {model index modes ways : List ℕ} {location e : ℕ} {slot : Slot} → GoodIndex model index → Stands model index location modes → Listed model index modes e ways slot → Listed model index (modes_at (components_from model index) location) slot.e ways slot
+pub listed-there : {model index modes : List ℕ} {ways : List Way} {location e : ℕ} {slot : Slot} → GoodIndex model index → Stands model index location modes → Listed model index modes e ways slot → Listed model index (modes_at (components_from model index) location) slot.e ways slot
 listed-there {model} {index} {modes} {ways} {location} {e} {slot} g stands listed =
     let components = components_from model index in
     let there = modes_at components location in
@@ -34,7 +35,7 @@ listed-there {model} {index} {modes} {ways} {location} {e} {slot} g stands liste
       landings = λ x h. listed.landings x h ∙ ap (λ (ms : List ℕ). landing_of components ms (get_or (switches_of components ms e) x [])) same;
     })
 
-module _ {model index modes ways : List ℕ} {location e : ℕ} {slot : Slot} (g : GoodIndex model index) (stands : Stands model index location modes) (k : e ≤ 15) (listed : Listed model index modes e ways slot) where
+module _ {model index modes : List ℕ} {ways : List Way} {location e : ℕ} {slot : Slot} (g : GoodIndex model index) (stands : Stands model index location modes) (k : e ≤ 15) (listed : Listed model index modes e ways slot) where
   pub landed-count : slot.count ≡ length (switches_of (components_from model index) (modes_at (components_from model index) location) e)
   landed-count = listed.counted ∙ ap (λ (ms : List ℕ). length (switches_of (components_from model index) ms e)) stands.here
 

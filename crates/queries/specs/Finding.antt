@@ -28,6 +28,7 @@ use Rattle.hypotheses.specs.Tables.{hypotheses_from, roles_from}
 use Rattle.hypotheses.specs.Listing.{no_unsafe}
 use Rattle.papers.specs.Paper.{GoodPaper, regions_of, location_obligations_for, jumps_obligations_for}
 use Rattle.joint_switches.specs.declared.Slot.{Slot}
+use Rattle.joint_switches.specs.declared.slots.Way.{Way}
 use Rattle.joint_switches.specs.Slots.{Listed}
 use Rattle.scores.specs.Counting.{target_rows}
 use Rattle.rules.specs.Beside.{Found, found, unfound, no_obligation, find_in, find_after, find_hypothesis, show_answer}
@@ -325,7 +326,7 @@ SoughtInFor model index second regions all from = SoughtIn model index (regions_
 abbrev pub leaving_from : List ℕ → List ℕ → ℕ → List JointSwitch
 leaving_from model index location = join_all (joints_of (components_from model index) location) (count_up 0 16)
 
-abbrev pub ListedFrom : List ℕ → List ℕ → ℕ → List ℕ → Slot → Type 0
+abbrev pub ListedFrom : List ℕ → List ℕ → ℕ → List Way → Slot → Type 0
 ListedFrom model index location ways slot = Listed model index (modes_at (components_from model index) location) slot.e ways slot
 
 -- the same, of the model and the regions that the code keeps by their places

@@ -12,7 +12,7 @@ ghost use Rattle.queries.specs.Finding.{one_at, KnownSought, paper_obligations, 
 use crate::{JumpLine, Sought, Spot};
 use joint_switches::Slot;
 use joint_switches::joints::modes_at;
-use joint_switches::slots::{WAYS_LENGTH, landing_at, list_slot};
+use joint_switches::slots::{NO_WAYS, Way, landing_at, list_slot};
 use models::layout::{CONDITIONS_AT, FIRST_TOTAL, LOCATIONS_AT};
 use papers::Paper;
 use papers::standing::{all_start, modes_fit};
@@ -91,7 +91,7 @@ fn find_switch(
     paper: Paper,
     location: u32,
     slot: Slot,
-    ways: &[u8],
+    ways: &[Way],
     from: Spot,
 ) -> ControlFlow<JumpLine, Spot>
     requires good_paper { PaperRead paper }
@@ -137,7 +137,7 @@ fn find_event(
     if paper.index[FIRST_TOTAL + e as usize] == 0 {
         return ControlFlow::Continue(from);
     }
-    let mut ways = [0u8; WAYS_LENGTH];
+    let mut ways = NO_WAYS;
     let slot = list_slot(paper.model, paper.index, location, modes, e, &mut ways);
     find_switch(paper, location, slot, &ways, from)
 }

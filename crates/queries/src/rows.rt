@@ -14,7 +14,7 @@ use fields::versions::row_bytes;
 use hypotheses::groups::{flow_table, jump_table, push_here, start_table, unsafe_table};
 use hypotheses::tables::{TABLE_LENGTH, lines};
 use joint_switches::joints::modes_at;
-use joint_switches::slots::{WAYS_LENGTH, landing_at, list_slot};
+use joint_switches::slots::{NO_WAYS, landing_at, list_slot};
 use models::layout::{VARIABLES_AT, VERSION_AT};
 use papers::Paper;
 use sums::Line;
@@ -119,7 +119,7 @@ fn joint_table(paper: Paper, location: u32, e: u32, x: u32, table: &mut [u16]) -
     ensures stacked { Stacked table.new result × (result ≤ 23) }
 {
     let modes = modes_at(paper.model, paper.index, location);
-    let mut ways = [0u8; WAYS_LENGTH];
+    let mut ways = NO_WAYS;
     let slot = list_slot(paper.model, paper.index, location, modes, e, &mut ways);
     let landing = landing_at(paper.index, slot, &ways, x);
     let switches = landing.switches;
