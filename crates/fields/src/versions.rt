@@ -1,5 +1,7 @@
 // What a sheet's version decides: which versions and kinds its header may have, which second sheets go with a model, whether its body begins
 // with a paper number, how many bytes a row has, whether a row is strict, and whether a variable that no row mentions keeps its value.
+// Versions and kinds are the numbers that their bytes have, 1, 2, 3: the definitions test them so, and an enum would need a name for each
+// number that is refused.
 ghost use Rattle.std.specs.Prelude.{◌≡◌, ◌*◌, ◌≤◌, ◌<◌};
 ghost use Rattle.formats.specs.Versions.{version_fits, pair_of, has_paper, kind_fits, row_bytes, strict_at, keeps_blanks};
 
