@@ -364,9 +364,3 @@ inside-model model second place size within k = subst (RowInside model second) k
 pub inside-second : (model second : List ℕ) {r : RowFound} (place size : ℕ) → RowInside model second r → r ≡ row.InSecond place size → place + size ≤ length second
 unfolding RowInside
 inside-second model second place size within k = subst (RowInside model second) k within
-
-pub part-size : (s : List ℕ) (place size : ℕ) → take (place + size - place) (drop place s) ≡ take size (drop place s)
-part-size s place size = ap (λ (n : ℕ). take n (drop place s)) (same place size)
-  where
-    same : (place size : ℕ) → place + size - place ≡ size
-    same place size = omega arith

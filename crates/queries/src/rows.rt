@@ -56,19 +56,12 @@ fn line_row(model: &[u8], second: &[u8], version: u32, n: usize, line: Line) -> 
     requires { (n ≤ 8) × ((line.place < 65536) × (line.row < 65536)) }
     ensures { result ≡ row_of (hypothesis_in model.now second.now version n line.form line.place line.row) }
 {
-    if line.form == 7 {
-        let at = row_at(version, 2 * n, line);
-        return RowFound::InModel(at, row_size(version, 2 * n));
+    match line.form {
+        1 => RowFound::InSecond(row_at(version, n, line), row_size(version, n)),
+        7 => RowFound::InModel(row_at(version, 2 * n, line), row_size(version, 2 * n)),
+        form if 5 < form => RowFound::Nowhere,
+        _ => RowFound::InModel(row_at(version, n, line), row_size(version, n)),
     }
-    if 5 < line.form {
-        return RowFound::Nowhere;
-    }
-    let at = row_at(version, n, line);
-    let size = row_size(version, n);
-    if line.form == 1 {
-        return RowFound::InSecond(at, size);
-    }
-    RowFound::InModel(at, size)
 }
 
 // Where the row of a table's hypothesis stands, by its number, and its role and owner. None where it has not so many.

@@ -13,17 +13,13 @@ use Rattle.queries.proofs.FindLaws.{sought-found, one-past, one-here, group-one}
 use Rattle.queries.proofs.find.find.Goals.{Else-locations-place}
 use Rattle.queries.proofs.find.find.Goals as goal
 
-pub overflow_cast-locations : goal.overflow_cast-locations
+pub find_location-place-requires-clause-locations_value : goal.find_location-place-requires-clause-locations_value
 unfolding entry
-overflow_cast-locations c = omega (arith, c.requires.good_paper.counted.located, c.requires.good_paper.few)
+find_location-place-requires-clause-locations_value c = c.requires.good_paper.counted.located
 
-pub find_location-place-requires : goal.find_location-place-requires
+pub find_jump-found-requires-clause-locations_value : goal.find_jump-found-requires-clause-locations_value
 unfolding entry
-find_location-place-requires c = record { good_paper = c.requires.good_paper; locations_value = c.requires.good_paper.counted.located }
-
-pub find_jump-found-requires : goal.find_jump-found-requires
-unfolding entry
-find_jump-found-requires c = record { good_paper = c.requires.good_paper; locations_value = (c.requires.good_paper.counted.located, c.requires.index_len_bound) }
+find_jump-found-requires-clause-locations_value c = (c.requires.good_paper.counted.located, c.requires.index_len_bound)
 
 pub returns-then-locations-place : goal.returns-then-locations-place
 unfolding entry
@@ -41,11 +37,11 @@ below : (c : Else-locations-place) → c.find_location-place.result.at < entry c
 unfolding entry
 below c = omega (arith, c.if-locations-place.false)
 
-pub find_group-group-requires : goal.find_group-group-requires
+pub find_group-group-requires-clause-location_bound : goal.find_group-group-requires-clause-location_bound
 unfolding entry
-find_group-group-requires c =
+find_group-group-requires-clause-location_bound c =
     let p = c.requires in
-    let h = below c in record { good_paper = p.good_paper; location_bound = omega (arith, h, p.good_paper.counted.located); o_in_bounds = c.find_location-place.ensures.here h }
+    let h = below c in omega (arith, h, p.good_paper.counted.located)
 
 pub returns : goal.returns
 unfolding sought_in sought_one KnownSought entry

@@ -12,26 +12,15 @@ use Rattle.papers.proofs.StandingLaws.{stands_at_lem}
 use Rattle.queries.proofs.FindLaws.{one_on_lem, inside_on, inside-end, location-groups}
 use Rattle.queries.proofs.find.find_group.Goals as goal
 
-pub modes_at-modes-requires : goal.modes_at-modes-requires
-modes_at-modes-requires c = record { good_index = c.requires.good_paper.good; location_bound = c.requires.location_bound }
-
-pub overflow_cast-groups : goal.overflow_cast-groups
-unfolding entry
-overflow_cast-groups c = omega (arith, c.requires.good_paper.good.conditions)
-
-pub overflow_add-groups : goal.overflow_add-groups
-unfolding entry
-overflow_add-groups c = omega (arith, c.requires.good_paper.good.conditions)
-
 pub loop-at-init : goal.loop-at-init
 unfolding entry
 loop-at-init c =
     let whole = location-groups c.args.paper.model.now c.args.paper.index.now (regions_of c.args.paper.model.now c.args.paper.index.now c.args.paper.second.now c.args.paper.regions.now) c.args.location (2 + entry c.args.paper.index.now 2) refl in
     (omega arith, (ap (λ (xs : List Obligation). one_at xs c.args.o) (append-nil _ ∙ sym whole), subst (λ (xs : List Obligation). c.args.o < length xs) whole c.requires.o_in_bounds))
 
-pub group_goals-goals-requires : goal.group_goals-goals-requires
+pub group_goals-goals-requires-clause-stands : goal.group_goals-goals-requires-clause-stands
 unfolding entry
-group_goals-goals-requires c = let p = c.requires in record { good_paper = p.good_paper; stands = (stands_at_lem _ _ _ _ _ p.good_paper.good p.location_bound c.modes_at-modes.ensures, c.loop-at-test.true) }
+group_goals-goals-requires-clause-stands c = let p = c.requires in (stands_at_lem _ _ _ _ _ p.good_paper.good p.location_bound c.modes_at-modes.ensures, c.loop-at-test.true)
 
 pub returns-then-left-goals : goal.returns-then-left-goals
 unfolding entry

@@ -13,7 +13,7 @@ use Rattle.queries.specs.Finding.{joint_here, SoughtInFor}
 use Rattle.std.specs.declared.ops.ControlFlow.TheVariants.{Continue}
 use Rattle.papers.specs.Standing.{Stands}
 use Rattle.papers.proofs.LandedLaws.{stands-there, landed-count, landed-target, landed-below}
-use Rattle.queries.proofs.FindLaws.{event_size, each-starts, each_on_lem, each-few, each-found, in-none}
+use Rattle.queries.proofs.FindLaws.{event_size, each-starts, each_on_lem, each-found, in-none}
 use Rattle.queries.proofs.find.find_switch.Goals.{After-landing_at-landing, After-region_rows-goals, Start}
 use Rattle.queries.proofs.find.find_switch.Goals as goal
 
@@ -52,25 +52,19 @@ module _ (c : After-landing_at-landing) where
   unfolding joint_here joint_from
   leads = landed-target c.requires.good_paper.good (stands (goal.at.After-landing_at-landing c).Start) c.requires.e_bound.0 c.requires.location_bound.1 at here c.landing_at-landing.ensures
 
-  few : c.args.from.at + at < 4096
-  few = each-few _ _ _ _ at here c.loop-at.invariant.1 c.requires.e_bound.1
-
 -- how many obligations it has
 goals : (c : After-region_rows-goals) → c.region_rows-goals.result ≡ length (region_at (goal.at.After-region_rows-goals c).Start (joint_here (model (goal.at.After-region_rows-goals c).Start) (index (goal.at.After-region_rows-goals c).Start) c.args.location c.args.slot.e (at (goal.at.After-region_rows-goals c).After-landing_at-landing)).target)
-goals c = c.region_rows-goals.ensures ∙ ap (λ (t : ℕ). length (region_at (goal.at.After-region_rows-goals c).Start t)) (leads (goal.at.After-region_rows-goals c).After-landing_at-landing)
+goals c =
+    let s = (goal.at.After-region_rows-goals c).Start in
+    c.region_rows-goals.ensures ∙ ap (λ (t : ℕ). length (region_at s t)) (leads (goal.at.After-region_rows-goals c).After-landing_at-landing)
 
 pub loop-at-init : goal.loop-at-init
 loop-at-init c =
-    (omega arith, each-starts (model (goal.at.loop-at-init c).Start) (index (goal.at.loop-at-init c).Start) (region_at (goal.at.loop-at-init c).Start) c.args.location c.args.slot.e c.args.from.at c.args.from.left)
+    let s = (goal.at.loop-at-init c).Start in
+    (omega arith, each-starts (model s) (index s) (region_at s) c.args.location c.args.slot.e c.args.from.at c.args.from.left)
 
-pub landing_at-landing-requires : goal.landing_at-landing-requires
-landing_at-landing-requires c = (c.requires.location_bound.1.ready, c.loop-at-test.true)
-
-pub region_rows-goals-requires : goal.region_rows-goals-requires
-region_rows-goals-requires c = record { good_paper = c.requires.good_paper; location_bound = below c }
-
-pub overflow_add-result : goal.overflow_add-result
-overflow_add-result c = omega (arith, few (goal.at.overflow_add-result c).After-landing_at-landing)
+pub region_rows-goals-requires-clause-location_bound : goal.region_rows-goals-requires-clause-location_bound
+region_rows-goals-requires-clause-location_bound c = below c
 
 pub returns-then-left-goals : goal.returns-then-left-goals
 returns-then-left-goals c =
@@ -80,9 +74,6 @@ pub loop-at-preserved : goal.loop-at-preserved
 loop-at-preserved c =
     let h = here (goal.at.loop-at-preserved c).After-landing_at-landing in
     (omega (arith, h), each_on_lem _ _ _ _ (at (goal.at.loop-at-preserved c).After-landing_at-landing) h c.loop-at.invariant.1 (goals (goal.at.loop-at-preserved c).After-region_rows-goals) c.if-left-goals.false)
-
-pub overflow_add-result-2 : goal.overflow_add-result-2
-overflow_add-result-2 c = omega (arith, c.loop-at.invariant.1.counted, c.requires.e_bound.1)
 
 pub returns : goal.returns
 returns c =

@@ -62,10 +62,12 @@ module _ (c : After-landing_at-landing) where
       (landed-first c.requires.good_paper.good here c.requires.location_bound.1.0 listed c.args.x c.requires.location_bound.1.1 c.landing_at-landing.ensures)
 
 there : (c : After-modes_at-targets) → Stands (model (goal.at.After-modes_at-targets c).After-landing_at-landing) (index (goal.at.After-modes_at-targets c).After-landing_at-landing) (lands (goal.at.After-modes_at-targets c).After-landing_at-landing).target c.modes_at-targets.result
-there c = stands_at_lem _ _ _ _ _ c.requires.good_paper.good (below (goal.at.After-modes_at-targets c).After-landing_at-landing) c.modes_at-targets.ensures
+there c =
+    let s = (goal.at.After-modes_at-targets c).After-landing_at-landing in
+    stands_at_lem _ _ _ _ _ c.requires.good_paper.good (below s) c.modes_at-targets.ensures
 
-pub list_slot-slot-requires : goal.list_slot-slot-requires
-list_slot-slot-requires c = let p = c.requires in record { good_index = (p.good_paper.good, p.good_paper.counted); index_bound = (p.good_paper.few, p.location_bound.1.0); location_bound = (p.location_bound.0, (stands (goal.at.list_slot-slot-requires c).After-modes_at-modes).here); in_bounds = search rules }
+pub list_slot-slot-requires-clause-location_bound : goal.list_slot-slot-requires-clause-location_bound
+list_slot-slot-requires-clause-location_bound c = let p = c.requires in (p.location_bound.0, (stands (goal.at.list_slot-slot-requires-clause-location_bound c).After-modes_at-modes).here)
 
 pub landing_at-landing-requires : goal.landing_at-landing-requires
 landing_at-landing-requires c =
@@ -73,28 +75,29 @@ landing_at-landing-requires c =
     let listed = c.list_slot-slot.ensures in
     (listed.ready, omega (arith, p.location_bound.1.1, landed-count p.good_paper.good (stands (goal.at.landing_at-landing-requires c).After-modes_at-modes) p.location_bound.1.0 listed))
 
-pub modes_at-targets-requires : goal.modes_at-targets-requires
-modes_at-targets-requires c = record { good_index = c.requires.good_paper.good; location_bound = below (goal.at.modes_at-targets-requires c).After-landing_at-landing }
+pub modes_at-targets-requires-clause-location_bound : goal.modes_at-targets-requires-clause-location_bound
+modes_at-targets-requires-clause-location_bound c = below (goal.at.modes_at-targets-requires-clause-location_bound c).After-landing_at-landing
 
-pub push_here-here-requires : goal.push_here-here-requires
-push_here-here-requires c = let p = c.requires in record { good_paper = p.good_paper; location_bound = (p.location_bound.0, (stands (goal.at.push_here-here-requires c).After-modes_at-modes).known); in_bounds = p.in_bounds }
+pub push_here-here-requires-clause-location_bound : goal.push_here-here-requires-clause-location_bound
+push_here-here-requires-clause-location_bound c = let p = c.requires in (p.location_bound.0, (stands (goal.at.push_here-here-requires-clause-location_bound c).After-modes_at-modes).known)
 
-pub jump_table-requires : goal.jump_table-requires
-jump_table-requires c =
-    let pushed-here = c.push_here-here in record { good_index = (c.requires.good_paper.good, (c.requires.good_paper.short, ((there (goal.at.jump_table-requires c).After-modes_at-targets).known, known (goal.at.jump_table-requires c).After-landing_at-landing))); in_bounds = (omega (arith, pushed-here.auto.table, c.requires.in_bounds.0), (omega (arith, pushed-here.ensures.onto.few), pushed-here.ensures.onto.stacked)) }
+pub jump_table-requires-clause-good_index : goal.jump_table-requires-clause-good_index
+jump_table-requires-clause-good_index c =
+    (c.requires.good_paper.good, (c.requires.good_paper.short, ((there (goal.at.jump_table-requires-clause-good_index c).After-modes_at-targets).known, known (goal.at.jump_table-requires-clause-good_index c).After-landing_at-landing)))
 
-pub returns : goal.returns
+pub returns-clause-joint_held : goal.returns-clause-joint_held
 unfolding entry jump_lines
-returns c =
+returns-clause-joint_held c =
+    let s = (goal.at.returns-clause-joint_held c).After-landing_at-landing in
     let a = c.args in
     let good = c.requires.good_paper.good in
     let modes = c.modes_at-modes in
     let targets = c.modes_at-targets in
     let pushed-here = c.push_here-here in
     let made = c.jump_table in
-    let long : entry (index (goal.at.returns c).After-landing_at-landing) 1 ≤ length modes.result = omega (arith, good.few, modes.type_inv) in
-    let wide : entry (index (goal.at.returns c).After-landing_at-landing) 1 ≤ length targets.result = omega (arith, good.few, targets.type_inv) in
-    let broad : entry (index (goal.at.returns c).After-landing_at-landing) 1 ≤ length (lands (goal.at.returns c).After-landing_at-landing).switches = omega (arith, good.few, switches-length (goal.at.returns c).After-landing_at-landing) in
-    let lines : lines_in _ made.result ≡ jump_lines (model (goal.at.returns c).After-landing_at-landing) (index (goal.at.returns c).After-landing_at-landing) a.paper.regions.now a.location (per_component (index (goal.at.returns c).After-landing_at-landing) modes.result) (per_component (index (goal.at.returns c).After-landing_at-landing) targets.result) (lands (goal.at.returns c).After-landing_at-landing).switches =
-    made.ensures.result_after ∙ ap (λ (ls : List TableLine). ls ++ landing_lines (model (goal.at.returns c).After-landing_at-landing) (index (goal.at.returns c).After-landing_at-landing) (per_component (index (goal.at.returns c).After-landing_at-landing) targets.result) (lands (goal.at.returns c).After-landing_at-landing).switches) (lines_start (pushed (pushed-here.ensures.result_after, pushed-here.ensures.onto))) in
-    let held = jump-held (model (goal.at.returns c).After-landing_at-landing) (index (goal.at.returns c).After-landing_at-landing) a.paper.second.now a.paper.regions.now modes.result a.location long (here (goal.at.returns c).After-landing_at-landing) _ made.result (lands (goal.at.returns c).After-landing_at-landing).target a.e targets.result (lands (goal.at.returns c).After-landing_at-landing).switches wide (there (goal.at.returns c).After-modes_at-targets) broad (known (goal.at.returns c).After-landing_at-landing) good lines _ (same (goal.at.returns c).After-landing_at-landing) in record { joint_held = held; stacked = (made.ensures.onto.stacked, omega (arith, made.ensures.onto.few, pushed-here.ensures.onto.few)) }
+    let long : entry (index s) 1 ≤ length modes.result = omega (arith, good.few, modes.type_inv) in
+    let wide : entry (index s) 1 ≤ length targets.result = omega (arith, good.few, targets.type_inv) in
+    let broad : entry (index s) 1 ≤ length (lands s).switches = omega (arith, good.few, switches-length s) in
+    let lines : lines_in _ made.result ≡ jump_lines (model s) (index s) a.paper.regions.now a.location (per_component (index s) modes.result) (per_component (index s) targets.result) (lands s).switches =
+    made.ensures.result_after ∙ ap (λ (ls : List TableLine). ls ++ landing_lines (model s) (index s) (per_component (index s) targets.result) (lands s).switches) (lines_start (pushed (pushed-here.ensures.result_after, pushed-here.ensures.onto))) in
+    let held = jump-held (model s) (index s) a.paper.second.now a.paper.regions.now modes.result a.location long (here s) _ made.result (lands s).target a.e targets.result (lands s).switches wide (there (goal.at.returns-clause-joint_held c).After-modes_at-targets) broad (known s) good lines _ (same s) in held

@@ -8,6 +8,3 @@ pub overflow_cast-result : goal.overflow_cast-result
 unfolding row_place
 overflow_cast-result c =
     omega (arith, c.requires.1.0, c.row_place.ensures, rows_fit c.args.version c.args.n c.args.line.row 65535 c.requires.0 (omega (arith, c.requires.1.1)))
-
-pub returns : goal.returns
-returns c = c.row_place.ensures

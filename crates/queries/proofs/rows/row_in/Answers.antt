@@ -5,7 +5,6 @@ use Rattle.models.specs.Index.{entry}
 use Rattle.hypotheses.specs.Tables.{end_of}
 use Rattle.rules.specs.Roles.{owned}
 use Rattle.sums.specs.Summing.{line_in}
-use Rattle.sums.proofs.LineLaws.{some-segment}
 use Rattle.queries.specs.Finding.{in_role}
 use Rattle.queries.proofs.HeldLaws.{row-there, row-beyond}
 use Rattle.queries.proofs.rows.row_in.Goals as goal
@@ -14,24 +13,6 @@ pub returns-then-lines-h : goal.returns-then-lines-h
 returns-then-lines-h c =
     let a = c.args in
     row-beyond a.model.now a.second.now a.version a.n a.table.now a.segments c.requires.in_bounds.1.0 a.h (omega (arith, c.if-lines-h.true, c.lines.ensures))
-
-pub segment_of-g-requires : goal.segment_of-g-requires
-segment_of-g-requires c =
-    let low : c.args.h < end_of c.args.table.now c.args.segments = omega (arith, c.if-lines-h.false, c.lines.ensures) in record { le_from = (omega arith, (some-segment c.args.table.now c.args.segments c.args.h c.requires.in_bounds.1.0 low, (c.requires.in_bounds.1.1, c.requires.in_bounds.0))); from_bound = (omega (arith, c.requires.in_bounds.1.0.first), low) }
-
-pub line_at-line-requires : goal.line_at-line-requires
-line_at-line-requires c =
-    (c.requires.in_bounds.0, (c.requires.in_bounds.1.1, c.segment_of-g.ensures.1))
-
-pub overflow_mul-owner : goal.overflow_mul-owner
-overflow_mul-owner c = omega (arith, c.segment_of-g.ensures.1.most, c.requires.in_bounds.1.1)
-
-pub overflow_add-owner : goal.overflow_add-owner
-overflow_add-owner c = omega (arith, c.segment_of-g.ensures.1.most, c.requires.in_bounds.1.1)
-
-pub bounds-table-g : goal.bounds-table-g
-bounds-table-g c =
-    omega (arith, c.segment_of-g.ensures.1.most, c.requires.in_bounds.1.1, c.requires.in_bounds.0)
 
 pub line_row-row-requires : goal.line_row-row-requires
 unfolding line_in entry

@@ -6,6 +6,3 @@ use Rattle.queries.proofs.rows.row_size.Goals as goal
 pub overflow_cast-result : goal.overflow_cast-result
 overflow_cast-result c =
     omega (arith, c.row_bytes.ensures, row_fits c.args.version c.args.n c.requires)
-
-pub returns : goal.returns
-returns c = c.row_bytes.ensures

@@ -30,25 +30,27 @@ module _ (s : Start) where
   known : {x : Sought} → s.args.sought ≡ x → KnownSought s.args.paper.model.now s.args.paper.index.now x
   known e = subst (KnownSought s.args.paper.model.now s.args.paper.index.now) e s.requires.known_sought
 
-pub location_row-requires : goal.location_row-requires
+pub location_row-requires-clause-location_bound : goal.location_row-requires-clause-location_bound
 unfolding KnownSought
-location_row-requires c = record { good_paper = c.requires.good_paper; location_bound = known (goal.at.location_row-requires c).Start c.in-AtLocation.is }
+location_row-requires-clause-location_bound c = known (goal.at.location_row-requires-clause-location_bound c).Start c.in-AtLocation.is
 
-pub joint_row-requires : goal.joint_row-requires
+pub joint_row-requires-clause-location_bound : goal.joint_row-requires-clause-location_bound
 unfolding KnownSought
-joint_row-requires c = record { good_paper = c.requires.good_paper; location_bound = (known (goal.at.joint_row-requires c).Start c.in-AtJoint.is).0 }
+joint_row-requires-clause-location_bound c = (known (goal.at.joint_row-requires-clause-location_bound c).Start c.in-AtJoint.is).0
 
 pub returns-in-AtLocation : goal.returns-in-AtLocation
 unfolding located_of sought_one group_one roles_of
 returns-in-AtLocation c =
+    let s = (goal.at.returns-in-AtLocation c).Start in
     c.location_row.ensures
-    ∙ ap (λ (rs : List Role). located_at (group_hypotheses (m (goal.at.returns-in-AtLocation c).Start) (region_at (goal.at.returns-in-AtLocation c).Start) c.in-AtLocation.location c.in-AtLocation.g) rs c.args.h) (sym (group-roles (m (goal.at.returns-in-AtLocation c).Start) (region_at (goal.at.returns-in-AtLocation c).Start) c.in-AtLocation.location c.in-AtLocation.g c.in-AtLocation.field-2))
-    ∙ sym (ap (tells (goal.at.returns-in-AtLocation c).Start) c.in-AtLocation.is)
+    ∙ ap (λ (rs : List Role). located_at (group_hypotheses (m s) (region_at s) c.in-AtLocation.location c.in-AtLocation.g) rs c.args.h) (sym (group-roles (m s) (region_at s) c.in-AtLocation.location c.in-AtLocation.g c.in-AtLocation.field-2))
+    ∙ sym (ap (tells s) c.in-AtLocation.is)
 
 pub returns-in-AtJoint : goal.returns-in-AtJoint
 unfolding located_of sought_one jump_one joint_one roles_of kind_roles model_from KnownSought
 returns-in-AtJoint c =
+    let s = (goal.at.returns-in-AtJoint c).Start in
     let here = joint_here c.args.paper.model.now c.args.paper.index.now c.in-AtJoint.jump.location c.in-AtJoint.jump.event c.in-AtJoint.jump.nth in
     c.joint_row.ensures
-    ∙ ap (λ (j : JointSwitch). located_at (joint_hypotheses (m (goal.at.returns-in-AtJoint c).Start) (region_at (goal.at.returns-in-AtJoint c).Start) here) (joint_roles (m (goal.at.returns-in-AtJoint c).Start) (region_at (goal.at.returns-in-AtJoint c).Start) j) c.args.h) (sym (known (goal.at.returns-in-AtJoint c).Start c.in-AtJoint.is).1)
-    ∙ sym (ap (tells (goal.at.returns-in-AtJoint c).Start) c.in-AtJoint.is)
+    ∙ ap (λ (j : JointSwitch). located_at (joint_hypotheses (m s) (region_at s) here) (joint_roles (m s) (region_at s) j) c.args.h) (sym (known s c.in-AtJoint.is).1)
+    ∙ sym (ap (tells s) c.in-AtJoint.is)

@@ -6,7 +6,6 @@ use native.Mathlib.Omega.{arith}
 use Rattle.formats.specs.Reading.{got, refused}
 use Rattle.formats.specs.Certificate.{read_regions}
 use Rattle.formats.specs.Model.{Model}
-use Rattle.formats.proofs.Versions.{version-small}
 use Rattle.papers.specs.Opening.{Open}
 use Rattle.fields.proofs.ChainLaws.{told_at, told-refused}
 use Rattle.models.specs.Index.{entry, model_from}
@@ -48,8 +47,9 @@ module _ (c : In_ok-body) where
 refusal : (c : In-Err) → read_regions (m (goal.at.In-Err c).In_ok-body) (second (goal.at.In-Err c).In_ok-body) (body (goal.at.In-Err c).In_ok-body) ≡ refused (number_of c.in-Err.refusal.0) c.in-Err.refusal.1
 unfolding entry
 refusal c =
+    let s = (goal.at.In-Err c).In_ok-body in
     let read = c.read_regions in
-    told-refused (regions_from (second (goal.at.In-Err c).In_ok-body) (entry (index (goal.at.In-Err c).In_ok-body) 11) (entry (index (goal.at.In-Err c).In_ok-body) 0) read.new.regions (entry (index (goal.at.In-Err c).In_ok-body) 15)) (read_regions (m (goal.at.In-Err c).In_ok-body) (second (goal.at.In-Err c).In_ok-body) (body (goal.at.In-Err c).In_ok-body)) (read.ensures.result_after ∙ regions-for (model (goal.at.In-Err c).In_ok-body) (index (goal.at.In-Err c).In_ok-body) (second (goal.at.In-Err c).In_ok-body) (entry (index (goal.at.In-Err c).In_ok-body) 15) (body (goal.at.In-Err c).In_ok-body) (opens (goal.at.In-Err c).In_ok-body).first.accepted.counted.located) c.in-Err.is
+    told-refused (regions_from (second s) (entry (index s) 11) (entry (index s) 0) read.new.regions (entry (index s) 15)) (read_regions (m s) (second s) (body s)) (read.ensures.result_after ∙ regions-for (model s) (index s) (second s) (entry (index s) 15) (body s) (opens s).first.accepted.counted.located) c.in-Err.is
 
 pub returns-in_err-body : goal.returns-in_err-body
 unfolding OpensTo paper_answer
@@ -60,18 +60,6 @@ returns-in_err-body c =
     (λ k h.
     ap told_refused told.value
     ∙ told-refused-first _ _ _ k h (numbered told.value told.refused))
-
-pub overflow_cast-version : goal.overflow_cast-version
-unfolding entry
-overflow_cast-version c = omega (arith, version-small 1 _ (opens (goal.at.overflow_cast-version c).In_ok-body).first.accepted.good.version)
-
-pub overflow_cast-n : goal.overflow_cast-n
-unfolding entry
-overflow_cast-n c = omega (arith, (opens (goal.at.overflow_cast-n c).In_ok-body).first.accepted.good.most)
-
-pub overflow_cast-locations : goal.overflow_cast-locations
-unfolding entry
-overflow_cast-locations c = omega (arith, few (goal.at.overflow_cast-locations c).In_ok-body)
 
 pub read_regions-requires : goal.read_regions-requires
 unfolding entry
@@ -91,19 +79,20 @@ returns-in-Err c = λ k h. ap told_refused c.second_refused.ensures ∙ told-sto
 pub returns-in-Ok : goal.returns-in-Ok
 unfolding OpensTo entry
 returns-in-Ok c =
-    let w = opens (goal.at.returns-in-Ok c).In_ok-body in
+    let s = (goal.at.returns-in-Ok c).In_ok-body in
+    let w = opens s in
     let located = w.first.accepted.counted.located in
-    let locations = entry (index (goal.at.returns-in-Ok c).In_ok-body) 15 in
+    let locations = entry (index s) 15 in
     let read = c.read_regions in
     let regions = read.new.regions in
-    let all = regions_from (second (goal.at.returns-in-Ok c).In_ok-body) (entry (index (goal.at.returns-in-Ok c).In_ok-body) 11) (entry (index (goal.at.returns-in-Ok c).In_ok-body) 0) regions locations in
-    let e : regions_for locations (entry (index (goal.at.returns-in-Ok c).In_ok-body) 11) (entry (index (goal.at.returns-in-Ok c).In_ok-body) 0) (second (goal.at.returns-in-Ok c).In_ok-body) (body (goal.at.returns-in-Ok c).In_ok-body) ≡ got all c.in-Ok.field-0 = told_at all (regions_for locations (entry (index (goal.at.returns-in-Ok c).In_ok-body) 11) (entry (index (goal.at.returns-in-Ok c).In_ok-body) 0) (second (goal.at.returns-in-Ok c).In_ok-body) (body (goal.at.returns-in-Ok c).In_ok-body)) read.ensures.result_after c.in-Ok.is in
-    let reads : read_regions (m (goal.at.returns-in-Ok c).In_ok-body) (second (goal.at.returns-in-Ok c).In_ok-body) (body (goal.at.returns-in-Ok c).In_ok-body) ≡ got all c.in-Ok.field-0 = sym (regions-for (model (goal.at.returns-in-Ok c).In_ok-body) (index (goal.at.returns-in-Ok c).In_ok-body) (second (goal.at.returns-in-Ok c).In_ok-body) locations (body (goal.at.returns-in-Ok c).In_ok-body) located) ∙ e in
+    let all = regions_from (second s) (entry (index s) 11) (entry (index s) 0) regions locations in
+    let e : regions_for locations (entry (index s) 11) (entry (index s) 0) (second s) (body s) ≡ got all c.in-Ok.field-0 = told_at all (regions_for locations (entry (index s) 11) (entry (index s) 0) (second s) (body s)) read.ensures.result_after c.in-Ok.is in
+    let reads : read_regions (m s) (second s) (body s) ≡ got all c.in-Ok.field-0 = sym (regions-for (model s) (index s) (second s) locations (body s) located) ∙ e in
     record {
-      good = good-paper locations (body (goal.at.returns-in-Ok c).In_ok-body) c.in-Ok.field-0 w.first.accepted w.brief located e;
+      good = good-paper locations (body s) c.in-Ok.field-0 w.first.accepted w.brief located e;
       joined = w.first.accepted.joined;
       told = λ k h.
-          paper-whole (model (goal.at.returns-in-Ok c).In_ok-body) (index (goal.at.returns-in-Ok c).In_ok-body) (second (goal.at.returns-in-Ok c).In_ok-body) regions locations k h located
-          ∙ told-rest (m (goal.at.returns-in-Ok c).In_ok-body) (second (goal.at.returns-in-Ok c).In_ok-body) k h (read_regions (m (goal.at.returns-in-Ok c).In_ok-body) (second (goal.at.returns-in-Ok c).In_ok-body) (body (goal.at.returns-in-Ok c).In_ok-body)) all c.in-Ok.field-0 reads
-          ∙ told-open _ (model (goal.at.returns-in-Ok c).In_ok-body) (second (goal.at.returns-in-Ok c).In_ok-body) k h w;
+          paper-whole (model s) (index s) (second s) regions locations k h located
+          ∙ told-rest (m s) (second s) k h (read_regions (m s) (second s) (body s)) all c.in-Ok.field-0 reads
+          ∙ told-open _ (model s) (second s) k h w;
     }

@@ -1,7 +1,6 @@
 -- By cases on what was found. Assumes nothing.
 use mathlib.Core.Path.{sym, ap, ◌∙◌}
 use lib.ListN.{length}
-use Rattle.models.specs.Index.{model_from}
 use Rattle.queries.specs.declared.Sought.{Sought}
 use Rattle.papers.specs.Paper.{regions_of}
 use Rattle.queries.specs.Finding.{which_of, which_tells, kind_number, jump_one, sought_one, group_one, group_which, joint_one}
@@ -11,12 +10,10 @@ pub returns-in-AtLocation : goal.returns-in-AtLocation
 unfolding which_of which_tells sought_one group_one group_which
 returns-in-AtLocation c =
     let a = c.args in
-    let p = c.requires in
     let model = a.paper.model.now in
     let index = a.paper.index.now in
     let second = a.paper.second.now in
     let regions = a.paper.regions.now in
-    let m = model_from model index in
     let region_at = regions_of model index second regions in
     c.group_which.ensures ∙ sym (ap (λ (s : Sought). which_of (length second) (sought_one model index region_at s)) c.in-AtLocation.is)
 
@@ -24,11 +21,9 @@ pub returns-in-AtJoint : goal.returns-in-AtJoint
 unfolding which_of which_tells sought_one jump_one joint_one kind_number
 returns-in-AtJoint c =
     let a = c.args in
-    let p = c.requires in
     let model = a.paper.model.now in
     let index = a.paper.index.now in
     let second = a.paper.second.now in
     let regions = a.paper.regions.now in
-    let m = model_from model index in
     let region_at = regions_of model index second regions in
     c.told.ensures ∙ sym (ap (λ (s : Sought). which_of (length second) (sought_one model index region_at s)) c.in-AtJoint.is)
