@@ -16,12 +16,13 @@ use models::layout::{
     SWITCH_LENGTH, TARGET_AT,
 };
 
-// A line of a table: by which switch a component moves, where that leads, and which component it is.
+// A line of a table: by which switch a component moves, which component it is, and where that leads. Four bytes, so that a line is found
+// without a multiplication by three.
 #[derive(Clone, Copy)]
 pub struct Way {
     pub switch: u8,
-    pub landing: u8,
     pub mover: u8,
+    pub landing: u16,
 }
 
 pub const WAYS_LENGTH: usize = 128;
@@ -32,8 +33,8 @@ pub type Ways = [Way; WAYS_LENGTH];
 // One without lines.
 pub const NO_WAYS: Ways = [Way {
     switch: 0,
-    landing: 0,
     mover: 0,
+    landing: 0,
 }; WAYS_LENGTH];
 
 // A component's part in an event: its number and mode, the event, and what the target's number is by its mode after it, a rest from the
@@ -71,8 +72,8 @@ fn take_switch(s: &[u8], index: &Index, part: Part, i: usize, at: usize, ways: &
     let landing = part.rest + target_in(s, index, k, i) * part.unit;
     ways[at] = Way {
         switch: i as u8,
-        landing: landing as u8,
         mover: k as u8,
+        landing: landing as u16,
     };
     at + 1
 }
@@ -110,8 +111,8 @@ fn list_part(s: &[u8], index: &Index, part: Part, ways: &mut [Way]) -> u32
     let landing = part.rest + u32::from(part.mode) * part.unit;
     ways[32 * k] = Way {
         switch: 255,
-        landing: landing as u8,
         mover: k as u8,
+        landing: landing as u16,
     };
     1
 }

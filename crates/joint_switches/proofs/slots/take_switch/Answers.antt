@@ -26,8 +26,8 @@ overflow_cast-ways c =
     let p = c.requires in
     omega (arith, switch-within p.good_index.0 c.args.part.k c.args.i p.good_index.1.inside p.i_in_bounds)
 
-pub overflow_cast-ways-2 : goal.overflow_cast-ways-2
-overflow_cast-ways-2 c =
+pub overflow_cast-ways-3 : goal.overflow_cast-ways-3
+overflow_cast-ways-3 c =
     let a = c.args in
     let p = c.requires in
     omega (arith, landing-fits p.good_index.0 a.part a.i p.good_index.1 p.i_in_bounds c.target_in.result c.target_in.ensures)
