@@ -81,7 +81,8 @@ pub fn kept_in_jump(model: &[u8], index: &Index, switches: [u8; 4], v: usize) ->
     blank_in_jump(model, index, owner, i, v)
 }
 
-// Whether a variable keeps its value: in a flow in these modes, or in a jump by these switches.
+// Whether a variable keeps its value: in a flow in these modes, or in a jump by these switches. One test with a flag: a closure in its place
+// took two instructions more a jump, counted.
 pub fn keeps(model: &[u8], index: &Index, flow: bool, numbers: [u8; 4], v: usize) -> bool
     requires good_index { GoodIndex model.now index.now × (length model.now ≤ 32768) }
     requires known_in { KnownIn flow index.now numbers × (v < variables_in index.now) }
