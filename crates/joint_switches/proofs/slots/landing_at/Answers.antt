@@ -1,6 +1,6 @@
 -- By cases: one line, or the digits. Assumes nothing.
 use mathlib.Core.Path.{◌≡◌, sym, ap, ◌∙◌}
-use Prim.Native.Nat.{ℕ, ◌+◌}
+use Prim.Native.Nat.{ℕ}
 use lib.ListN.{get_or, set, replicate}
 use Rattle.formats.specs.Joint.{stays}
 use Rattle.joint_switches.specs.declared.Landing.{Landing}
