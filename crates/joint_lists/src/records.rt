@@ -71,11 +71,18 @@ fn fill(
     }
 }
 
-// The same of any slot, which is listed first; the index tells whether its event has a joint switch at all.
-fn fill_slot(model: &[u8], index: &Index, from: Filled, words: &mut [u64]) -> Filled
+// The same of any slot, which is listed first in the table; the index tells whether its event has a joint switch at all.
+fn fill_slot(
+    model: &[u8],
+    index: &Index,
+    from: Filled,
+    ways: &mut [Way],
+    words: &mut [u64],
+) -> Filled
     requires accepted { Accepted model.now index.now }
     requires slot_bound { from.slot < 16 * location_count (components_from model.now index.now) }
     requires from_bound { (from.count < 64) × (length words.old ≡ 64) }
+    requires ways_bound { 128 ≤ length ways.old }
     ensures further { Further from.slot from.count result }
     ensures result_after { records_with model.now index.now words.new result ≡ records_with model.now index.now words.old from }
 {
@@ -89,9 +96,8 @@ fn fill_slot(model: &[u8], index: &Index, from: Filled, words: &mut [u64]) -> Fi
     }
     let location = from.slot / 16;
     let modes = modes_at(model, index, location);
-    let mut ways = NO_WAYS;
-    let slot = list_slot(model, index, location, modes, e, &mut ways);
-    fill(model, index, slot, &ways, from, words)
+    let slot = list_slot(model, index, location, modes, e, ways);
+    fill(model, index, slot, ways, from, words)
 }
 
 // The first place of the list; nothing is told yet.
@@ -113,13 +119,14 @@ pub fn next_batch(model: &[u8], index: Index, at: Batch) -> Batch
 {
     let slots = 16 * u32::from(index[LOCATIONS_AT]);
     let mut words = [0u64; 64];
+    let mut ways = NO_WAYS;
     let mut place = Filled {
         count: 0,
         slot: at.slot,
         x: at.x,
     };
     while place.slot < slots && place.count < 64 {
-        place = fill_slot(model, &index, place, &mut words);
+        place = fill_slot(model, &index, place, &mut ways, &mut words);
     }
     Batch {
         words,

@@ -16,8 +16,8 @@ use models::layout::{
     SWITCH_LENGTH, TARGET_AT,
 };
 
-// A line of a table: by which switch a component moves, which component it is, and where that leads. Four bytes, so that a line is found
-// without a multiplication by three.
+// A line of a table: by which switch a component moves, which component it is, and where that leads. Four bytes: with three,
+// marking 1,024 joint switches took 4 % more instructions.
 #[derive(Clone, Copy)]
 pub struct Way {
     pub switch: u8,
