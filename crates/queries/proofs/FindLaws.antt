@@ -369,9 +369,6 @@ joints-by-location components locations e = ap (λ (n : ℕ). join_all (λ l. jo
     whole : (n : ℕ) → n - 0 ≡ n
     whole n = omega arith
 
-pub events-whole : (components : List Component) (location : ℕ) → joined_on (joints_of components location) 16 0 ≡ join_all (joints_of components location) (count_up 0 16)
-events-whole components location = joined-whole (joints_of components location) 16
-
 -- the tests that the code makes are those of the definition
 module _ (model index : List ℕ) (region_at : ℕ → Condition) (location : ℕ) where
   pub fits-there : (u : ℕ) (modes : List ℕ) → u < entry index 2 → Stands model index location modes → modes_fit (unsafe_from model (entry index 11) (entry index 0) (entry index 1) index (unsafe_place u)).modes (per_component index modes) ≡ modes_fit (get_or (model_from model index).unsafe u no_unsafe).modes (modes_at (model_from model index).components location)
@@ -465,9 +462,6 @@ module _ (model index : List ℕ) (location e at : ℕ) where
   module _ {region_at : ℕ → Condition} {first o left : ℕ} (h : at < event_size model index location e) (p : Passing m region_at event (each_on model index location e at) first o (first + at) left) where
     abbrev whole : Passing m region_at event ((here ∷ []) ++ each_on model index location e (at + 1)) first o (first + at) left
     whole = passing-split m region_at (λ x. joint_here model index location e x ∷ []) (event_size model index location e) at h p
-
-    pub each-few : first + length event ≤ 4096 → first + at < 4096
-    each-few l = omega (arith, passing-few m region_at (here ∷ []) (each_on model index location e (at + 1)) whole l)
 
     module _ {goals : ℕ} (q : goals ≡ length (region_at here.target)) where
       passed : goals ≤ left → Passing m region_at (here ∷ []) [] (first + at) left (first + (at + 1)) (left - goals)

@@ -1,7 +1,7 @@
 // Show row: which obligation has a number, and where the row of one of its hypotheses stands, in what role and whose it is.
 ghost use Rattle.std.specs.Prelude.{IfOk, ◌≡◌, ◌+◌, ◌≤◌, length, take, drop};
 ghost use Rattle.formats.specs.ModelSheet.{stated};
-ghost use Rattle.papers.specs.Paper.{PaperRead, of_paper, on_paper};
+ghost use Rattle.papers.specs.Paper.{PaperRead, of_paper};
 ghost use Rattle.rules.specs.Beside.{find_hypothesis, show_answer, show_part};
 ghost use Rattle.queries.specs.Finding.{which_obligation, which_refused, group_which, row_found, hypothesis_located, hypothesis_answer, RowInside, which_of, OpensTo, PartIs, sought_one_for, row_answer, stood_answer, row_length, shown_as};
 ghost use Rattle.rules.specs.Roles.{owned};
