@@ -7,8 +7,9 @@ use Prim.Native.Nat.{ℕ, ◌≤◌, ◌<◌}
 use native.Mathlib.Omega.{arith}
 use lib.Dec.{leb}
 use lib.ListN.{length}
+use borrow.Author.Rules.{rules}
 use borrow.Author.Tests.{le-leb, lt-leb}
-use Rattle.std.specs.Prelude.{Ok, Err}
+use Rattle.std.specs.Prelude.{Ok, Err, IfErr}
 use Rattle.typed.specs.declared.forms.Form.{Form}
 use Rattle.typed.specs.Signs.{signs}
 use Rattle.typed.specs.Text.{Comparison, spell_row}
@@ -17,7 +18,7 @@ use Rattle.typed.specs.Scan.{Scanned, keeps_rules, breaks_at, scanned}
 use Rattle.typed.specs.Values.{work_row}
 use Rattle.typed.specs.Working.{row_at}
 use Rattle.typed.specs.Following.{FaultBelow}
-use Rattle.typed.specs.Typed.{Answered, row_of, place_of, count_refused, length_refused, text_refused, value_refused, Typed, count-refused, length-refused, text-refused, value-refused, accepted, worked_row, scanned_row, short_row, counted_row, typed_row}
+use Rattle.typed.specs.Typed.{Answered, row_of, place_of, refusal_place, count_refused, length_refused, text_refused, value_refused, Typed, count-refused, length-refused, text-refused, value-refused, accepted, worked_row, scanned_row, short_row, counted_row, typed_row}
 use Rattle.typed.proofs.SignLaws.{signs-length}
 use Rattle.farkas.proofs.Order.{compare}
 use Rattle.typed.proofs.MendLaws.{keeps-valid, fails-breaks, valid-keeps, breaks-fails}
@@ -121,3 +122,7 @@ typed-within (accepted l m s c e q x r) = omega arith
 
 pub place-within : (n : ℕ) (text : List ℕ) → place_of (typed_row n text) ≤ 255
 place-within n text = typed-within (typed-is n text)
+
+pub place-told : (n : ℕ) (text : List ℕ) (r : Answered) → r ≡ typed_row n text → IfErr r (λ u. refusal_place u ≤ 255)
+place-told n text (Ok x) e = search rules
+place-told n text (Err u) e = omega (arith, ap place_of e, place-within n text)

@@ -1,6 +1,6 @@
 // The call: the tests that come before the text, the scan, and the working-out of a text that keeps the rules.
-ghost use Rattle.std.specs.Prelude.{◌≡◌};
-ghost use Rattle.typed.specs.Typed.{typed_row};
+ghost use Rattle.std.specs.Prelude.{◌≡◌, ◌≤◌, IfErr};
+ghost use Rattle.typed.specs.Typed.{typed_row, refusal_place};
 
 use crate::scan::scan;
 use crate::working::work;
@@ -12,9 +12,10 @@ const VARIABLES: u32 = 8;
 // A text has at most this many bytes.
 const TEXT_LENGTH: usize = 255;
 
-// A row typed as text, in this many variables: the row, or why there is none.
+// A row typed as text, in this many variables: the row, or why there is none, whose place is at most 255.
 pub fn read_row(text: &[u8], variables: u32) -> Result<TypedRow, Unread>
-    ensures { result ≡ typed_row variables text.now }
+    ensures value { result ≡ typed_row variables text.now }
+    ensures place { IfErr result (λ unread. refusal_place unread ≤ 255) }
 {
     if variables < 1 {
         return Err(Unread::Variables);
