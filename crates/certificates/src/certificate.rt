@@ -4,7 +4,7 @@ ghost use Rattle.formats.specs.Locations.{location_count};
 ghost use Rattle.formats.specs.Joint.{joints};
 ghost use Rattle.models.specs.Index.{components_from};
 ghost use Rattle.rules.specs.Marking.{passed, close_certificate, mark_certificate};
-ghost use Rattle.papers.specs.Paper.{PaperRead, of_paper, on_paper, Accepted, obligations_for};
+ghost use Rattle.papers.specs.Paper.{PaperRead, of_paper, Accepted, obligations_for};
 ghost use Rattle.certificates.specs.Passed.{stopped_answer, marked_body, marked_rest};
 
 use crate::obligations::mark_obligations;

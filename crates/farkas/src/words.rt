@@ -1,5 +1,5 @@
 // Numbers of four bytes, as rows have them.
-ghost use Rattle.std.specs.Prelude.{◌≡◌, ◌+◌, ◌^◌, ◌≤◌, ◌<◌, pos, nat_abs, ◌+ℤ◌, length, take, drop};
+ghost use Rattle.std.specs.Prelude.{◌≡◌, ◌+◌, ◌^◌, ◌≤◌, ◌<◌, nat_abs, length, take, drop};
 ghost use Rattle.farkas.specs.Words.{big_endian, signed_at};
 
 // The four bytes at a place that has them, as a number. They are read with the first byte lowest and then turned: of that the compiler makes

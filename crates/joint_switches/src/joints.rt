@@ -3,7 +3,7 @@
 ghost use Rattle.std.specs.Prelude.{◌≡◌, ℕ, cond, false, ◌++◌, ◌+◌, ◌-◌, ◌*◌, ◌<◌, ◌≤◌, eqb, length, replicate};
 ghost use Rattle.formats.specs.Model.{has_event};
 ghost use Rattle.formats.specs.Locations.{location_count, modes_at};
-ghost use Rattle.formats.specs.Joint.{stays, switch_of, leaves, bit, scope_mask};
+ghost use Rattle.formats.specs.Joint.{stays, switch_of, leaves, scope_mask};
 ghost use Rattle.models.specs.Index.{GoodIndex, components_from, components_in};
 ghost use Rattle.models.specs.Counts.{component_at};
 

@@ -15,7 +15,6 @@ use joint_switches::joints::modes_at;
 use models::layout::{CONDITIONS_AT, Index};
 use papers::Paper;
 use papers::standing::{all_start, modes_fit};
-use second_sheets::ranges::Regions;
 
 // How many unsafe conditions there are whose modes fit the present ones.
 fn fitting_count(model: &[u8], index: &Index, modes: [u8; 4]) -> u32

@@ -12,7 +12,7 @@ use Rattle.farkas.specs.declared.Mismatch.TheVariants as mismatch
 use Rattle.fields.specs.declared.Refusal.{Refusal}
 use Rattle.fields.specs.Causes as causes
 use Rattle.fields.specs.Answers.{got_as}
-use Rattle.fields.proofs.AnswerLaws.{Read, Next, next-at, next-refused}
+use Rattle.fields.proofs.AnswerLaws.{Read, Next, next-at}
 use Rattle.farkas.specs.Farkas.{number_of, Entry, Proof, SumsOf, sums_test, farkas_test}
 use Rattle.farkas.proofs.Promise.{held_test}
 use Rattle.second_sheets.specs.declared.Entry as coded

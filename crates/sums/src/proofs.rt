@@ -1,5 +1,5 @@
 // Proofs: the sums of a proof's entries, and the test of a proof.
-ghost use Rattle.std.specs.Prelude.{Ok, true, false, ◌≡◌, ℕ, ◌+◌, ◌-◌, ◌^◌, ◌≤◌, ◌<◌, pos, length, replicate};
+ghost use Rattle.std.specs.Prelude.{Ok, true, false, ◌≡◌, ℕ, ◌+◌, ◌-◌, ◌^◌, ◌≤◌, pos, length, replicate};
 ghost use Rattle.formats.specs.Versions.{row_bytes};
 ghost use Rattle.farkas.specs.Rows.{row_of, strictly};
 ghost use Rattle.farkas.specs.Farkas.{sums_test, number_of};

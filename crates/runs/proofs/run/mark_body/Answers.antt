@@ -21,7 +21,7 @@ use Rattle.runs.specs.declared.RunMarked.{RunMarked}
 use Rattle.runs.specs.declared.Stopped.{Stopped}
 use Rattle.runs.proofs.RunCodeRead.{OpeningHeld, opening-known, opening-placed, opening-read, opening-refused, first-state}
 use Rattle.runs.proofs.RunCode.{close-stopped, opening-stops, opening-fails, opening-runs}
-use Rattle.runs.proofs.run.mark_body.Goals.{After-modes_at-modes, After-opening, After-mark_steps, In-Err, In-Ok, Then-not-start_allowed}
+use Rattle.runs.proofs.run.mark_body.Goals.{After-modes_at-modes, After-opening, After-mark_steps, In-Err, In-Ok}
 use Rattle.runs.proofs.run.mark_body.Goals as goal
 
 -- the opening was refused

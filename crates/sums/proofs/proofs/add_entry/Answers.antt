@@ -15,7 +15,6 @@ use Rattle.models.specs.Index.{entry}
 use Rattle.hypotheses.specs.Tables.{end_of, hypothesis_in, GoodLine}
 use Rattle.sums.specs.declared.Line.{Line}
 use Rattle.sums.specs.Summing.{line_in, table_line, rows_in, SummedAfter}
-use Rattle.fields.proofs.AnswerLaws.{next-refused}
 use Rattle.sums.proofs.LineLaws.{line-within, row_listed, some-segment}
 use Rattle.sums.proofs.RowLaws.{sent}
 use Rattle.sums.proofs.EntryLaws.{EntryWithin, entry-within, so-far-next, so-far-stops, less-room}
@@ -86,7 +85,6 @@ returns-in_err-read c = λ at i so.
     let same : c.from_residual.result ≡ Err c.in_err-read.field-0.0 = search rules in
     let a = c.args in
     subst (SummedAfter a.model.now a.second.now a.n a.table.now a.group at (i + 1) c.args.sums.now) (sym same) (so-far-stops so _ _ (sym c.entry.ensures ∙ entry-refused c.in_err-read.was))
-
 
 -- its row was added to the sums as often as it says
 entry-added : (c : After-sums-1) → row_of c.add_line-bound.new.sums (to_z w64 (of_z w64 c.add_line-bound.result)) ≡ add_row (row_of c.args.sums.now c.args.reached.bound) (read (goal.at.After-sums-1 c).In_ok-read).multiplier (strictly false (get_or (rows_in c.args.model.now c.args.second.now c.args.n c.args.table.now c.args.group) (read (goal.at.After-sums-1 c).In_ok-read).hypothesis zero_row))

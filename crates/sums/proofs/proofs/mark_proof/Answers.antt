@@ -59,7 +59,6 @@ returns-in_err-head c =
     let same : c.from_residual.result ≡ Err c.in_err-head.field-0.0 = search rules in
     let read = sym c.proof_head.ensures ∙ field-refused c.in_err-head.was in record { value = next-refused tt same ∙ sym (ap held_next (head-refused (rows_in a.model.now a.second.now a.n a.table.now a.group) a.group.zero (goal_at a.second.now a.n a.group a.goal) a.second.now a.at _ _ read)); by_index = λ end e. absurd (refused-not-at same e) }
 
-
 pub returns-in_err-reached : goal.returns-in_err-reached
 unfolding held_next SummedAfter
 returns-in_err-reached c =
@@ -69,7 +68,6 @@ returns-in_err-reached c =
     let next = c.in_ok-head.next in
     let same : c.from_residual-in_err-reached.result ≡ Err c.in_err-reached.field-0.0 = search rules in
     let read = subst (Known (goal.at.returns-in_err-reached c).After-sum_entries) c.in_err-reached.was c.sum_entries.ensures in record { value = next-refused tt same ∙ sym (ap held_next (entries-refused (rows_in a.model.now a.second.now a.n a.table.now a.group) a.group.zero (goal_at a.second.now a.n a.group a.goal) a.second.now a.at c.in_ok-head.head next a.group.hypotheses (rows_all (goal.at.returns-in_err-reached c).Start) (head_read (goal.at.returns-in_err-reached c).In_ok-head) _ _ read)); by_index = λ end e. absurd (refused-not-at same e) }
-
 
 pub shape_of-sums : goal.shape_of-sums
 shape_of-sums c = c.verdict-verdict.auto.sums ∙ c.sum_entries.auto.sums

@@ -11,7 +11,6 @@ use Rattle.sums.specs.declared.Reached.{Reached}
 use Rattle.std.specs.Prelude.{Result}
 use Rattle.fields.specs.declared.Refusal.{Refusal}
 use Rattle.sums.specs.Summing.{SoFar, SummedAfter}
-use Rattle.fields.proofs.AnswerLaws.{next-refused}
 use Rattle.sums.proofs.EntryLaws.{so-far-none, so-far-room, refused-on}
 use Rattle.sums.proofs.proofs.sum_entries.Goals.{After-sums-1, Start}
 use Rattle.sums.proofs.proofs.sum_entries.Goals as goal
@@ -58,7 +57,6 @@ returns-in_err-reached c =
     let first = subst (Known (goal.at.returns-in_err-reached c).Start (l._i + 1) c.add_entry.new.sums) c.in_err-reached.was (after_turn (goal.at.returns-in_err-reached c).After-sums-1) in
     let same : c.from_residual.result ≡ Err c.in_err-reached.field-0.0 = search rules in
     subst (Known (goal.at.returns-in_err-reached c).Start c.args.count c.add_entry.new.sums) (sym same) (refused-on c.args.group.hypotheses (l._i + 1) c.args.second.now c.args.at _ _ c.args.count (omega (arith, c.loop-i-test.true)) first)
-
 
 pub loop-i-preserved : goal.loop-i-preserved
 unfolding SummedAfter

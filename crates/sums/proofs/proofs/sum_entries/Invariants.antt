@@ -1,5 +1,5 @@
 use mathlib.Core.Path.{◌≡◌}
-use Prim.Native.Nat.{◌-◌, ◌≤◌}
+use Prim.Native.Nat.{◌≤◌}
 use lib.ListN.{length}
 use Rattle.sums.specs.Summing.{SoFar, SoughtFrom}
 use Rattle.sums.proofs.proofs.sum_entries.Given as goal
