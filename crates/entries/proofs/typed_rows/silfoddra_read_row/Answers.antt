@@ -16,7 +16,7 @@ use Rattle.entries.proofs.typed_rows.silfoddra_read_row.Goals as goal
 pub overflow_cast-place : goal.overflow_cast-place
 overflow_cast-place c =
     let is : c.place.result ≡ place_of c.read_row.result = c.place.ensures ∙ sym (ap place_of c.in-Err.is) in
-    omega (arith, is, ap place_of c.read_row.ensures, place-within c.args.variables c.args.text.now)
+    omega (arith, is, ap place_of c.read_row.ensures.value, place-within c.args.variables c.args.text.now)
 
 pub returns-in-Ok : goal.returns-in-Ok
 unfolding read_row answer
@@ -24,10 +24,10 @@ returns-in-Ok c =
     let row = c.in-Ok.row in
     let fits : SFits w32 row.bound = search rules in
     (λ k. record { answer = c.answered.ensures k; coefficients = row.coefficients; bound = to_z-of_z fits k })
-    ∙ ap handed_back (sym c.in-Ok.is ∙ c.read_row.ensures)
+    ∙ ap handed_back (sym c.in-Ok.is ∙ c.read_row.ensures.value)
 
 pub returns-in-Err : goal.returns-in-Err
 unfolding read_row
 returns-in-Err c =
     (λ k. record { answer = (c.answered-in-Err.ensures ∙ (λ j. answer (c.number.ensures j) 2 (c.place.ensures j) 0 0)) k; coefficients = replicate 8 (pos 0); bound = pos 0 })
-    ∙ ap handed_back (sym c.in-Err.is ∙ c.read_row.ensures)
+    ∙ ap handed_back (sym c.in-Err.is ∙ c.read_row.ensures.value)
