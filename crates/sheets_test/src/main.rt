@@ -1,6 +1,7 @@
 // Reads papers from standard input and writes what reading each gives: its label, the refusal's number, or 0, and the place of the
 // refusal, or where reading ended. tests/sheet_papers.py writes the papers, and says what must be written for each.
-// A paper: the label's length and the label, a kind, three arguments, the sheet's length in two bytes, and the sheet.
+// A paper: the label's length and the label, a kind, three arguments, the sheet's length in two bytes, and the sheet. Kinds stay bytes: each is
+// looked at in one `match`, which calls its reader.
 #![tactic(auto)]
 
 ghost use Rattle.std.specs.Prelude.{◌^◌, ◌<◌};

@@ -17,7 +17,8 @@ struct Source<'a> {
 }
 
 impl Source<'_> {
-    // An expression from a place on: a term, and what is added to it or taken from it.
+    // An expression from a place on: a term, and what is added to it or taken from it. `term` has its shape one level below, but other signs
+    // and another definition: one function for both would ask at each turn which of the two it is.
     #[cycle(readers)]
     fn expression(&self, at: usize) -> Result<Worked, Fault>
         ensures { ReadsExpression self.now.n self.now.text.now at result }
