@@ -21,7 +21,7 @@ use Rattle.certificates.specs.declared.Marking.{Marking}
 use Rattle.certificates.specs.declared.Failed.{Failed}
 use Rattle.rules.specs.Obligations.{Obligation, obligations}
 use Rattle.rules.specs.Marking.{answer, score_of, refused_score, Marked, passed, stopped, mark_proofs, close_certificate, mark_regions, with_model, mark_certificate}
-use Rattle.papers.specs.Paper.{GoodPaper}
+use Rattle.papers.specs.Papers.{GoodPaper}
 use Rattle.certificates.specs.Passed.{stands_at, stopped_answer}
 use Rattle.fields.specs.Causes.{number_of}
 use Rattle.rules.proofs.MarkedRanges.{Marks, proofs-mark}

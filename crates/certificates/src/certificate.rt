@@ -4,7 +4,7 @@ ghost use Rattle.formats.specs.Locations.{location_count};
 ghost use Rattle.formats.specs.Joint.{joints};
 ghost use Rattle.models.specs.Index.{components_from};
 ghost use Rattle.rules.specs.Marking.{passed, close_certificate, mark_certificate};
-ghost use Rattle.papers.specs.Paper.{PaperRead, of_paper, Accepted, obligations_for};
+ghost use Rattle.papers.specs.Paper.{of_paper, Accepted, obligations_for};
 ghost use Rattle.certificates.specs.Passed.{stopped_answer, marked_body, marked_rest};
 
 use crate::obligations::mark_obligations;
@@ -23,7 +23,6 @@ use second_sheets::ranges::REGIONS_LENGTH;
 
 // The answer where a proof was refused. Only then are the obligations counted, for the score.
 fn stop_certificate(paper: Paper, locations: u32, failed: Failed) -> Answer
-    requires good_paper { PaperRead paper }
     requires locations_value { (locations ≡ location_count (components_from paper.model.now paper.index.now)) × (length (joints (components_from paper.model.now paper.index.now)) ≤ 4096) }
     requires place_bound { (failed.refusal.1 ≤ 32768) × (failed.done ≤ 1000000) }
     ensures { result ≡ stopped_answer failed (length (of_paper obligations_for paper.entry locations)) }
@@ -46,7 +45,6 @@ fn end_certificate(second: &[u8], marked: Marking) -> Answer
 
 // A certificate after its regions: its proofs, then its end.
 fn mark_rest(paper: Paper, locations: u32, at: usize) -> Answer
-    requires good_paper { PaperRead paper }
     requires locations_value { (locations ≡ location_count (components_from paper.model.now paper.index.now)) × (length (joints (components_from paper.model.now paper.index.now)) ≤ 4096) }
     requires at_in_bounds { at ≤ length paper.second.now }
     ensures { result ≡ of_paper marked_rest paper.entry locations at }

@@ -5,7 +5,7 @@ ghost use Rattle.formats.specs.Joint.{joints_of, joints};
 ghost use Rattle.models.specs.Index.{components_from, Kept};
 ghost use Rattle.models.specs.Counts.{per_component, KnownSwitches};
 ghost use Rattle.joint_switches.specs.Slots.{Listed};
-ghost use Rattle.papers.specs.Paper.{PaperRead, of_paper, on_paper};
+ghost use Rattle.papers.specs.Paper.{of_paper, on_paper};
 ghost use Rattle.papers.specs.Standing.{Stands};
 ghost use Rattle.hypotheses.specs.Tables.{Stacked};
 ghost use Rattle.hypotheses.specs.Listing.{jump_tasks_for, joint_tasks_for};
@@ -29,7 +29,6 @@ fn mark_switch(
     table: &mut [u16],
     sums: &mut [i64],
 ) -> Result<Marking, Failed>
-    requires good_paper { PaperRead paper }
     requires target_bound { (landing.target < location_count (components_from paper.model.now paper.index.now)) × KnownSwitches paper.index.now landing.switches }
     requires ready { on_paper Ready paper from table.old sums.old }
     ensures value { stands_at result ≡ marked_from (of_paper jump_tasks_for paper.entry from.location (per_component paper.entry.index.now landing.switches) landing.target) paper.entry.second.now from.marking }
@@ -61,7 +60,6 @@ fn mark_switches(
     table: &mut [u16],
     sums: &mut [i64],
 ) -> Result<Marking, Failed>
-    requires good_paper { PaperRead paper }
     requires stands { Stands paper.model.now paper.index.now listing.from.location listing.from.modes × (Listed paper.model.now paper.index.now listing.from.modes listing.slot.e ways.now listing.slot × (listing.slot.e ≤ 15)) }
     requires ready { on_paper Ready paper listing.from table.old sums.old }
     ensures value { stands_at result ≡ marked_from (of_paper joint_tasks_for paper.entry (joints_of (components_from paper.entry.model.now paper.entry.index.now) listing.from.location listing.slot.e)) paper.entry.second.now listing.from.marking }
@@ -87,7 +85,6 @@ fn mark_event(
     table: &mut [u16],
     sums: &mut [i64],
 ) -> Result<Marking, Failed>
-    requires good_paper { PaperRead paper }
     requires stands { Stands paper.model.now paper.index.now from.location from.modes × (e ≤ 15) }
     requires ready { on_paper Ready paper from table.old sums.old }
     ensures value { stands_at result ≡ marked_from (of_paper joint_tasks_for paper.entry (joints_of (components_from paper.entry.model.now paper.entry.index.now) from.location e)) paper.entry.second.now from.marking }
@@ -112,7 +109,6 @@ fn mark_leaving(
     table: &mut [u16],
     sums: &mut [i64],
 ) -> Result<Marking, Failed>
-    requires good_paper { PaperRead paper }
     requires location_bound { (location < location_count (components_from paper.model.now paper.index.now)) × (Underway paper.second.now from × Fresh sums.old) }
     requires in_bounds { (96 ≤ length table.old) × Stacked table.old 0 }
     ensures value { stands_at result ≡ marked_from (of_paper leaving_tasks paper.entry location) paper.entry.second.now from }
@@ -141,7 +137,6 @@ pub fn mark_joints(
     table: &mut [u16],
     sums: &mut [i64],
 ) -> Result<Marking, Failed>
-    requires good_paper { PaperRead paper }
     requires locations_value { (locations ≡ location_count (components_from paper.model.now paper.index.now)) × (Underway paper.second.now from × Fresh sums.old) }
     requires in_bounds { (96 ≤ length table.old) × Stacked table.old 0 }
     ensures { stands_at result ≡ marked_from (of_paper joint_tasks_for paper.entry (joints (components_from paper.entry.model.now paper.entry.index.now))) paper.entry.second.now from }

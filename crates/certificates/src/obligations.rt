@@ -6,7 +6,7 @@ ghost use Rattle.formats.specs.Locations.{location_count};
 ghost use Rattle.formats.specs.Joint.{count_up, join_all};
 ghost use Rattle.models.specs.Index.{components_from};
 ghost use Rattle.rules.specs.Marking.{mark_proofs};
-ghost use Rattle.papers.specs.Paper.{PaperRead, of_paper, held_next, obligations_for};
+ghost use Rattle.papers.specs.Paper.{of_paper, held_next, obligations_for};
 ghost use Rattle.fields.specs.Answers.{got_as};
 ghost use Rattle.hypotheses.specs.Tables.{Stacked};
 ghost use Rattle.hypotheses.specs.Listing.{GoodGroup, no_task, tasks_of, mark_task, mark_tasks, location_tasks_for};
@@ -113,7 +113,6 @@ fn mark_locations(
     table: &mut [u16],
     sums: &mut [i64],
 ) -> Result<Marking, Failed>
-    requires good_paper { PaperRead paper }
     requires locations_value { (locations ≡ location_count (components_from paper.model.now paper.index.now)) × (at ≤ length paper.second.now) }
     requires in_bounds { (96 ≤ length table.old) × (Stacked table.old 0 × Fresh sums.old) }
     ensures value { stands_at result ≡ mark_tasks (join_all (of_paper location_tasks_for paper.entry) (count_up 0 locations)) paper.entry.second.now at 0 }
@@ -164,7 +163,6 @@ fn no_rows(regions: &Regions, locations: u32) -> bool
 // The proofs of all obligations, from a place on, up to the first that fails: those of the locations, then those of the joint switches.
 // Where there is no joint switch or no region has a row, there is nothing more to prove.
 pub fn mark_obligations(paper: Paper, locations: u32, at: usize) -> Result<Marking, Failed>
-    requires good_paper { PaperRead paper }
     requires locations_value { (locations ≡ location_count (components_from paper.model.now paper.index.now)) × (at ≤ length paper.second.now) }
     ensures { stands_at result ≡ mark_proofs (of_paper obligations_for paper.entry locations) paper.entry.second.now at 0 }
 {

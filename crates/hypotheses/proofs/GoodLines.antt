@@ -17,7 +17,7 @@ use Rattle.second_sheets.specs.CertificateAnswers.{GoodRegions}
 use Rattle.hypotheses.specs.Tables.{TableLine, line, segment, row_place, GoodLine}
 use Rattle.hypotheses.specs.Listing.{kept_lines, mode_lines, switch_line, variable_line, variable_at, variable_lines, here_lines, start_lines, flow_lines, unsafe_lines, landing_lines, jump_lines}
 use Rattle.papers.specs.Standing.{GoodModes, KnownModes}
-use Rattle.papers.specs.Paper.{GoodPaper}
+use Rattle.papers.specs.Papers.{GoodPaper}
 use Rattle.papers.specs.Blanks.{still_at, rests_at}
 use Rattle.hypotheses.proofs.ModeLines.{modes_on, modes-next, modes-end, switches_on, switches-next, switches-end, switch-stays, switch-moves}
 use Rattle.papers.proofs.StandingLaws.{initial-good, invariant-good, flow-good}

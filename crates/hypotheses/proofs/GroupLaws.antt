@@ -21,7 +21,8 @@ use Rattle.rules.specs.Obligations.{Hypothesis, Kind, at_start, after_flow, clea
 use Rattle.hypotheses.specs.Tables.{TableLine, lines_in, Stacked, hypotheses_from, hypothesis_rows, GoodLine}
 use Rattle.hypotheses.specs.Listing.{Task, task_of, tasks, tasks_from, tasks_of, goals_of, group_tasks, jump_tasks, no_unsafe, empty_group, region_group, unsafe_group, GoodGroup, start_lines, flow_lines, unsafe_lines, jump_lines}
 use Rattle.papers.specs.Standing.{Stands}
-use Rattle.papers.specs.Paper.{regions_of, GoodPaper}
+use Rattle.papers.specs.Paper.{regions_of}
+use Rattle.papers.specs.Papers.{GoodPaper}
 use Rattle.papers.proofs.RegionLaws.{region-at}
 use Rattle.hypotheses.proofs.HypothesisLines.{told, start-told, flow-told, unsafe-told, jump-lines-told}
 

@@ -6,7 +6,7 @@ ghost use Rattle.models.specs.Counts.{per_component, KnownSwitches};
 ghost use Rattle.hypotheses.specs.Tables.{segment, Stacked, lines_in, Onto};
 ghost use Rattle.hypotheses.specs.Listing.{here_lines, start_lines, still_lines, flow_lines, unsafe_lines, landing_lines, tasks_of, GoodGroup, empty_group, region_group, group_tasks_for, jump_tasks_for, HereIn};
 ghost use Rattle.papers.specs.Standing.{KnownModes, Stands};
-ghost use Rattle.papers.specs.Paper.{PaperRead, of_paper};
+ghost use Rattle.papers.specs.Paper.{of_paper};
 
 use crate::Group;
 use crate::tables::{lines, push, push_kept, push_modes, push_staying, push_still, push_switches};
@@ -41,7 +41,6 @@ const NO_OWNER: u16 = 0;
 
 // A location's region and invariants, on x.
 pub fn push_here(paper: Paper, location: u32, modes: [u8; 4], table: &mut [u16]) -> usize
-    requires good_paper { PaperRead paper }
     requires location_bound { (location < location_count (components_from paper.model.now paper.index.now)) × KnownModes paper.index.now modes }
     requires in_bounds { (96 ≤ length table.old) × Stacked table.old 0 }
     ensures result_after { lines_in table.new result ≡ lines_in table.old 0 ++ (here_lines paper.entry.index.now paper.entry.regions.now location (per_component paper.entry.index.now modes)) }
@@ -83,7 +82,6 @@ fn push_time(model: &[u8], index: &Index, modes: [u8; 4], table: &mut [u16], at:
 
 // The table of a flow: region and invariants on x, invariants on x', flow rows, the time, and the rows of variables that keep their value.
 pub fn flow_table(paper: Paper, location: u32, modes: [u8; 4], table: &mut [u16]) -> usize
-    requires good_paper { PaperRead paper }
     requires location_bound { (location < location_count (components_from paper.model.now paper.index.now)) × KnownModes paper.index.now modes }
     requires in_bounds { (96 ≤ length table.old) × Stacked table.old 0 }
     ensures result_after { lines_in table.new result ≡ lines_in table.old 0 ++ (flow_lines paper.entry.model.now paper.entry.index.now paper.entry.regions.now location modes) }
@@ -103,7 +101,6 @@ pub fn unsafe_table(
     u: usize,
     table: &mut [u16],
 ) -> usize
-    requires good_paper { PaperRead paper }
     requires location_bound { (location < location_count (components_from paper.model.now paper.index.now)) × KnownModes paper.index.now modes }
     requires u_bound { (u < conditions_in paper.index.now) × ((96 ≤ length table.old) × Stacked table.old 0) }
     ensures result_after { lines_in table.new result ≡ lines_in table.old 0 ++ (unsafe_lines paper.entry.index.now paper.entry.regions.now location (per_component paper.entry.index.now modes) u) }
@@ -190,7 +187,6 @@ fn region_group(
 // The proofs from the start of a location, where all its modes are start modes. Where its region has no rows there is nothing to prove,
 // and no table is built.
 fn start_group(paper: Paper, location: u32, modes: [u8; 4], table: &mut [u16]) -> Group
-    requires good_paper { PaperRead paper }
     requires stands { Stands paper.model.now paper.index.now location modes × ((96 ≤ length table.old) × Stacked table.old 0) }
     ensures result_after { tasks_of paper.entry.model.now paper.entry.second.now (variables_in paper.entry.index.now) table.new result ≡ of_paper group_tasks_for paper.entry location 0 }
     ensures good_group { GoodGroup paper.entry.model.now paper.entry.second.now (variables_in paper.entry.index.now) table.new result }
@@ -217,7 +213,6 @@ fn start_group(paper: Paper, location: u32, modes: [u8; 4], table: &mut [u16]) -
 
 // The proofs after a flow in a location.
 fn flow_group(paper: Paper, location: u32, modes: [u8; 4], table: &mut [u16]) -> Group
-    requires good_paper { PaperRead paper }
     requires stands { Stands paper.model.now paper.index.now location modes × ((96 ≤ length table.old) × Stacked table.old 0) }
     ensures result_after { tasks_of paper.entry.model.now paper.entry.second.now (variables_in paper.entry.index.now) table.new result ≡ of_paper group_tasks_for paper.entry location 1 }
     ensures good_group { GoodGroup paper.entry.model.now paper.entry.second.now (variables_in paper.entry.index.now) table.new result }
@@ -234,7 +229,6 @@ fn flow_group(paper: Paper, location: u32, modes: [u8; 4], table: &mut [u16]) ->
 
 // The proof that an unsafe condition is not met in a location, where the location's modes fit it.
 fn unsafe_group(paper: Paper, location: u32, modes: [u8; 4], u: usize, table: &mut [u16]) -> Group
-    requires good_paper { PaperRead paper }
     requires stands { Stands paper.model.now paper.index.now location modes × ((u < conditions_in paper.index.now) × ((96 ≤ length table.old) × Stacked table.old 0)) }
     ensures result_after { tasks_of paper.entry.model.now paper.entry.second.now (variables_in paper.entry.index.now) table.new result ≡ of_paper group_tasks_for paper.entry location (2 + u) }
     ensures good_group { GoodGroup paper.entry.model.now paper.entry.second.now (variables_in paper.entry.index.now) table.new result }
@@ -259,7 +253,6 @@ fn unsafe_group(paper: Paper, location: u32, modes: [u8; 4], u: usize, table: &m
 
 // A group of proofs of a location, by its number.
 pub fn group_at(paper: Paper, location: u32, modes: [u8; 4], g: u32, table: &mut [u16]) -> Group
-    requires good_paper { PaperRead paper }
     requires stands { Stands paper.model.now paper.index.now location modes × ((g < 2 + conditions_in paper.index.now) × ((96 ≤ length table.old) × Stacked table.old 0)) }
     ensures result_after { tasks_of paper.entry.model.now paper.entry.second.now (variables_in paper.entry.index.now) table.new result ≡ of_paper group_tasks_for paper.entry location g }
     ensures good_group { GoodGroup paper.entry.model.now paper.entry.second.now (variables_in paper.entry.index.now) table.new result }
@@ -283,7 +276,6 @@ pub fn jump_group(
     here: usize,
     table: &mut [u16],
 ) -> Group
-    requires good_paper { PaperRead paper }
     requires target_bound { (landing.target < location_count (components_from paper.model.now paper.index.now)) × KnownSwitches paper.index.now landing.switches }
     requires in_bounds { (96 ≤ length table.old) × HereIn paper.model.now paper.index.now paper.regions.now location here table.old }
     ensures result_after { tasks_of paper.entry.model.now paper.entry.second.now (variables_in paper.entry.index.now) table.new result ≡ of_paper jump_tasks_for paper.entry location (per_component paper.entry.index.now landing.switches) landing.target }

@@ -24,7 +24,8 @@ use Rattle.model_sheets.proofs.OpeningLaws.{opening-first}
 use Rattle.formats.proofs.Placed.{FineTo, Fine, placed-regions, model-fine}
 use Rattle.models.proofs.GoodIndexLaws.{index-good}
 use Rattle.second_sheets.proofs.CertificateLaws.{regions-of, good-regions}
-use Rattle.papers.specs.Paper.{GoodPaper, Accepted}
+use Rattle.papers.specs.Paper.{Accepted}
+use Rattle.papers.specs.Papers.{GoodPaper}
 use Rattle.fields.proofs.HeaderLaws.{header-unsized}
 
 -- a model sheet that was read is short

@@ -13,7 +13,8 @@ use Rattle.second_sheets.specs.CertificateAnswers.{regions_from}
 use Rattle.fields.proofs.ConditionLaws.{length-rows}
 use Rattle.models.proofs.GoodIndexLaws.{counted-length, counted-at}
 use Rattle.rules.specs.Obligations.{region_of}
-use Rattle.papers.specs.Paper.{GoodPaper, regions_of}
+use Rattle.papers.specs.Paper.{regions_of}
+use Rattle.papers.specs.Papers.{GoodPaper}
 
 -- the rows of a region
 module _ (model index second regions : List ℕ) where

@@ -1,4 +1,5 @@
 pub mod Standing
 pub mod Paper
+pub mod Papers
 pub mod Opening
 pub mod Blanks

@@ -8,7 +8,7 @@ use Rattle.formats.specs.Joint.{joints, JointSwitch}
 use Rattle.papers.specs.declared.Paper as declared
 use Rattle.models.specs.Index.{version_in, entry, components_from, GoodIndex, model_from}
 use Rattle.joint_switches.specs.Counted.{Counted}
-use Rattle.second_sheets.specs.CertificateAnswers.{regions_from, GoodRegions}
+use Rattle.second_sheets.specs.CertificateAnswers.{regions_from}
 use Rattle.rules.specs.Obligations.{region_of, Obligation, obligations, location_obligations, jumps_obligations}
 
 -- a model that was read: its index is good and has its counts, its sheet is short, and its locations and joint switches are no more than
@@ -18,15 +18,6 @@ pub record Accepted (model index : List ℕ) : Type 0 where
   pub short : length model ≤ 32768
   pub few : location_count (components_from model index) ≤ 64
   pub joined : length (joints (components_from model index)) ≤ 4096
-  pub counted : Counted model index
-
--- a model and a certificate's regions that were read, and their places
-pub record GoodPaper (model index second regions : List ℕ) : Type 0 where
-  pub good : GoodIndex model index
-  pub placed : GoodRegions second (version_in index) (entry index 0) (location_count (components_from model index)) regions
-  pub short : length model ≤ 32768
-  pub brief : length second ≤ 32768
-  pub few : location_count (components_from model index) ≤ 64
   pub counted : Counted model index
 
 -- the regions of a certificate, by the places that the code keeps
@@ -54,6 +45,3 @@ of_paper f p = f p.model.now p.index.now p.second.now p.regions.now
 
 abbrev pub on_paper : {A : Type 1} → (List ℕ → List ℕ → List ℕ → List ℕ → A) → declared.Paper → A
 on_paper f p = f p.model.now p.index.now p.second.now p.regions.now
-
-abbrev pub PaperRead : declared.Paper → Type 0
-PaperRead p = on_paper GoodPaper p

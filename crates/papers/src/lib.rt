@@ -8,14 +8,17 @@ pub mod opening;
 pub mod regions;
 pub mod standing;
 
+ghost use Rattle.papers.specs.Papers.{GoodPaper};
+
 use models::layout::Index;
 use second_sheets::ranges::Regions;
 
-// A certificate's paper once its sheets are read: the model and its index, the second sheet and its regions.
+// A certificate's paper once its sheets are read: the model and its index, the second sheet and its regions, which belong together.
 #[derive(Clone, Copy)]
 pub struct Paper<'a> {
     pub model: &'a [u8],
     pub index: &'a Index,
     pub second: &'a [u8],
     pub regions: &'a Regions,
+    pub ghost good: { GoodPaper model.now index.now second.now regions.now },
 }

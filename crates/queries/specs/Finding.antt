@@ -26,7 +26,8 @@ use Rattle.rules.specs.Runs.{modes_in, movers, staying_variables, still_variable
 use Rattle.rules.specs.Obligations.{Hypothesis, nowhere, Kind, at_start, after_flow, clear_of_unsafe, after_jump, Obligation, start_hypotheses, flow_hypotheses, unsafe_hypotheses, jump_hypotheses, start_obligations, flow_obligations, unsafe_obligations, jump_obligations, jumps_obligations, obligations_over, obligations}
 use Rattle.hypotheses.specs.Tables.{hypotheses_from, roles_from}
 use Rattle.hypotheses.specs.Listing.{no_unsafe}
-use Rattle.papers.specs.Paper.{GoodPaper, regions_of, location_obligations_for, jumps_obligations_for}
+use Rattle.papers.specs.Paper.{regions_of, location_obligations_for, jumps_obligations_for}
+use Rattle.papers.specs.Papers.{GoodPaper}
 use Rattle.joint_switches.specs.declared.Slot.{Slot}
 use Rattle.joint_switches.specs.declared.slots.Way.{Way}
 use Rattle.joint_switches.specs.Slots.{Listed}

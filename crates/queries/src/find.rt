@@ -5,7 +5,7 @@ ghost use Rattle.formats.specs.Locations.{location_count};
 ghost use Rattle.formats.specs.Joint.{joints_of, joints};
 ghost use Rattle.models.specs.Index.{components_from, model_from, conditions_in};
 ghost use Rattle.rules.specs.Obligations.{location_obligations};
-ghost use Rattle.papers.specs.Paper.{PaperRead, of_paper, on_paper, regions_of};
+ghost use Rattle.papers.specs.Paper.{of_paper, on_paper, regions_of};
 ghost use Rattle.papers.specs.Standing.{Stands};
 ghost use Rattle.queries.specs.Finding.{one_at, KnownSought, paper_obligations, group_obligations_for, sought_in_for, LeadsToLocation, LeadsToGroup, ListedFrom, leaving_from, SoughtInFor};
 
@@ -21,7 +21,6 @@ use std::ops::ControlFlow;
 
 // The location that has the obligation, or the number of locations where none has.
 fn find_location(paper: Paper, locations: u32, o: u32) -> Spot
-    requires good_paper { PaperRead paper }
     requires locations_value { locations ≡ location_count (components_from paper.model.now paper.index.now) }
     ensures { on_paper LeadsToLocation paper.entry locations o result }
 {
@@ -41,7 +40,6 @@ fn find_location(paper: Paper, locations: u32, o: u32) -> Spot
 
 // How many goals a location's start has.
 fn start_goals(paper: Paper, location: u32, modes: [u8; 4]) -> u32
-    requires good_paper { PaperRead paper }
     requires stands { Stands paper.model.now paper.index.now location modes }
     ensures { result ≡ length (of_paper group_obligations_for paper.entry location 0) }
 {
@@ -54,7 +52,6 @@ fn start_goals(paper: Paper, location: u32, modes: [u8; 4]) -> u32
 
 // How many goals a group of a location has.
 fn group_goals(paper: Paper, location: u32, modes: [u8; 4], g: u32) -> u32
-    requires good_paper { PaperRead paper }
     requires stands { Stands paper.model.now paper.index.now location modes × (g < 2 + conditions_in paper.index.now) }
     ensures { result ≡ length (of_paper group_obligations_for paper.entry location g) }
 {
@@ -67,7 +64,6 @@ fn group_goals(paper: Paper, location: u32, modes: [u8; 4], g: u32) -> u32
 
 // The group that has one of a location's obligations, and its line there.
 fn find_group(paper: Paper, location: u32, o: u32) -> Spot
-    requires good_paper { PaperRead paper }
     requires location_bound { location < location_count (components_from paper.model.now paper.index.now) }
     requires o_in_bounds { o < length (location_obligations (model_from paper.model.now paper.index.now) (of_paper regions_of paper) location) }
     ensures leads_to_group { on_paper LeadsToGroup paper.entry location o result }
@@ -94,7 +90,6 @@ fn find_switch(
     ways: &[Way],
     from: Spot,
 ) -> ControlFlow<JumpLine, Spot>
-    requires good_paper { PaperRead paper }
     requires location_bound { (location < location_count (components_from paper.model.now paper.index.now)) × ListedFrom paper.model.now paper.index.now location ways.now slot }
     requires e_bound { (slot.e ≤ 15) × (from.at + length (joints_of (components_from paper.model.now paper.index.now) location slot.e) ≤ 4096) }
     ensures { on_paper SoughtInFor paper.entry (joints_of (components_from paper.entry.model.now paper.entry.index.now) location slot.e) from result }
@@ -130,7 +125,6 @@ fn find_event(
     e: u32,
     from: Spot,
 ) -> ControlFlow<JumpLine, Spot>
-    requires good_paper { PaperRead paper }
     requires stands { Stands paper.model.now paper.index.now location modes × ((e ≤ 15) × (from.at + length (joints_of (components_from paper.model.now paper.index.now) location e) ≤ 4096)) }
     ensures { on_paper SoughtInFor paper.entry (joints_of (components_from paper.entry.model.now paper.entry.index.now) location e) from result }
 {
@@ -144,7 +138,6 @@ fn find_event(
 
 // The obligation with a number among those of the joint switches that leave a location, event by event.
 fn find_leaving(paper: Paper, location: u32, from: Spot) -> ControlFlow<JumpLine, Spot>
-    requires good_paper { PaperRead paper }
     requires location_bound { (location < location_count (components_from paper.model.now paper.index.now)) × (from.at + length (leaving_from paper.model.now paper.index.now location) ≤ 4096) }
     ensures { on_paper SoughtInFor paper.entry (leaving_from paper.entry.model.now paper.entry.index.now location) from result }
 {
@@ -158,7 +151,6 @@ fn find_leaving(paper: Paper, location: u32, from: Spot) -> ControlFlow<JumpLine
 
 // The obligation with a number among those of all joint switches, location by location.
 fn find_jump(paper: Paper, locations: u32, o: u32) -> ControlFlow<JumpLine, Spot>
-    requires good_paper { PaperRead paper }
     requires locations_value { (locations ≡ location_count (components_from paper.model.now paper.index.now)) × (length (joints (components_from paper.model.now paper.index.now)) ≤ 4096) }
     ensures { on_paper SoughtInFor paper.entry (joints (components_from paper.entry.model.now paper.entry.index.now)) (record { at = 0; left = o }) result }
 {
@@ -171,7 +163,6 @@ fn find_jump(paper: Paper, locations: u32, o: u32) -> ControlFlow<JumpLine, Spot
 
 // The obligation with a number, if there is one: those of the locations first, then those of the joint switches.
 pub fn find(paper: Paper, o: u32) -> Option<Sought>
-    requires good_paper { PaperRead paper }
     requires index_len_bound { length (joints (components_from paper.model.now paper.index.now)) ≤ 4096 }
     ensures result_value { of_paper sought_in_for paper.entry result ≡ one_at (of_paper paper_obligations paper.entry) o }
     ensures known_sought { IfSome result (KnownSought paper.entry.model.now paper.entry.index.now) }

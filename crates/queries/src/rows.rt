@@ -5,7 +5,7 @@ ghost use Rattle.formats.specs.Joint.{switches_of};
 ghost use Rattle.formats.specs.Versions.{row_bytes};
 ghost use Rattle.models.specs.Index.{components_from, conditions_in};
 ghost use Rattle.hypotheses.specs.Tables.{row_place, hypothesis_in, hypotheses_from, roles_from, Stacked};
-ghost use Rattle.papers.specs.Paper.{PaperRead, of_paper, on_paper};
+ghost use Rattle.papers.specs.Paper.{of_paper, on_paper};
 ghost use Rattle.papers.specs.Standing.{Stands};
 ghost use Rattle.queries.specs.Finding.{row_of, located_at, joint_here, KnownSought, GroupHeld, JointHeld, group_row_for, joint_row_for, sought_row_for};
 
@@ -22,7 +22,6 @@ use sums::lines::{line_at, row_place, segment_of};
 
 // The table of a location's group.
 fn table_at(paper: Paper, location: u32, modes: [u8; 4], g: u32, table: &mut [u16]) -> usize
-    requires good_paper { PaperRead paper }
     requires stands { Stands paper.model.now paper.index.now location modes × ((g < 2 + conditions_in paper.index.now) × ((96 ≤ length table.old) × Stacked table.old 0)) }
     ensures group_held { on_paper GroupHeld paper.entry location g table.new result }
     ensures stacked { Stacked table.new result × (result ≤ 23) }
@@ -91,7 +90,6 @@ fn row_in(
 
 // Where the row of a hypothesis of a location's group stands, and its role and owner.
 fn location_row(paper: Paper, location: u32, g: u32, h: u32) -> Option<Located>
-    requires good_paper { PaperRead paper }
     requires location_bound { (location < location_count (components_from paper.model.now paper.index.now)) × (g < 2 + conditions_in paper.index.now) }
     ensures { result ≡ of_paper group_row_for paper.entry location g h }
 {
@@ -105,7 +103,6 @@ fn location_row(paper: Paper, location: u32, g: u32, h: u32) -> Option<Located>
 
 // The table of a joint switch, by its number among those of its event.
 fn joint_table(paper: Paper, location: u32, e: u32, x: u32, table: &mut [u16]) -> usize
-    requires good_paper { PaperRead paper }
     requires location_bound { (location < location_count (components_from paper.model.now paper.index.now)) × ((e ≤ 15) × (x < length (switches_of (components_from paper.model.now paper.index.now) (modes_at (components_from paper.model.now paper.index.now) location) e))) }
     requires in_bounds { (96 ≤ length table.old) × Stacked table.old 0 }
     ensures joint_held { on_paper JointHeld paper.entry (joint_here paper.entry.model.now paper.entry.index.now location e x) table.new result }
@@ -123,7 +120,6 @@ fn joint_table(paper: Paper, location: u32, e: u32, x: u32, table: &mut [u16]) -
 
 // Where the row of a hypothesis of a joint switch stands, and its role and owner.
 fn joint_row(paper: Paper, location: u32, e: u32, x: u32, h: u32) -> Option<Located>
-    requires good_paper { PaperRead paper }
     requires location_bound { (location < location_count (components_from paper.model.now paper.index.now)) × ((e ≤ 15) × (x < length (switches_of (components_from paper.model.now paper.index.now) (modes_at (components_from paper.model.now paper.index.now) location) e))) }
     ensures { result ≡ of_paper joint_row_for paper.entry (joint_here paper.entry.model.now paper.entry.index.now location e x) h }
 {
@@ -136,7 +132,6 @@ fn joint_row(paper: Paper, location: u32, e: u32, x: u32, h: u32) -> Option<Loca
 
 // Where the row of a hypothesis of what was found stands, and its role and owner.
 pub fn sought_row(paper: Paper, sought: Sought, h: u32) -> Option<Located>
-    requires good_paper { PaperRead paper }
     requires known_sought { KnownSought paper.model.now paper.index.now sought }
     ensures { result ≡ of_paper sought_row_for paper.entry sought h }
 {

@@ -1,7 +1,7 @@
 // Show row: which obligation has a number, and where the row of one of its hypotheses stands, in what role and whose it is.
 ghost use Rattle.std.specs.Prelude.{IfOk, ◌≡◌, ◌+◌, ◌≤◌, length, take, drop};
 ghost use Rattle.formats.specs.ModelSheet.{stated};
-ghost use Rattle.papers.specs.Paper.{PaperRead, of_paper};
+ghost use Rattle.papers.specs.Paper.{of_paper};
 ghost use Rattle.rules.specs.Beside.{find_hypothesis, show_answer, show_part};
 ghost use Rattle.queries.specs.Finding.{which_obligation, which_refused, group_which, row_found, hypothesis_located, hypothesis_answer, RowInside, which_of, OpensTo, PartIs, sought_one_for, row_answer, stood_answer, row_length, shown_as};
 ghost use Rattle.rules.specs.Roles.{owned};
@@ -53,7 +53,6 @@ fn group_which(size: u32, location: u32, g: u32, line: u32) -> Which
 
 // Which obligation was found.
 fn sought_which(paper: Paper, sought: Sought) -> Which
-    requires { PaperRead paper }
     ensures { result ≡ which_of (length paper.entry.second.now) (of_paper sought_one_for paper.entry sought) }
 {
     let size = paper.second.len() as u32;

@@ -21,7 +21,8 @@ use Rattle.formats.proofs.SumLaws.{sum_first}
 use Rattle.formats.proofs.JointCounts.{numbers-length}
 use Rattle.rules.specs.Runs.{present, modes_in, modes_fit}
 use Rattle.rules.specs.Obligations.{Obligation, start_obligations, flow_obligations, unsafe_obligations, location_obligations, jump_obligations, jumps_obligations, obligations_over, obligations, region_of}
-use Rattle.papers.specs.Paper.{GoodPaper, regions_of}
+use Rattle.papers.specs.Paper.{regions_of}
+use Rattle.papers.specs.Papers.{GoodPaper}
 use Rattle.scores.specs.Counting.{rows_into, target_rows}
 use Rattle.rules.proofs.ObligationTotal.{per-row, goals_at, obligations-total}
 use Rattle.rules.proofs.ListFacts.{joined-few, count-length}

@@ -7,7 +7,7 @@ ghost use Rattle.models.specs.Counts.{per_component};
 ghost use Rattle.joint_switches.specs.Numbered.{ByMode};
 ghost use Rattle.rules.specs.Runs.{modes_fit};
 ghost use Rattle.papers.specs.Standing.{Stands};
-ghost use Rattle.papers.specs.Paper.{PaperRead, of_paper, regions_of, location_obligations_for, obligations_for};
+ghost use Rattle.papers.specs.Paper.{of_paper, regions_of, location_obligations_for, obligations_for};
 ghost use Rattle.scores.specs.Counting.{rows_into};
 
 use joint_switches::into::{ENTERING_LENGTH, EnteringTable, count_entering, joints_into};
@@ -30,7 +30,6 @@ fn fitting_count(model: &[u8], index: &Index, modes: [u8; 4]) -> u32
 
 // How many rows a location's region has.
 pub fn region_rows(paper: Paper, location: u32) -> u32
-    requires good_paper { PaperRead paper }
     requires location_bound { location < location_count (components_from paper.model.now paper.index.now) }
     ensures { result ≡ length (of_paper regions_of paper.entry location) }
 {
@@ -41,7 +40,6 @@ pub fn region_rows(paper: Paper, location: u32) -> u32
 // How many goals a location with these modes has: its region's rows from the start, if all its modes are start modes; after a flow; and one
 // for each unsafe condition that fits.
 fn goals_here(paper: Paper, location: u32, modes: [u8; 4]) -> u32
-    requires good_paper { PaperRead paper }
     requires stands { Stands paper.model.now paper.index.now location modes }
     ensures { result ≡ length (of_paper location_obligations_for paper.entry location) }
 {
@@ -53,7 +51,6 @@ fn goals_here(paper: Paper, location: u32, modes: [u8; 4]) -> u32
 
 // How many goals a location has.
 pub fn location_goals(paper: Paper, location: u32) -> u32
-    requires good_paper { PaperRead paper }
     requires location_bound { location < location_count (components_from paper.model.now paper.index.now) }
     ensures { result ≡ length (of_paper location_obligations_for paper.entry location) }
 {
@@ -63,7 +60,6 @@ pub fn location_goals(paper: Paper, location: u32) -> u32
 
 // How many goals the joint switches have that lead into a location with these modes: each has its region's rows.
 fn goals_into(paper: Paper, table: &EnteringTable, location: u32, modes: [u8; 4]) -> u32
-    requires good_paper { PaperRead paper }
     requires stands { Stands paper.model.now paper.index.now location modes × ByMode paper.model.now paper.index.now table.now }
     ensures { result ≡ of_paper rows_into paper.entry location }
 {
@@ -77,7 +73,7 @@ fn goals_into(paper: Paper, table: &EnteringTable, location: u32, modes: [u8; 4]
 // How many obligations there are, by the table of switches that enter modes: of each location its own, and those of the joint switches
 // that lead into it.
 fn goals_by(paper: Paper, table: &EnteringTable, locations: u32) -> u32
-    requires good_paper { PaperRead paper × ByMode paper.model.now paper.index.now table.now }
+    requires table { ByMode paper.model.now paper.index.now table.now }
     requires locations_value { (locations ≡ location_count (components_from paper.model.now paper.index.now)) × (length (joints (components_from paper.model.now paper.index.now)) ≤ 4096) }
     ensures { result ≡ length (of_paper obligations_for paper.entry locations) }
 {
@@ -92,7 +88,6 @@ fn goals_by(paper: Paper, table: &EnteringTable, locations: u32) -> u32
 
 // How many obligations there are in all. No joint switch is gone through: those that lead into a location are counted by its modes.
 pub fn obligation_count(paper: Paper, locations: u32) -> u32
-    requires good_paper { PaperRead paper }
     requires locations_value { (locations ≡ location_count (components_from paper.model.now paper.index.now)) × (length (joints (components_from paper.model.now paper.index.now)) ≤ 4096) }
     ensures { result ≡ length (of_paper obligations_for paper.entry locations) }
 {

@@ -59,11 +59,17 @@ second_refused-requires c =
     let p = c.requires in
     omega (arith, regions-refused-at _ _ _ _ _ p.body_in_bounds.0 (refusal c), p.body_in_bounds.1)
 
+pub invariant_of-paper : goal.invariant_of-paper
+unfolding entry
+invariant_of-paper c =
+    let p = c.requires in
+    let count = c.locations_of-locations in record { good = good-paper count.result _ _ p.accepted p.body_in_bounds.1 count.ensures (told (goal.at.invariant_of-paper c).In-Ok) }
+
 pub mark_rest-requires : goal.mark_rest-requires
 unfolding entry
 mark_rest-requires c =
     let p = c.requires in
-    let count = c.locations_of-locations in record { good_paper = good-paper count.result _ _ p.accepted p.body_in_bounds.1 count.ensures (told (goal.at.mark_rest-requires c).In-Ok); locations_value = (count.ensures, p.accepted.joined); at_in_bounds = regions-end-at _ _ _ _ _ p.body_in_bounds.0 (reads (goal.at.mark_rest-requires c).In-Ok) }
+    let count = c.locations_of-locations in record { locations_value = (count.ensures, p.accepted.joined); at_in_bounds = regions-end-at _ _ _ _ _ p.body_in_bounds.0 (reads (goal.at.mark_rest-requires c).In-Ok) }
 
 pub returns-in-Err : goal.returns-in-Err
 returns-in-Err c = c.second_refused.ensures ∙ regions-stop _ _ _ _ _ (refusal (goal.at.returns-in-Err c).In-Err)

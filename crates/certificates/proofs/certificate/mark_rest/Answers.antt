@@ -22,7 +22,7 @@ stop_certificate-requires-clause-place_bound c =
     let k = (goal.at.stop_certificate-requires-clause-place_bound c).After-mark_obligations in
     let p = c.requires in
     let within = stopped-within (all k) c.args.paper.second.now c.args.at p.at_in_bounds (told k) c.in-Err.is in
-    (omega (arith, within.0, p.good_paper.brief), omega (arith, within.1, obligations-few p.good_paper c.args.locations p.locations_value.0 p.locations_value.1))
+    (omega (arith, within.0, c.args.paper.good.brief), omega (arith, within.1, obligations-few c.args.paper.good c.args.locations p.locations_value.0 p.locations_value.1))
 
 pub returns-in-Err : goal.returns-in-Err
 returns-in-Err c =
@@ -32,7 +32,7 @@ returns-in-Err c =
 pub end_certificate-requires : goal.end_certificate-requires
 end_certificate-requires c =
     let k = (goal.at.end_certificate-requires c).After-mark_obligations in
-    (c.requires.good_paper.brief, (passed-within (all k) c.args.paper.second.now c.args.at c.requires.at_in_bounds (told k) c.in-Ok.is).0)
+    (c.args.paper.good.brief, (passed-within (all k) c.args.paper.second.now c.args.at c.requires.at_in_bounds (told k) c.in-Ok.is).0)
 
 pub returns-in-Ok : goal.returns-in-Ok
 returns-in-Ok c =

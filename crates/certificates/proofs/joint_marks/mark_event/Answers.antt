@@ -22,8 +22,8 @@ returns-then-paper-e-eq0-clause-value c =
     let index = a.paper.index.now in
     let second = a.paper.second.now in
     let regions = a.paper.regions.now in
-    let none : event_total (components_from model index) a.e ≡ 0 = omega (arith, c.requires.good_paper.counted.events a.e (omega (arith, c.requires.stands.1)), c.if-paper-e-eq0.true) in
-    marked-none second a.from.marking (joint-none c.requires.good_paper.good (model_from model index) (regions_of model index second regions) a.from.location a.e c.requires.stands.0.below none)
+    let none : event_total (components_from model index) a.e ≡ 0 = omega (arith, c.args.paper.good.counted.events a.e (omega (arith, c.requires.stands.1)), c.if-paper-e-eq0.true) in
+    marked-none second a.from.marking (joint-none c.args.paper.good.good (model_from model index) (regions_of model index second regions) a.from.location a.e c.requires.stands.0.below none)
 
 pub returns-then-paper-e-eq0-clause-fresh : goal.returns-then-paper-e-eq0-clause-fresh
 returns-then-paper-e-eq0-clause-fresh c = c.requires.ready.fresh
@@ -32,12 +32,12 @@ pub returns-then-paper-e-eq0-clause-kept : goal.returns-then-paper-e-eq0-clause-
 returns-then-paper-e-eq0-clause-kept c = kept-none _ 96 c.args.table.now
 
 pub list_slot-slot-requires : goal.list_slot-slot-requires
-list_slot-slot-requires c = record { good_index = (c.requires.good_paper.good, c.requires.good_paper.counted); index_bound = (c.requires.good_paper.few, c.requires.stands.1); location_bound = (c.requires.stands.0.below, c.requires.stands.0.here); in_bounds = search rules }
+list_slot-slot-requires c = record { good_index = (c.args.paper.good.good, c.args.paper.good.counted); index_bound = (c.args.paper.good.few, c.requires.stands.1); location_bound = (c.requires.stands.0.below, c.requires.stands.0.here); in_bounds = search rules }
 
 pub mark_switches-requires : goal.mark_switches-requires
 mark_switches-requires c =
     let k = c.list_slot-slot in
-    let same = k.ensures.event in record { good_paper = c.requires.good_paper; stands = (c.requires.stands.0, (subst (λ (e : ℕ). Listed c.args.paper.model.now c.args.paper.index.now c.args.from.modes e k.new.ways k.result) (sym same) k.ensures, omega (arith, same, c.requires.stands.1))); ready = c.requires.ready }
+    let same = k.ensures.event in record { stands = (c.requires.stands.0, (subst (λ (e : ℕ). Listed c.args.paper.model.now c.args.paper.index.now c.args.from.modes e k.new.ways k.result) (sym same) k.ensures, omega (arith, same, c.requires.stands.1))); ready = c.requires.ready }
 
 pub returns-clause-value : goal.returns-clause-value
 returns-clause-value c =

@@ -20,12 +20,12 @@ unfolding leaving_tasks
 whole s = ap (λ (ts : List Task). marked_from ts s.args.paper.second.now s.args.from) (joined-whole _ 16)
 
 pub modes_at-modes-requires : goal.modes_at-modes-requires
-modes_at-modes-requires c = record { good_index = c.requires.good_paper.good; location_bound = c.requires.location_bound.0 }
+modes_at-modes-requires c = record { good_index = c.args.paper.good.good; location_bound = c.requires.location_bound.0 }
 
 -- the location and its modes
 stands : (c : After-modes_at-modes) → Stands c.args.paper.model.now c.args.paper.index.now c.args.location c.modes_at-modes.result
 stands c =
-    stands_at_lem c.args.paper.model.now c.args.paper.index.now c.args.location c.modes_at-modes.result _ c.requires.good_paper.good c.requires.location_bound.0 c.modes_at-modes.ensures
+    stands_at_lem c.args.paper.model.now c.args.paper.index.now c.args.location c.modes_at-modes.result _ c.args.paper.good.good c.requires.location_bound.0 c.modes_at-modes.ensures
 
 pub push_here-here-requires-clause-location_bound : goal.push_here-here-requires-clause-location_bound
 push_here-here-requires-clause-location_bound c =

@@ -13,7 +13,7 @@ use borrow.Author.Rules.{rules}
 use Rattle.certificates.proofs.joint_marks.mark_switch.Goals as goal
 
 pub region_rows-requires : goal.region_rows-requires
-region_rows-requires c = (search rules, omega (arith, c.requires.target_bound.0, c.requires.good_paper.few))
+region_rows-requires c = (search rules, omega (arith, c.requires.target_bound.0, c.args.paper.good.few))
 
 pub returns-then-region_rows-eq0-clause-value : goal.returns-then-region_rows-eq0-clause-value
 returns-then-region_rows-eq0-clause-value c =
@@ -31,16 +31,16 @@ pub returns-then-region_rows-eq0-clause-kept : goal.returns-then-region_rows-eq0
 returns-then-region_rows-eq0-clause-kept c = kept-none _ 96 c.args.table.now
 
 pub jump_group-group-requires : goal.jump_group-group-requires
-jump_group-group-requires c = record { good_paper = c.requires.good_paper; target_bound = c.requires.target_bound; in_bounds = (c.requires.ready.long, c.requires.ready.here) }
+jump_group-group-requires c = record { target_bound = c.requires.target_bound; in_bounds = (c.requires.ready.long, c.requires.ready.here) }
 
 pub overflow_cast-n : goal.overflow_cast-n
 unfolding entry
-overflow_cast-n c = omega (arith, c.requires.good_paper.good.most)
+overflow_cast-n c = omega (arith, c.args.paper.good.good.most)
 
 pub mark_group-requires : goal.mark_group-requires
 unfolding entry
 mark_group-requires c =
-    let k = c.jump_group-group in record { model_len_bound = (c.requires.good_paper.short, (c.requires.good_paper.brief, (c.requires.good_paper.good.most, omega (arith, k.auto.table, c.requires.ready.long)))); good_group = (k.ensures.good_group, (c.requires.ready.underway, c.requires.ready.fresh)) }
+    let k = c.jump_group-group in record { model_len_bound = (c.args.paper.good.short, (c.args.paper.good.brief, (c.args.paper.good.good.most, omega (arith, k.auto.table, c.requires.ready.long)))); good_group = (k.ensures.good_group, (c.requires.ready.underway, c.requires.ready.fresh)) }
 
 pub returns-clause-value : goal.returns-clause-value
 unfolding entry

@@ -26,7 +26,7 @@ ready s = s.requires.ready
 
 -- how many joint switches there are
 all : (s : Start) → s.args.listing.slot.count ≡ length (switches_of (components_from s.args.paper.model.now s.args.paper.index.now) (modes_at (components_from s.args.paper.model.now s.args.paper.index.now) s.args.listing.from.location) s.args.listing.slot.e)
-all s = landed-count s.requires.good_paper.good s.requires.stands.0 s.requires.stands.1.1 s.requires.stands.1.0
+all s = landed-count s.args.paper.good.good s.requires.stands.0 s.requires.stands.1.1 s.requires.stands.1.0
 
 -- they are those of the event
 event : (s : Start) → marked_from (jumps_left s.args.paper.model.now s.args.paper.index.now (regions_of s.args.paper.model.now s.args.paper.index.now s.args.paper.second.now s.args.paper.regions.now) s.args.listing.from.location s.args.listing.slot.e 0) s.args.paper.second.now s.args.listing.from.marking ≡ marked_from (joint_tasks_for s.args.paper.model.now s.args.paper.index.now s.args.paper.second.now s.args.paper.regions.now (joints_of (components_from s.args.paper.model.now s.args.paper.index.now) s.args.listing.from.location s.args.listing.slot.e)) s.args.paper.second.now s.args.listing.from.marking
@@ -60,10 +60,10 @@ module _ (c : After-landing_at-landing) where
   short = omega (arith, c.loop-x-test.true, all (goal.at.After-landing_at-landing c).Start)
 
   known : KnownSwitches index c.landing_at-landing.result.switches
-  known = landed-known c.requires.good_paper.good c.requires.stands.0 c.requires.stands.1.1 c.requires.stands.1.0 x short c.landing_at-landing.ensures
+  known = landed-known c.args.paper.good.good c.requires.stands.0 c.requires.stands.1.1 c.requires.stands.1.0 x short c.landing_at-landing.ensures
 
   below : c.landing_at-landing.result.target < location_count (components_from model index)
-  below = landed-below c.requires.good_paper.good c.requires.stands.0 c.requires.stands.1.1 c.requires.stands.1.0 x short c.landing_at-landing.ensures
+  below = landed-below c.args.paper.good.good c.requires.stands.0 c.requires.stands.1.1 c.requires.stands.1.0 x short c.landing_at-landing.ensures
 
   abbrev region_at : ℕ → Condition
   region_at = regions_of model index c.args.paper.second.now c.args.paper.regions.now
@@ -72,7 +72,7 @@ module _ (c : After-landing_at-landing) where
   mine = jump_tasks (model_from model index) region_at at.location (per_component index c.landing_at-landing.result.switches) c.landing_at-landing.result.target
 
   come : Comes c.args.paper.second.now (mark_tasks (jumps_left model index region_at at.location e 0) c.args.paper.second.now at.marking.place at.marking.done) (mine ++ jumps_left model index region_at at.location e (x + 1)) c.loop-x.marking.place c.loop-x.marking.done
-  come = comes-same _ _ _ _ (landing-next c.requires.good_paper.good c.requires.stands.0 c.requires.stands.1.1 c.requires.stands.1.0 x short c.landing_at-landing.ensures region_at) c.loop-x.invariant.1.1.1.1
+  come = comes-same _ _ _ _ (landing-next c.args.paper.good.good c.requires.stands.0 c.requires.stands.1.1 c.requires.stands.1.0 x short c.landing_at-landing.ensures region_at) c.loop-x.invariant.1.1.1.1
 
 pub mark_switch-requires-clause-target_bound : goal.mark_switch-requires-clause-target_bound
 mark_switch-requires-clause-target_bound c =

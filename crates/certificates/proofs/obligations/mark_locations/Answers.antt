@@ -38,11 +38,11 @@ pub loop-g-init : goal.loop-g-init
 unfolding entry
 loop-g-init c = location-in _ _ _ _ _ _ c.loop-location-test.true refl c.loop-location.invariant
 
-pub group_at-group-requires-clause-stands : goal.group_at-group-requires-clause-stands
+pub group_at-group-requires : goal.group_at-group-requires
 unfolding entry
-group_at-group-requires-clause-stands c =
+group_at-group-requires c =
     let p = c.requires in
-    (stands_at_lem _ _ c.loop-location.location _ _ p.good_paper.good (omega (arith, c.loop-location-test.true, p.locations_value.0)) c.modes_at-modes.ensures, (omega (arith, c.loop-g-test.true), (omega (arith, c.loop-g.auto.table, c.loop-location.auto.table, p.in_bounds.0), c.loop-g.invariant.stacked)))
+    record { stands = (stands_at_lem _ _ c.loop-location.location _ _ c.args.paper.good.good (omega (arith, c.loop-location-test.true, p.locations_value.0)) c.modes_at-modes.ensures, (omega (arith, c.loop-g-test.true), (omega (arith, c.loop-g.auto.table, c.loop-location.auto.table, p.in_bounds.0), c.loop-g.invariant.stacked))) }
 
 pub loop-goal-init : goal.loop-goal-init
 unfolding entry
@@ -53,7 +53,7 @@ loop-goal-init c =
 pub mark_goal-requires-clause-model_len_bound : goal.mark_goal-requires-clause-model_len_bound
 unfolding entry
 mark_goal-requires-clause-model_len_bound c =
-    let p = c.requires.good_paper in
+    let p = c.args.paper.good in
     (p.short, (p.brief, (p.good.most, omega (arith, c.group_at-group.auto.table, c.loop-g.auto.table, c.loop-location.auto.table, c.requires.in_bounds.0))))
 
 pub mark_goal-requires-clause-good_group : goal.mark_goal-requires-clause-good_group
@@ -64,7 +64,7 @@ mark_goal-requires-clause-good_group c =
 pub overflow_add-done : goal.overflow_add-done
 overflow_add-done c =
     let u = c.loop-goal.invariant.underway in
-    omega (arith, u.few, u.within, c.requires.good_paper.brief)
+    omega (arith, u.few, u.within, c.args.paper.good.brief)
 
 pub loop-goal-preserved : goal.loop-goal-preserved
 unfolding entry

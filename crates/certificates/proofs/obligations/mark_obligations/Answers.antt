@@ -62,11 +62,11 @@ returns-in_err-marked c =
 pub returns-then-paper-eq0 : goal.returns-then-paper-eq0
 unfolding entry
 returns-then-paper-eq0 c =
-    over (goal.at.returns-then-paper-eq0 c).In_ok-marked (no-joints _ _ _ _ (sym c.requires.good_paper.counted.joined ∙ c.if-paper-eq0.true))
+    over (goal.at.returns-then-paper-eq0 c).In_ok-marked (no-joints _ _ _ _ (sym c.args.paper.good.counted.joined ∙ c.if-paper-eq0.true))
 
 pub returns-then-no_rows : goal.returns-then-no_rows
 returns-then-no_rows c =
-    over (goal.at.returns-then-no_rows c).In_ok-marked (nothing_left _ _ c.requires.good_paper.good c.args.locations c.requires.locations_value.0 (sym c.no_rows.ensures ∙ c.if-no_rows.true))
+    over (goal.at.returns-then-no_rows c).In_ok-marked (nothing_left _ _ c.args.paper.good.good c.args.locations c.requires.locations_value.0 (sym c.no_rows.ensures ∙ c.if-no_rows.true))
 
 pub mark_joints-requires-clause-locations_value : goal.mark_joints-requires-clause-locations_value
 mark_joints-requires-clause-locations_value c =

@@ -18,7 +18,7 @@ long : (s : Start) → entry s.args.paper.index.now 1 ≤ length s.args.modes
 unfolding entry
 long s =
     let four : ◌≡◌ {A = ℕ} (length s.args.modes) 4 = search rules in
-    omega (arith, s.requires.good_paper.good.few, four)
+    omega (arith, s.args.paper.good.good.few, four)
 
 pub returns : goal.returns
 unfolding entry
@@ -27,8 +27,8 @@ returns c =
     let k = c.flow_table-segments in
     let lines = lines_start (pushed (k.ensures.result_after, k.ensures.onto)) in
     let told = c.region_group.ensures ∙ ap (λ (n : ℕ). region_group (entry c.args.paper.index.now 11) c.args.paper.regions.now c.args.location k.new.table k.result n (n + n + 1)) c.from-n.ensures in
-    let both = same-group _ _ _ _ told (flow-tasks _ _ _ _ c.args.modes _ (long (goal.at.returns c).Start) p.stands.0 _ k.result _ p.good_paper.good lines)
-    (region-good _ _ _ _ _ _ k.result _ _ _ p.good_paper p.stands.0.below k.ensures.onto.stacked (omega (arith, k.ensures.onto.few)) lines (flow-fine _ _ _ _ _ _ (long (goal.at.returns c).Start) p.stands.0.known p.good_paper p.stands.0.below) (omega arith) (omega (arith, p.good_paper.good.most))) in record { result_after = both.0; good_group = both.1 }
+    let both = same-group _ _ _ _ told (flow-tasks _ _ _ _ c.args.modes _ (long (goal.at.returns c).Start) p.stands.0 _ k.result _ c.args.paper.good.good lines)
+    (region-good _ _ _ _ _ _ k.result _ _ _ c.args.paper.good p.stands.0.below k.ensures.onto.stacked (omega (arith, k.ensures.onto.few)) lines (flow-fine _ _ _ _ _ _ (long (goal.at.returns c).Start) p.stands.0.known c.args.paper.good p.stands.0.below) (omega arith) (omega (arith, c.args.paper.good.good.most))) in record { result_after = both.0; good_group = both.1 }
 
 pub returns-then-region_rows-eq0 : goal.returns-then-region_rows-eq0
-returns-then-region_rows-eq0 c = let p = c.requires in let both = same-group _ _ _ _ c.no_group.ensures (no-rows-flow _ _ _ _ _ _ p.stands.0.below (sym c.region_rows.ensures ∙ c.if-region_rows-eq0.true)) (empty-good _ _ _ _ p.good_paper.good.most p.stands.1.1) in record { result_after = both.0; good_group = both.1 }
+returns-then-region_rows-eq0 c = let p = c.requires in let both = same-group _ _ _ _ c.no_group.ensures (no-rows-flow _ _ _ _ _ _ p.stands.0.below (sym c.region_rows.ensures ∙ c.if-region_rows-eq0.true)) (empty-good _ _ _ _ c.args.paper.good.good.most p.stands.1.1) in record { result_after = both.0; good_group = both.1 }

@@ -36,20 +36,20 @@ returns c =
     let n = entry index 0 in
     let modes = modes_at (components_from model index) location in
     let here = c.requires.in_bounds.1 in
-    let stands : Stands model index location modes = stands_at_lem model index location modes [] c.requires.good_paper.good here.below (sym (append-nil modes)) in
+    let stands : Stands model index location modes = stands_at_lem model index location modes [] c.args.paper.good.good here.below (sym (append-nil modes)) in
     let long : entry index 1 ≤ length modes = omega (arith, modes-length (components_from model index) location, components-length model index) in
     let told = c.modes_at-targets in
-    let there = stands_at_lem model index to told.result _ c.requires.good_paper.good c.requires.target_bound.0 told.ensures in
-    let wide : entry index 1 ≤ length told.result = omega (arith, c.requires.good_paper.good.few, told.type_inv) in
-    let broad : entry index 1 ≤ length switches = omega (arith, c.requires.good_paper.good.few, switches-length (goal.at.returns c).Start) in
+    let there = stands_at_lem model index to told.result _ c.args.paper.good.good c.requires.target_bound.0 told.ensures in
+    let wide : entry index 1 ≤ length told.result = omega (arith, c.args.paper.good.good.few, told.type_inv) in
+    let broad : entry index 1 ≤ length switches = omega (arith, c.args.paper.good.good.few, switches-length (goal.at.returns c).Start) in
     let k = c.jump_table-segments in
     let table = k.new.table in
     let lines : lines_in table k.result ≡ jump_lines model index regions location (per_component index modes) (per_component index told.result) switches =
     k.ensures.result_after ∙ ap (λ (ls : List TableLine). ls ++ landing_lines model index (per_component index told.result) switches) (here.told ∙ ap (here_lines index regions location) (sym stands.here)) in
-    let fine = jump-fine model index second regions modes location long stands.known c.requires.good_paper here.below told.result switches wide there.known broad c.requires.target_bound.1 in
-    let same : c.region_group.result ≡ region_group (entry index 11) regions to table k.result n (n + n) = c.region_group.ensures ∙ ap (λ (m : ℕ). region_group (entry index 11) regions to table k.result m (m + m)) c.from-n.ensures in record { result_after = ap (tasks_of model second n table) same ∙ jump-tasks model index second regions modes location long stands table k.result (n + n) to told.result switches wide there broad c.requires.target_bound.1 c.requires.good_paper.good lines; good_group = subst (λ (g : Group). GoodGroup model second n table g) (sym same) (region-good model index second regions table to k.result n (n + n) _ c.requires.good_paper c.requires.target_bound.0 k.ensures.onto.stacked (omega (arith, k.ensures.onto.few, here.few)) lines fine (omega arith) (omega (arith, c.requires.good_paper.good.most))); kept = k.ensures.onto.kept }
+    let fine = jump-fine model index second regions modes location long stands.known c.args.paper.good here.below told.result switches wide there.known broad c.requires.target_bound.1 in
+    let same : c.region_group.result ≡ region_group (entry index 11) regions to table k.result n (n + n) = c.region_group.ensures ∙ ap (λ (m : ℕ). region_group (entry index 11) regions to table k.result m (m + m)) c.from-n.ensures in record { result_after = ap (tasks_of model second n table) same ∙ jump-tasks model index second regions modes location long stands table k.result (n + n) to told.result switches wide there broad c.requires.target_bound.1 c.args.paper.good.good lines; good_group = subst (λ (g : Group). GoodGroup model second n table g) (sym same) (region-good model index second regions table to k.result n (n + n) _ c.args.paper.good c.requires.target_bound.0 k.ensures.onto.stacked (omega (arith, k.ensures.onto.few, here.few)) lines fine (omega arith) (omega (arith, c.args.paper.good.good.most))); kept = k.ensures.onto.kept }
 
 pub jump_table-segments-requires : goal.jump_table-segments-requires
 jump_table-segments-requires c =
     let told = c.modes_at-targets in
-    let there = stands_at_lem c.args.paper.model.now c.args.paper.index.now c.args.landing.target told.result _ c.requires.good_paper.good c.requires.target_bound.0 told.ensures in record { good_index = (c.requires.good_paper.good, (c.requires.good_paper.short, (there.known, c.requires.target_bound.1))); in_bounds = (c.requires.in_bounds.0, (c.requires.in_bounds.1.few, c.requires.in_bounds.1.stacked)) }
+    let there = stands_at_lem c.args.paper.model.now c.args.paper.index.now c.args.landing.target told.result _ c.args.paper.good.good c.requires.target_bound.0 told.ensures in record { good_index = (c.args.paper.good.good, (c.args.paper.good.short, (there.known, c.requires.target_bound.1))); in_bounds = (c.requires.in_bounds.0, (c.requires.in_bounds.1.few, c.requires.in_bounds.1.stacked)) }

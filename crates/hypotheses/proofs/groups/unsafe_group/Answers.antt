@@ -21,7 +21,7 @@ long : (s : Start) → entry s.args.paper.index.now 1 ≤ length s.args.modes
 unfolding entry
 long s =
     let four : ◌≡◌ {A = ℕ} (length s.args.modes) 4 = search rules in
-    omega (arith, s.requires.good_paper.good.few, four)
+    omega (arith, s.args.paper.good.good.few, four)
 
 pub returns : goal.returns
 unfolding entry unsafe_group
@@ -30,12 +30,12 @@ returns c =
     let k = c.unsafe_table-segments in
     let lines = lines_start (pushed (k.ensures.result_after, k.ensures.onto)) in
     let fits = c.modes_fit in
-    let fine = unsafe-fine c.args.paper.model.now c.args.paper.index.now c.args.paper.second.now c.args.paper.regions.now c.args.modes c.args.location (long (goal.at.returns c).Start) p.stands.0.known p.good_paper p.stands.0.below c.args.u p.stands.1.0 in
+    let fine = unsafe-fine c.args.paper.model.now c.args.paper.index.now c.args.paper.second.now c.args.paper.regions.now c.args.modes c.args.location (long (goal.at.returns c).Start) p.stands.0.known c.args.paper.good p.stands.0.below c.args.u p.stands.1.0 in
     record {
       result_after = rw (c.lines-hypotheses.ensures, c.version_of-version.ensures, c.from.ensures) (unsafe-tasks _ _ _ _ c.args.modes _ (long (goal.at.returns c).Start) p.stands.0 _ k.result _ c.args.u p.stands.1.0 lines (sym (test-passed fits.result (ap not c.if-not-modes_fit.false) fits.ensures)));
-      good_group = rw (c.lines-hypotheses.ensures, c.version_of-version.ensures, c.from.ensures) (unsafe-good _ c.args.paper.index.now _ _ k.result _ _ k.ensures.onto.stacked (omega (arith, k.ensures.onto.few)) lines fine (omega arith) (omega (arith, p.good_paper.good.most)));
+      good_group = rw (c.lines-hypotheses.ensures, c.version_of-version.ensures, c.from.ensures) (unsafe-good _ c.args.paper.index.now _ _ k.result _ _ k.ensures.onto.stacked (omega (arith, k.ensures.onto.few)) lines fine (omega arith) (omega (arith, c.args.paper.good.good.most)));
     }
 
 pub returns-then-not-modes_fit : goal.returns-then-not-modes_fit
 returns-then-not-modes_fit c =
-    let fits = c.modes_fit in let both = same-group _ _ _ _ c.no_group.ensures (unsafe-none _ _ _ _ c.args.modes _ (long (goal.at.returns-then-not-modes_fit c).Start) c.requires.stands.0 _ c.args.u c.requires.stands.1.0 (sym (test-failed fits.result (ap not c.if-not-modes_fit.true) fits.ensures))) (empty-good _ _ _ _ c.requires.good_paper.good.most c.requires.stands.1.1.1) in record { result_after = both.0; good_group = both.1 }
+    let fits = c.modes_fit in let both = same-group _ _ _ _ c.no_group.ensures (unsafe-none _ _ _ _ c.args.modes _ (long (goal.at.returns-then-not-modes_fit c).Start) c.requires.stands.0 _ c.args.u c.requires.stands.1.0 (sym (test-failed fits.result (ap not c.if-not-modes_fit.true) fits.ensures))) (empty-good _ _ _ _ c.args.paper.good.good.most c.requires.stands.1.1.1) in record { result_after = both.0; good_group = both.1 }

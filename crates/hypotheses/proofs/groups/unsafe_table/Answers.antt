@@ -18,4 +18,4 @@ unfolding unsafe_place
 push_kept-requires c =
     let k = c.push_here-here in
     let long : 1004 ≤ length c.args.paper.index.now = search rules in
-    let few = (c.requires.good_paper.good.unsafe c.args.u c.requires.u_bound.0).few in record { kept_in_bounds = (omega (arith, c.requires.u_bound.0, c.requires.good_paper.good.conditions, long), omega (arith, few)); in_bounds = (omega (arith, k.auto.table, c.requires.u_bound.1.0), (omega (arith, k.ensures.onto.few), k.ensures.onto.stacked)) }
+    let few = (c.args.paper.good.good.unsafe c.args.u c.requires.u_bound.0).few in record { kept_in_bounds = (omega (arith, c.requires.u_bound.0, c.args.paper.good.good.conditions, long), omega (arith, few)); in_bounds = (omega (arith, k.auto.table, c.requires.u_bound.1.0), (omega (arith, k.ensures.onto.few), k.ensures.onto.stacked)) }

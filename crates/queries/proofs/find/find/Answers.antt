@@ -13,13 +13,13 @@ use Rattle.queries.proofs.FindLaws.{sought-found, one-past, one-here, group-one}
 use Rattle.queries.proofs.find.find.Goals.{Else-locations-place}
 use Rattle.queries.proofs.find.find.Goals as goal
 
-pub find_location-place-requires-clause-locations_value : goal.find_location-place-requires-clause-locations_value
+pub find_location-place-requires : goal.find_location-place-requires
 unfolding entry
-find_location-place-requires-clause-locations_value c = c.requires.good_paper.counted.located
+find_location-place-requires c = record { locations_value = (c.args.paper.good.counted.located) }
 
-pub find_jump-found-requires-clause-locations_value : goal.find_jump-found-requires-clause-locations_value
+pub find_jump-found-requires : goal.find_jump-found-requires
 unfolding entry
-find_jump-found-requires-clause-locations_value c = (c.requires.good_paper.counted.located, c.requires.index_len_bound)
+find_jump-found-requires c = record { locations_value = ((c.args.paper.good.counted.located, c.requires.index_len_bound)) }
 
 pub returns-then-locations-place : goal.returns-then-locations-place
 unfolding entry
@@ -41,7 +41,7 @@ pub find_group-group-requires-clause-location_bound : goal.find_group-group-requ
 unfolding entry
 find_group-group-requires-clause-location_bound c =
     let p = c.requires in
-    let h = below c in omega (arith, h, p.good_paper.counted.located)
+    let h = below c in omega (arith, h, c.args.paper.good.counted.located)
 
 pub returns : goal.returns
 unfolding sought_in sought_one KnownSought entry
@@ -52,4 +52,4 @@ returns c =
     let h = below (goal.at.returns c).Else-locations-place in
     let k = group.ensures.at_bound in
     let there = one-here _ _ _ _ _ h (place.ensures.here h) place.ensures.leads in
-    let here = one-here _ _ [] _ _ k (group.ensures.leads_to_group.here k) group.ensures.leads_to_group.leads in record { result_value = sym (group-one _ _ _ _ _ (group.ensures.leads_to_group.here k)) ∙ here ∙ there; known_sought = (omega (arith, h, p.good_paper.counted.located), k) }
+    let here = one-here _ _ [] _ _ k (group.ensures.leads_to_group.here k) group.ensures.leads_to_group.leads in record { result_value = sym (group-one _ _ _ _ _ (group.ensures.leads_to_group.here k)) ∙ here ∙ there; known_sought = (omega (arith, h, c.args.paper.good.counted.located), k) }

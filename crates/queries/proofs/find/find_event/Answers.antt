@@ -11,10 +11,10 @@ use Rattle.queries.proofs.find.find_event.Goals as goal
 pub returns-then-paper-e-eq0 : goal.returns-then-paper-e-eq0
 unfolding entry
 returns-then-paper-e-eq0 c =
-    let nothing = event-none (countable (good-components c.requires.good_paper.good)) c.args.e c.args.location (sym (c.requires.good_paper.counted.events c.args.e (omega (arith, c.requires.stands.1.0))) ∙ c.if-paper-e-eq0.true) c.requires.stands.0.below in
+    let nothing = event-none (countable (good-components c.args.paper.good.good)) c.args.e c.args.location (sym (c.args.paper.good.counted.events c.args.e (omega (arith, c.requires.stands.1.0))) ∙ c.if-paper-e-eq0.true) c.requires.stands.0.below in
     none-there _ _ _ _ _ c.args.from.at c.args.from.left nothing
 
 pub find_switch-requires-clause-location_bound : goal.find_switch-requires-clause-location_bound
 find_switch-requires-clause-location_bound c =
     let p = c.requires in
-    let listed = c.list_slot-slot.ensures in (p.stands.0.below, listed-there p.good_paper.good p.stands.0 listed)
+    let listed = c.list_slot-slot.ensures in (p.stands.0.below, listed-there c.args.paper.good.good p.stands.0 listed)

@@ -18,9 +18,9 @@ loop-at-init c =
     let whole = location-groups c.args.paper.model.now c.args.paper.index.now (regions_of c.args.paper.model.now c.args.paper.index.now c.args.paper.second.now c.args.paper.regions.now) c.args.location (2 + entry c.args.paper.index.now 2) refl in
     (omega arith, (ap (λ (xs : List Obligation). one_at xs c.args.o) (append-nil _ ∙ sym whole), subst (λ (xs : List Obligation). c.args.o < length xs) whole c.requires.o_in_bounds))
 
-pub group_goals-goals-requires-clause-stands : goal.group_goals-goals-requires-clause-stands
+pub group_goals-goals-requires : goal.group_goals-goals-requires
 unfolding entry
-group_goals-goals-requires-clause-stands c = let p = c.requires in (stands_at_lem _ _ _ _ _ p.good_paper.good p.location_bound c.modes_at-modes.ensures, c.loop-at-test.true)
+group_goals-goals-requires c = record { stands = (let p = c.requires in (stands_at_lem _ _ _ _ _ c.args.paper.good.good p.location_bound c.modes_at-modes.ensures, c.loop-at-test.true)) }
 
 pub returns-then-left-goals : goal.returns-then-left-goals
 unfolding entry

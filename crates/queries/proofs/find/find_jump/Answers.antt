@@ -17,9 +17,8 @@ loop-location-init c =
     let region_at = regions_of a.paper.model.now a.paper.index.now a.paper.second.now a.paper.regions.now in
     (omega arith, subst (λ (xs : List JointSwitch). Passing m region_at (joints components) xs 0 a.o 0 a.o) (sym (joints-by-location components a.locations c.requires.locations_value.0)) (passing-starts m region_at (joints components) 0 a.o))
 
-pub find_leaving-requires-clause-location_bound : goal.find_leaving-requires-clause-location_bound
-find_leaving-requires-clause-location_bound c =
-    let h = c.loop-location-test.true in (omega (arith, h, c.requires.locations_value.0), few-here _ _ _ c.args.locations _ h c.loop-location.invariant.1 (omega (arith, c.requires.locations_value.1)))
+pub find_leaving-requires : goal.find_leaving-requires
+find_leaving-requires c = record { location_bound = (let h = c.loop-location-test.true in (omega (arith, h, c.requires.locations_value.0), few-here _ _ _ c.args.locations _ h c.loop-location.invariant.1 (omega (arith, c.requires.locations_value.1)))) }
 
 pub loop-location-preserved : goal.loop-location-preserved
 loop-location-preserved c =

@@ -4,10 +4,8 @@ use Rattle.papers.proofs.StandingLaws.{stands_at_lem}
 use Rattle.queries.proofs.FindLaws.{few-here, in-joint, in_rest, in-none}
 use Rattle.queries.proofs.find.find_leaving.Goals as goal
 
-pub find_event-requires-clause-stands : goal.find_event-requires-clause-stands
-find_event-requires-clause-stands c =
-    let modes = c.modes_at-modes in
-    let h = c.loop-e-test.true in (stands_at_lem c.args.paper.model.now c.args.paper.index.now c.args.location modes.result _ c.requires.good_paper.good c.requires.location_bound.0 modes.ensures, (omega (arith, h), few-here _ _ _ 16 _ h c.loop-e.invariant.1 c.requires.location_bound.1))
+pub find_event-requires : goal.find_event-requires
+find_event-requires c = record { stands = (let modes = c.modes_at-modes in let h = c.loop-e-test.true in (stands_at_lem c.args.paper.model.now c.args.paper.index.now c.args.location modes.result _ c.args.paper.good.good c.requires.location_bound.0 modes.ensures, (omega (arith, h), few-here _ _ _ 16 _ h c.loop-e.invariant.1 c.requires.location_bound.1))) }
 
 pub loop-e-preserved : goal.loop-e-preserved
 loop-e-preserved c =

@@ -32,10 +32,10 @@ module _ (s : Start) where
   size = event_size model index s.args.location s.args.slot.e
 
   stands : Stands model index s.args.location (modes_at (components_from model index) s.args.location)
-  stands = stands-there s.requires.good_paper.good s.args.location s.requires.location_bound.0
+  stands = stands-there s.args.paper.good.good s.args.location s.requires.location_bound.0
 
   counted : s.args.slot.count ≡ size
-  counted = landed-count s.requires.good_paper.good stands s.requires.e_bound.0 s.requires.location_bound.1
+  counted = landed-count s.args.paper.good.good stands s.requires.e_bound.0 s.requires.location_bound.1
 
 -- the one that a turn looks at
 module _ (c : After-landing_at-landing) where
@@ -46,11 +46,11 @@ module _ (c : After-landing_at-landing) where
   here = omega (arith, c.loop-at-test.true, counted (goal.at.After-landing_at-landing c).Start)
 
   below : c.landing_at-landing.result.target < location_count (components_from (model (goal.at.After-landing_at-landing c).Start) (index (goal.at.After-landing_at-landing c).Start))
-  below = landed-below c.requires.good_paper.good (stands (goal.at.After-landing_at-landing c).Start) c.requires.e_bound.0 c.requires.location_bound.1 at here c.landing_at-landing.ensures
+  below = landed-below c.args.paper.good.good (stands (goal.at.After-landing_at-landing c).Start) c.requires.e_bound.0 c.requires.location_bound.1 at here c.landing_at-landing.ensures
 
   leads : c.landing_at-landing.result.target ≡ (joint_here (model (goal.at.After-landing_at-landing c).Start) (index (goal.at.After-landing_at-landing c).Start) c.args.location c.args.slot.e at).target
   unfolding joint_here joint_from
-  leads = landed-target c.requires.good_paper.good (stands (goal.at.After-landing_at-landing c).Start) c.requires.e_bound.0 c.requires.location_bound.1 at here c.landing_at-landing.ensures
+  leads = landed-target c.args.paper.good.good (stands (goal.at.After-landing_at-landing c).Start) c.requires.e_bound.0 c.requires.location_bound.1 at here c.landing_at-landing.ensures
 
 -- how many obligations it has
 goals : (c : After-region_rows-goals) → c.region_rows-goals.result ≡ length (region_at (goal.at.After-region_rows-goals c).Start (joint_here (model (goal.at.After-region_rows-goals c).Start) (index (goal.at.After-region_rows-goals c).Start) c.args.location c.args.slot.e (at (goal.at.After-region_rows-goals c).After-landing_at-landing)).target)
@@ -63,8 +63,8 @@ loop-at-init c =
     let s = (goal.at.loop-at-init c).Start in
     (omega arith, each-starts (model s) (index s) (region_at s) c.args.location c.args.slot.e c.args.from.at c.args.from.left)
 
-pub region_rows-goals-requires-clause-location_bound : goal.region_rows-goals-requires-clause-location_bound
-region_rows-goals-requires-clause-location_bound c = below c
+pub region_rows-goals-requires : goal.region_rows-goals-requires
+region_rows-goals-requires c = record { location_bound = (below c) }
 
 pub returns-then-left-goals : goal.returns-then-left-goals
 returns-then-left-goals c =

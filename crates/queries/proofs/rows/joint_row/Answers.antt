@@ -11,7 +11,7 @@ joint_table-segments-requires-clause-in_bounds c = (search rules, empty-stacked 
 
 pub row_in-requires-clause-n_bound : goal.row_in-requires-clause-n_bound
 unfolding entry
-row_in-requires-clause-n_bound c = c.requires.good_paper.good.most
+row_in-requires-clause-n_bound c = c.args.paper.good.good.most
 
 pub returns : goal.returns
 unfolding entry

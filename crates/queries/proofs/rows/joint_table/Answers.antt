@@ -26,7 +26,7 @@ use Rattle.queries.proofs.rows.joint_table.Goals as goal
 stands : (c : After-modes_at-modes) → Stands c.args.paper.model.now c.args.paper.index.now c.args.location c.modes_at-modes.result
 stands c =
     let p = c.requires in
-    stands_at_lem _ _ _ _ _ p.good_paper.good p.location_bound.0 c.modes_at-modes.ensures
+    stands_at_lem _ _ _ _ _ c.args.paper.good.good p.location_bound.0 c.modes_at-modes.ensures
 
 -- where it lands, as the table tells it
 module _ (c : After-landing_at-landing) where
@@ -46,10 +46,10 @@ module _ (c : After-landing_at-landing) where
   listed = c.list_slot-slot.ensures
 
   below : lands.target < location_count (components_from model index)
-  below = landed-below c.requires.good_paper.good here c.requires.location_bound.1.0 listed c.args.x c.requires.location_bound.1.1 c.landing_at-landing.ensures
+  below = landed-below c.args.paper.good.good here c.requires.location_bound.1.0 listed c.args.x c.requires.location_bound.1.1 c.landing_at-landing.ensures
 
   known : KnownSwitches index lands.switches
-  known = landed-known c.requires.good_paper.good here c.requires.location_bound.1.0 listed c.args.x c.requires.location_bound.1.1 c.landing_at-landing.ensures
+  known = landed-known c.args.paper.good.good here c.requires.location_bound.1.0 listed c.args.x c.requires.location_bound.1.1 c.landing_at-landing.ensures
 
   switches-length : length lands.switches ≡ 4
   switches-length = search rules
@@ -58,13 +58,13 @@ module _ (c : After-landing_at-landing) where
   unfolding joint_here joint_from
   same =
       ap₂ {C = JointSwitch} (λ (t : ℕ) (ws : List ℕ). record { source = c.args.location; event = c.args.e; switches = ws; target = t })
-      (landed-target c.requires.good_paper.good here c.requires.location_bound.1.0 listed c.args.x c.requires.location_bound.1.1 c.landing_at-landing.ensures)
-      (landed-first c.requires.good_paper.good here c.requires.location_bound.1.0 listed c.args.x c.requires.location_bound.1.1 c.landing_at-landing.ensures)
+      (landed-target c.args.paper.good.good here c.requires.location_bound.1.0 listed c.args.x c.requires.location_bound.1.1 c.landing_at-landing.ensures)
+      (landed-first c.args.paper.good.good here c.requires.location_bound.1.0 listed c.args.x c.requires.location_bound.1.1 c.landing_at-landing.ensures)
 
 there : (c : After-modes_at-targets) → Stands (model (goal.at.After-modes_at-targets c).After-landing_at-landing) (index (goal.at.After-modes_at-targets c).After-landing_at-landing) (lands (goal.at.After-modes_at-targets c).After-landing_at-landing).target c.modes_at-targets.result
 there c =
     let s = (goal.at.After-modes_at-targets c).After-landing_at-landing in
-    stands_at_lem _ _ _ _ _ c.requires.good_paper.good (below s) c.modes_at-targets.ensures
+    stands_at_lem _ _ _ _ _ c.args.paper.good.good (below s) c.modes_at-targets.ensures
 
 pub list_slot-slot-requires-clause-location_bound : goal.list_slot-slot-requires-clause-location_bound
 list_slot-slot-requires-clause-location_bound c = let p = c.requires in (p.location_bound.0, (stands (goal.at.list_slot-slot-requires-clause-location_bound c).After-modes_at-modes).here)
@@ -73,7 +73,7 @@ pub landing_at-landing-requires : goal.landing_at-landing-requires
 landing_at-landing-requires c =
     let p = c.requires in
     let listed = c.list_slot-slot.ensures in
-    (listed.ready, omega (arith, p.location_bound.1.1, landed-count p.good_paper.good (stands (goal.at.landing_at-landing-requires c).After-modes_at-modes) p.location_bound.1.0 listed))
+    (listed.ready, omega (arith, p.location_bound.1.1, landed-count c.args.paper.good.good (stands (goal.at.landing_at-landing-requires c).After-modes_at-modes) p.location_bound.1.0 listed))
 
 pub modes_at-targets-requires-clause-location_bound : goal.modes_at-targets-requires-clause-location_bound
 modes_at-targets-requires-clause-location_bound c = below (goal.at.modes_at-targets-requires-clause-location_bound c).After-landing_at-landing
@@ -83,14 +83,14 @@ push_here-here-requires-clause-location_bound c = let p = c.requires in (p.locat
 
 pub jump_table-requires-clause-good_index : goal.jump_table-requires-clause-good_index
 jump_table-requires-clause-good_index c =
-    (c.requires.good_paper.good, (c.requires.good_paper.short, ((there (goal.at.jump_table-requires-clause-good_index c).After-modes_at-targets).known, known (goal.at.jump_table-requires-clause-good_index c).After-landing_at-landing)))
+    (c.args.paper.good.good, (c.args.paper.good.short, ((there (goal.at.jump_table-requires-clause-good_index c).After-modes_at-targets).known, known (goal.at.jump_table-requires-clause-good_index c).After-landing_at-landing)))
 
 pub returns-clause-joint_held : goal.returns-clause-joint_held
 unfolding entry jump_lines
 returns-clause-joint_held c =
     let s = (goal.at.returns-clause-joint_held c).After-landing_at-landing in
     let a = c.args in
-    let good = c.requires.good_paper.good in
+    let good = c.args.paper.good.good in
     let modes = c.modes_at-modes in
     let targets = c.modes_at-targets in
     let pushed-here = c.push_here-here in

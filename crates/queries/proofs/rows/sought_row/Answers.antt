@@ -30,13 +30,13 @@ module _ (s : Start) where
   known : {x : Sought} → s.args.sought ≡ x → KnownSought s.args.paper.model.now s.args.paper.index.now x
   known e = subst (KnownSought s.args.paper.model.now s.args.paper.index.now) e s.requires.known_sought
 
-pub location_row-requires-clause-location_bound : goal.location_row-requires-clause-location_bound
+pub location_row-requires : goal.location_row-requires
 unfolding KnownSought
-location_row-requires-clause-location_bound c = known (goal.at.location_row-requires-clause-location_bound c).Start c.in-AtLocation.is
+location_row-requires c = record { location_bound = (known (goal.at.location_row-requires c).Start c.in-AtLocation.is) }
 
-pub joint_row-requires-clause-location_bound : goal.joint_row-requires-clause-location_bound
+pub joint_row-requires : goal.joint_row-requires
 unfolding KnownSought
-joint_row-requires-clause-location_bound c = (known (goal.at.joint_row-requires-clause-location_bound c).Start c.in-AtJoint.is).0
+joint_row-requires c = record { location_bound = ((known (goal.at.joint_row-requires c).Start c.in-AtJoint.is).0) }
 
 pub returns-in-AtLocation : goal.returns-in-AtLocation
 unfolding located_of sought_one group_one roles_of

@@ -17,7 +17,7 @@ long : (s : Start) → entry s.args.paper.index.now 1 ≤ length s.args.modes
 unfolding entry
 long s =
     let four : ◌≡◌ {A = ℕ} (length s.args.modes) 4 = search rules in
-    omega (arith, s.requires.good_paper.good.few, four)
+    omega (arith, s.args.paper.good.good.few, four)
 
 -- the table of a group, by another name of its number
 held : (s : Start) {g count : ℕ} {table : List ℕ} → g ≡ s.args.g → GroupHeld s.args.paper.model.now s.args.paper.index.now s.args.paper.second.now s.args.paper.regions.now s.args.location g table count → GroupHeld s.args.paper.model.now s.args.paper.index.now s.args.paper.second.now s.args.paper.regions.now s.args.location s.args.g table count
@@ -35,7 +35,7 @@ unfolding entry
 returns-in-1-clause-group_held c =
     let s = (goal.at.returns-in-1-clause-group_held c).Start in
     let made = c.flow_table.ensures in
-    held s (sym c.in-1.is) (flow-held _ _ _ _ _ _ (long s) c.requires.stands.0 _ _ c.requires.good_paper.good (lines_start (pushed (made.result_after, made.onto))))
+    held s (sym c.in-1.is) (flow-held _ _ _ _ _ _ (long s) c.requires.stands.0 _ _ c.args.paper.good.good (lines_start (pushed (made.result_after, made.onto))))
 
 pub returns-in_default-clause-group_held : goal.returns-in_default-clause-group_held
 unfolding entry

@@ -38,8 +38,7 @@ returns-in_err-open_regions-clause-row_value c = row-tells _ _ _ _ _ (stopped c)
 
 pub find-requires : goal.find-requires
 find-requires c =
-    let w = opened (goal.at.find-requires c).In_ok-open_regions in
-    record { good_paper = w.good; index_len_bound = w.joined }
+    record { index_len_bound = (opened (goal.at.find-requires c).In_ok-open_regions).joined }
 
 pub returns-in_err-sought-clause-value : goal.returns-in_err-sought-clause-value
 returns-in_err-sought-clause-value c = none c
@@ -47,8 +46,8 @@ returns-in_err-sought-clause-value c = none c
 pub returns-in_err-sought-clause-row_value : goal.returns-in_err-sought-clause-row_value
 returns-in_err-sought-clause-row_value c = row-tells _ _ _ _ _ (none c)
 
-pub sought_row-requires-clause-good_paper : goal.sought_row-requires-clause-good_paper
-sought_row-requires-clause-good_paper c = (opened (goal.at.sought_row-requires-clause-good_paper c).In_ok-open_regions).good
+pub invariant_of-paper : goal.invariant_of-paper
+invariant_of-paper c = record { good = (opened (goal.at.invariant_of-paper c).In_ok-open_regions).good }
 
 pub returns-clause-value : goal.returns-clause-value
 returns-clause-value c = found c

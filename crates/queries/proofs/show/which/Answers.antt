@@ -10,10 +10,10 @@ opened : (c : In_default) → OpenFor c.args.limits c.args.model.now c.open_regi
 opened c = is_open _ _ _ _ _ 0 0 c.in_default.is c.open_regions.ensures
 
 pub find-requires : goal.find-requires
-find-requires c = let w = opened (goal.at.find-requires c).In_default in record { good_paper = w.good; index_len_bound = w.joined }
+find-requires c = record { index_len_bound = (opened (goal.at.find-requires c).In_default).joined }
 
-pub sought_which-requires : goal.sought_which-requires
-sought_which-requires c = (opened (goal.at.sought_which-requires c).In_default).good
+pub invariant_of-paper : goal.invariant_of-paper
+invariant_of-paper c = record { good = (opened (goal.at.invariant_of-paper c).In_default).good }
 
 pub returns-in-Err : goal.returns-in-Err
 returns-in-Err c = c.no_which.ensures ∙ which-stopped _ _ _ _ _ _ 0 c.in-Err.is c.open_regions.ensures

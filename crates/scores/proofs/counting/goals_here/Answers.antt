@@ -19,10 +19,10 @@ sum c =
     location-sum a.paper.model.now a.paper.index.now a.paper.second.now a.paper.regions.now a.location a.modes c.requires.stands.here _ _ _ c.all_start.ensures c.from-starts.ensures c.region_rows-rows.ensures c.fitting_count-fitting.ensures
 
 pub overflow_add-result : goal.overflow_add-result
-overflow_add-result c = omega (arith, sum c, location-few c.requires.good_paper c.args.location)
+overflow_add-result c = omega (arith, sum c, location-few c.args.paper.good c.args.location)
 
 pub overflow_add-result-2 : goal.overflow_add-result-2
-overflow_add-result-2 c = omega (arith, sum c, location-few c.requires.good_paper c.args.location)
+overflow_add-result-2 c = omega (arith, sum c, location-few c.args.paper.good c.args.location)
 
 pub returns : goal.returns
 returns c = sum c

@@ -12,7 +12,7 @@ use Rattle.scores.proofs.counting.goals_into.Goals as goal
 pub overflow_mul-result : goal.overflow_mul-result
 overflow_mul-result c =
     let a = c.args in
-    let g = c.requires.good_paper in
+    let g = c.args.paper.good in
     let four : length a.modes ≡ 4 = search rules in
     let long : entry a.paper.index.now 1 ≤ length a.modes = omega (arith, g.good.few, four) in
     let rows : c.region_rows-rows.result ≤ 16 = omega (arith, c.region_rows-rows.ensures, region-few a.paper.model.now a.paper.index.now a.paper.second.now a.paper.regions.now g a.location) in
