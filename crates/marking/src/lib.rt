@@ -10,6 +10,7 @@ use rules::Answer;
 use std::fmt;
 
 pub mod program;
+pub mod text;
 
 // The line that the program prints: document 01, "What is handed back". A refusal is told by all its numbers.
 #[derive(Clone, Copy)]
