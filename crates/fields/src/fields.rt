@@ -47,7 +47,7 @@ pub fn word(s: &[u8], at: usize) -> Read<u32>
 }
 
 // A field, read at this place, whose value must lie in a range.
-fn in_range(read: Read<u32>, at: usize, least: u32, most: u32) -> Read<u32>
+pub fn in_range(read: Read<u32>, at: usize, least: u32, most: u32) -> Read<u32>
     ensures { got_field result ≡ passing (λ v. leb least v && leb v most) 5 at (got_field read) }
 {
     let (value, next) = read?;
@@ -81,16 +81,23 @@ pub fn half_within(s: &[u8], at: usize, least: u32, most: u32) -> Read<u32>
     in_range(half(s, at), at, least, most)
 }
 
-// A byte below a count.
-pub fn byte_below(s: &[u8], at: usize, count: u32) -> Read<u32>
-    ensures { got_field result ≡ below count u8 s.now at }
+// A field, read at this place, whose value must be below a count.
+pub fn under(read: Read<u32>, at: usize, count: u32) -> Read<u32>
+    ensures { got_field result ≡ passing (λ v. ltb v count) 5 at (got_field read) }
 {
-    let (value, next) = byte(s, at)?;
+    let (value, next) = read?;
     if value < count {
         Ok((value, next))
     } else {
         Err(Refusal(Cause::Range, at))
     }
+}
+
+// A byte below a count.
+pub fn byte_below(s: &[u8], at: usize, count: u32) -> Read<u32>
+    ensures { got_field result ≡ below count u8 s.now at }
+{
+    under(byte(s, at), at, count)
 }
 
 // A byte below a count, or 255.

@@ -1,27 +1,11 @@
--- The refusal of the byte itself, then its value below the count or not. Assumes nothing.
-use Rattle.std.proofs.Common.{rules, ◌≡◌, Err, sym, ap, ◌∙◌}
+-- The byte, then the test. Assumes nothing.
+use mathlib.Core.Path.{ap, ◌∙◌}
 use lib.Dec.{ltb}
 use Rattle.formats.specs.Reading.{passing, must, below}
-use Rattle.fields.specs.Answers.{got_field}
-use Rattle.fields.proofs.AnswerLaws.{field-value, field-refused}
-use Rattle.formats.proofs.FieldLaws.{below_in, below_out}
 use Rattle.fields.proofs.fields.byte_below.Goals as goal
 
-pub returns-in_err-value : goal.returns-in_err-value
-unfolding below must passing
-returns-in_err-value c =
+pub returns : goal.returns
+unfolding below must
+returns c =
     let a = c.args in
-    let same : c.from_residual.result ≡ Err c.in_err-value.field-0.0 = search rules in
-    field-refused same ∙ sym (ap (passing (λ v. ltb v a.count) 5 a.at) (sym c.byte.ensures ∙ field-refused c.in_err-value.was))
-
-pub returns-then-value-count : goal.returns-then-value-count
-unfolding below must got_field
-returns-then-value-count c =
-    let a = c.args in
-    sym (ap (passing (λ v. ltb v a.count) 5 a.at) (sym c.byte.ensures ∙ field-value c.in_ok-value.was) ∙ below_in a.count c.in_ok-value.value a.at c.in_ok-value.next c.if-value-count.true)
-
-pub returns-else-value-count : goal.returns-else-value-count
-unfolding below must got_field
-returns-else-value-count c =
-    let a = c.args in
-    sym (ap (passing (λ v. ltb v a.count) 5 a.at) (sym c.byte.ensures ∙ field-value c.in_ok-value.was) ∙ below_out a.count c.in_ok-value.value a.at c.in_ok-value.next c.if-value-count.false)
+    c.under.ensures ∙ ap (λ g. passing (λ v. ltb v a.count) 5 a.at g) c.byte.ensures
