@@ -13,7 +13,9 @@ ghost use Rattle.papers.specs.Papers.{GoodPaper};
 use models::layout::Index;
 use second_sheets::ranges::Regions;
 
-// A certificate's paper once its sheets are read: the model and its index, the second sheet and its regions, which belong together.
+// A certificate's paper once its sheets are read: the model and its index, the second sheet and its regions. The index is one of the
+// model and has its counts, each region has at most 16 rows, which lie within the second sheet, neither sheet has over 32,768 bytes, and the
+// model has at most 64 locations.
 #[derive(Clone, Copy)]
 pub struct Paper<'a> {
     pub model: &'a [u8],
