@@ -15,7 +15,7 @@ use inputs::read_full;
 use rules::Answer;
 use std::io;
 use typed::row::read_row;
-use typed::{TypedRow, Unread};
+use typed::{NO_ROW, TypedRow, Unread};
 
 // Writes the coefficients and the bound of a row.
 fn write_numbers(rt: &impl Print, row: TypedRow) -> io::Result<()> {
@@ -34,12 +34,7 @@ fn write_row(rt: &impl Print, read: Result<TypedRow, Unread>) -> io::Result<()> 
         }
         Err(unread) => {
             print!(rt; "{} {}", unread.number(), unread.place())?;
-            let coefficients = [0; 8];
-            let none = TypedRow {
-                coefficients,
-                bound: 0,
-            };
-            write_numbers(rt, none)?;
+            write_numbers(rt, NO_ROW)?;
         }
     }
     rt.write_all(b"\n")

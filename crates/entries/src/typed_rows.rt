@@ -5,6 +5,7 @@ ghost use Rattle.entries.specs.ReadRow.{read_row};
 
 use crate::ReadRow;
 use rules::Answer;
+use typed::NO_ROW;
 use typed::row::read_row;
 
 // The answer to a typed row: sheet 2, with nothing done.
@@ -35,10 +36,13 @@ pub extern "C" fn silfoddra_read_row(text: &[u8], variables: u32) -> ReadRow
                 bound: row.bound,
             }
         }
-        Err(unread) => ReadRow {
-            answer: answered(unread.number(), unread.place() as u32),
-            coefficients: [0; 8],
-            bound: 0,
-        },
+        Err(unread) => {
+            let coefficients = NO_ROW.coefficients;
+            ReadRow {
+                answer: answered(unread.number(), unread.place() as u32),
+                coefficients,
+                bound: NO_ROW.bound,
+            }
+        }
     }
 }

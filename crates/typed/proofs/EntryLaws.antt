@@ -5,10 +5,11 @@ use Prim.Native.Nat.{◌^◌, ◌≤◌, ◌<◌}
 use native.Mathlib.Omega.{arith}
 use lib.Dec.{leb}
 use lib.IntN.{ℤ, pos, negsuc, nat_abs}
+use lib.Signed.{lt_z}
 use mir.Syntax.{w32, w64}
 use mir.Val.{SFits, to_z, of_z}
 use mir.Facts.{to_z-of_z}
-use borrow.Author.Tests.{le-leb, leb-true}
+use borrow.Author.Tests.{ltb-false, le-leb, leb-true}
 use Rattle.farkas.proofs.Bits.{read_back}
 use Rattle.std.specs.Prelude.{Some, None, Result, Ok, Err, OkIff}
 use Rattle.std.specs.Result.{result_ok}
@@ -41,6 +42,15 @@ fits-s32 : (z : ℤ) → SFits w32 z → s32 z ≡ true
 unfolding s32
 fits-s32 (pos n) f = let h : n < 2 ^ 31 = f.sfits in le-leb n 2147483647 (omega arith)
 fits-s32 (negsuc n) f = let h : n < 2 ^ 31 = f.sfits in ap (λ b. b && true) (le-leb n 2147483647 (omega arith))
+
+-- the test for s32, as two tests of order
+pub narrows : (z : ℤ) → lt_z z (negsuc 2147483647) ≡ false → lt_z (pos 2147483647) z ≡ false → SFits w32 z
+narrows (pos n) e f = record { sfits = let h = ltb-false 2147483647 n f in let k : n < 2 ^ 31 = omega arith in k }
+narrows (negsuc n) e f = record { sfits = let h = ltb-false 2147483647 n e in let k : n < 2 ^ 31 = omega arith in k }
+
+pub within : (z : ℤ) → lt_z z (negsuc 2147483647) ≡ false → lt_z (pos 2147483647) z ≡ false → entry_of z ≡ Some z
+unfolding entry_of
+within z e f = ap (λ b. cond b (Some z) None) (fits-s32 z (narrows z e f))
 
 -- the number as it is converted
 pub narrowed : {E : Type 0} (r : Result ℤ E) (z : ℤ) → OkIff r (SFits w32 z) z → result_ok r ≡ entry_of z

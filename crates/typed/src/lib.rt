@@ -23,6 +23,12 @@ pub struct TypedRow {
     pub bound: i32,
 }
 
+// What a refused text has for its row: zeros.
+pub const NO_ROW: TypedRow = TypedRow {
+    coefficients: [0; 8],
+    bound: 0,
+};
+
 // Why a text is no row.
 #[derive(Clone, Copy)]
 pub enum Unread {

@@ -85,8 +85,8 @@ pub fn number(text: &[u8], place: usize) -> Result<Worked, Fault>
 }
 
 // The end of a bracket after its expression.
-pub fn close_bracket(text: &[u8], inner: Worked) -> Result<Worked, Fault>
-    ensures { result ≡ closed_at text.now (Ok inner) }
+pub fn close_bracket(text: &[u8], inner: &Worked) -> Result<Worked, Fault>
+    ensures { result ≡ closed_at text.now (Ok inner.now) }
 {
     let place = skip(text, inner.next);
     let Sign::Close = sign_at(text, place) else {
@@ -94,6 +94,6 @@ pub fn close_bracket(text: &[u8], inner: Worked) -> Result<Worked, Fault>
     };
     Ok(Worked {
         next: place + 1,
-        ..inner
+        form: inner.form,
     })
 }

@@ -18,20 +18,25 @@ struct Source<'a> {
 
 impl Source<'_> {
     // An expression from a place on: a term, and what is added to it or taken from it. `term` has its shape one level below, but other signs
-    // and another definition: one function for both would ask at each turn which of the two it is.
+    // and another definition: one function for both would ask at each turn which of the two it is. What was read is handed on by reference, and
+    // this reader is a part of those that call it: by `?` and by value a form is copied at each level, and brackets took half as long again.
     #[cycle(readers)]
+    #[inline(always)]
     fn expression(&self, at: usize) -> Result<Worked, Fault>
         ensures { ReadsExpression self.now.n self.now.text.now at result }
     {
-        let left = self.term(at)?;
-        self.sums(left)
+        let left = self.term(at);
+        match &left {
+            Ok(read) => self.sums(read),
+            Err(fault) => Err(*fault),
+        }
     }
 
     // What is added to an expression that was read so far, or taken from it.
     #[cycle(readers)]
-    fn sums(&self, left: Worked) -> Result<Worked, Fault>
-        requires { left.next ≤ length self.now.text.now }
-        ensures { ReadsSums self.now.n self.now.text.now left result }
+    fn sums(&self, left: &Worked) -> Result<Worked, Fault>
+        requires { left.now.next ≤ length self.now.text.now }
+        ensures { ReadsSums self.now.n self.now.text.now left.now result }
     {
         let place = skip(self.text, left.next);
         let sign = sign_at(self.text, place);
@@ -39,9 +44,9 @@ impl Source<'_> {
             Sign::Plus | Sign::Minus => {
                 let right = self.term(place + 1)?;
                 let both = join(place, left.form, sense(sign), right)?;
-                self.sums(both)
+                self.sums(&both)
             }
-            _ => Ok(left),
+            _ => Ok(*left),
         }
     }
 
@@ -50,23 +55,26 @@ impl Source<'_> {
     fn term(&self, at: usize) -> Result<Worked, Fault>
         ensures { ReadsTerm self.now.n self.now.text.now at result }
     {
-        let left = self.factor(at)?;
-        self.products(left)
+        let left = self.factor(at);
+        match &left {
+            Ok(read) => self.products(read),
+            Err(fault) => Err(*fault),
+        }
     }
 
     // What a term that was read so far is multiplied with.
     #[cycle(readers)]
-    fn products(&self, left: Worked) -> Result<Worked, Fault>
-        requires { left.next ≤ length self.now.text.now }
-        ensures { ReadsProducts self.now.n self.now.text.now left result }
+    fn products(&self, left: &Worked) -> Result<Worked, Fault>
+        requires { left.now.next ≤ length self.now.text.now }
+        ensures { ReadsProducts self.now.n self.now.text.now left.now result }
     {
         let place = skip(self.text, left.next);
         let Sign::Times = sign_at(self.text, place) else {
-            return Ok(left);
+            return Ok(*left);
         };
         let right = self.factor(place + 1)?;
         let both = multiply(place, left.form, right)?;
-        self.products(both)
+        self.products(&both)
     }
 
     // A factor from a place on: a number, a letter, a bracket, or a minus and a factor.
@@ -80,8 +88,11 @@ impl Source<'_> {
             Sign::Digit(_) => number(self.text, place),
             Sign::Letter(letter) => variable(self.n, place, letter),
             Sign::Open => {
-                let inner = self.expression(place + 1)?;
-                close_bracket(self.text, inner)
+                let inner = self.expression(place + 1);
+                match &inner {
+                    Ok(read) => close_bracket(self.text, read),
+                    Err(fault) => Err(*fault),
+                }
             }
             Sign::Minus => {
                 let right = self.factor(place + 1)?;

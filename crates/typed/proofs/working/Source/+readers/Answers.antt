@@ -84,51 +84,63 @@ module _ (n : ℕ) (text : List ℕ) (left : Worked) (place : ℕ) (s : Sign) (f
 sense-joined : (p : ℕ) (a : Form) (s : Sign) (m : ℤ) (w : Worked) {r v : Reading} → v ≡ Ok w → r ≡ joined p a (to_z w32 (of_z w32 m)) (Ok w) → SFits w32 m → m ≡ sense_of s → joined p a (sense_of s) v ≡ r
 sense-joined p a s m w i e f g = ap (joined p a (sense_of s)) i ∙ sym (e ∙ ap (λ z. joined p a z (Ok w)) (to_z-of_z {w = w32} f ∙ g))
 
-pub expression-returns-in_err-left : goal.expression-returns-in_err-left
+pub expression-sums-requires : goal.expression-sums-requires
+expression-sums-requires t c =
+    let l = c.in-Ok.read in
+    let b = c.term-left.ensures.place l.next l.form c.in-Ok.is in
+    (omega arith, b.1)
+
+pub term-products-requires : goal.term-products-requires
+term-products-requires t c =
+    let l = c.in-Ok.read in
+    let b = c.factor-left.ensures.place l.next l.form c.in-Ok.is in
+    (omega arith, b.1)
+
+pub expression-returns-in-Err : goal.expression-returns-in-Err
 unfolding expression_at
-expression-returns-in_err-left t c =
+expression-returns-in-Err t c =
     let a = c.args in
-    let p = c.in_err-left.field-0.0.place in
-    let is : c.from_residual.result ≡ refused p = grind arith in
+    let p = c.in-Err.fault.place in
+    let is : c.term-left.result ≡ refused p = c.in-Err.is in
     follow.operand-refused (length a.self.now.text.now) a.at (3 * (length a.self.now.text.now - a.at) + 2) (3 * (length a.self.now.text.now - a.at) + 3) p
     (λ k. term_at k a.self.now.n a.self.now.text.now a.at)
     (λ k w. sums_at k a.self.now.n a.self.now.text.now w)
     (λ k. expression_at k a.self.now.n a.self.now.text.now a.at)
-    (λ j. refl) (λ j. sums-fault a.self.now.n a.self.now.text.now j p (refused p) refl) (omega arith) c.term.ensures c.in_err-left.was is
+    (λ j. refl) (λ j. sums-fault a.self.now.n a.self.now.text.now j p (refused p) refl) (omega arith) c.term-left.ensures is refl
 
-pub expression-returns : goal.expression-returns
+pub expression-returns-in-Ok : goal.expression-returns-in-Ok
 unfolding expression_at
-expression-returns t c =
+expression-returns-in-Ok t c =
     let a = c.args in
-    let l = c.in_ok-left.left in
+    let l = c.in-Ok.read in
     follow.operand (length a.self.now.text.now) a.at (3 * (length a.self.now.text.now - a.at) + 2) (3 * (length a.self.now.text.now - a.at) + 3) l.next l.form
     (λ k. term_at k a.self.now.n a.self.now.text.now a.at)
     (λ k w. sums_at k a.self.now.n a.self.now.text.now w)
     (λ k. expression_at k a.self.now.n a.self.now.text.now a.at)
-    (λ j. refl) (omega arith) (omega arith) c.term.ensures c.in_ok-left.was c.sums.ensures
+    (λ j. refl) (omega arith) (omega arith) c.term-left.ensures c.in-Ok.is c.sums.ensures
 
-pub term-returns-in_err-left : goal.term-returns-in_err-left
+pub term-returns-in-Err : goal.term-returns-in-Err
 unfolding term_at
-term-returns-in_err-left t c =
+term-returns-in-Err t c =
     let a = c.args in
-    let p = c.in_err-left.field-0.0.place in
-    let is : c.from_residual.result ≡ refused p = grind arith in
+    let p = c.in-Err.fault.place in
+    let is : c.factor-left.result ≡ refused p = c.in-Err.is in
     follow.operand-refused (length a.self.now.text.now) a.at (3 * (length a.self.now.text.now - a.at) + 1) (3 * (length a.self.now.text.now - a.at) + 2) p
     (λ k. factor_at k a.self.now.n a.self.now.text.now a.at)
     (λ k w. products_at k a.self.now.n a.self.now.text.now w)
     (λ k. term_at k a.self.now.n a.self.now.text.now a.at)
-    (λ j. refl) (λ j. products-fault a.self.now.n a.self.now.text.now j p (refused p) refl) (omega arith) c.factor.ensures c.in_err-left.was is
+    (λ j. refl) (λ j. products-fault a.self.now.n a.self.now.text.now j p (refused p) refl) (omega arith) c.factor-left.ensures is refl
 
-pub term-returns : goal.term-returns
+pub term-returns-in-Ok : goal.term-returns-in-Ok
 unfolding term_at
-term-returns t c =
+term-returns-in-Ok t c =
     let a = c.args in
-    let l = c.in_ok-left.left in
+    let l = c.in-Ok.read in
     follow.operand (length a.self.now.text.now) a.at (3 * (length a.self.now.text.now - a.at) + 1) (3 * (length a.self.now.text.now - a.at) + 2) l.next l.form
     (λ k. factor_at k a.self.now.n a.self.now.text.now a.at)
     (λ k w. products_at k a.self.now.n a.self.now.text.now w)
     (λ k. term_at k a.self.now.n a.self.now.text.now a.at)
-    (λ j. refl) (omega arith) (omega arith) c.factor.ensures c.in_ok-left.was c.products.ensures
+    (λ j. refl) (omega arith) (omega arith) c.factor-left.ensures c.in-Ok.is c.products.ensures
 
 pub factor-variable-requires : goal.factor-variable-requires
 unfolding stands
@@ -138,9 +150,9 @@ pub factor-overflow_add-place : goal.factor-overflow_add-place
 unfolding stands
 factor-overflow_add-place t c = let i = there c.args.self.now.text.now c.skip-place.result c.sign_at-sign.result c.sign_at-sign.ensures Open c.in-Open.is tt in omega arith
 
-pub factor-expression-requires : goal.factor-expression-requires
+pub factor-expression-inner-requires : goal.factor-expression-inner-requires
 unfolding stands
-factor-expression-requires t c =
+factor-expression-inner-requires t c =
     let l = far c.args.self.now.text.now c.args.at c.skip-place.result c.skip-place.ensures in
     let i = there c.args.self.now.text.now c.skip-place.result c.sign_at-sign.result c.sign_at-sign.ensures Open c.in-Open.is tt in
     (omega arith, tt)
@@ -182,34 +194,33 @@ factor-returns-in-Letter t c =
     (λ j h. turn.factor-letter a.self.now.n text j a.at p s.result c.skip-place.ensures s.ensures v c.in-Letter.is ∙ sym c.variable.ensures)
     (λ z y h. let b = variable-place a.self.now.n p v z y (sym c.variable.ensures ∙ h) in (omega arith, omega arith))
 
-pub factor-returns-in_err-inner-in-Open : goal.factor-returns-in_err-inner-in-Open
+pub factor-returns-in-Err : goal.factor-returns-in-Err
 unfolding closed_at next stands
-factor-returns-in_err-inner-in-Open t c =
+factor-returns-in-Err t c =
     let a = c.args in
     let text = a.self.now.text.now in
     let p = c.skip-place.result in
     let s = c.sign_at-sign in
     let l = far text a.at p c.skip-place.ensures in
     let i = there text p s.result s.ensures Open c.in-Open.is tt in
-    let is : c.from_residual.result ≡ refused c.in_err-inner-in-Open.field-0.0.place = grind arith in
     follow.turn (length text) (3 * (length text - a.at) + 1) (a.at + 1) (λ k. factor_at k a.self.now.n text a.at)
-    (λ j h. turn.factor-bracket a.self.now.n text j a.at p s.result c.skip-place.ensures s.ensures c.in-Open.is ∙ ap (closed_at text) (sym (c.expression.ensures.same j (omega arith)) ∙ c.in_err-inner-in-Open.was) ∙ sym is)
-    (follow.refused-lies is)
+    (λ j h. turn.factor-bracket a.self.now.n text j a.at p s.result c.skip-place.ensures s.ensures c.in-Open.is ∙ ap (closed_at text) (sym (c.expression-inner.ensures.same j (omega arith)) ∙ c.in-Err.is))
+    (follow.refused-lies {p = c.in-Err.fault.place} refl)
 
-pub factor-returns-in_ok-inner-in-Open : goal.factor-returns-in_ok-inner-in-Open
+pub factor-returns-in-Ok : goal.factor-returns-in-Ok
 unfolding stands
-factor-returns-in_ok-inner-in-Open t c =
+factor-returns-in-Ok t c =
     let a = c.args in
     let text = a.self.now.text.now in
     let p = c.skip-place.result in
     let s = c.sign_at-sign in
-    let f = c.expression.ensures in
-    let inner = c.in_ok-inner-in-Open.inner in
+    let f = c.expression-inner.ensures in
+    let inner = c.in-Ok.read in
     let l = far text a.at p c.skip-place.ensures in
     let i = there text p s.result s.ensures Open c.in-Open.is tt in
     follow.turn (length text) (3 * (length text - a.at) + 1) (a.at + 1) (λ k. factor_at k a.self.now.n text a.at)
-    (λ j h. turn.factor-bracket a.self.now.n text j a.at p s.result c.skip-place.ensures s.ensures c.in-Open.is ∙ ap (closed_at text) (sym (f.same j (omega arith)) ∙ c.in_ok-inner-in-Open.was) ∙ sym c.close_bracket.ensures)
-    (λ z y h. let b = closed-place text (Ok inner) (p + 1 + 1) z y (λ q x e. f.place q x (c.in_ok-inner-in-Open.was ∙ e)) (sym c.close_bracket.ensures ∙ h) in (omega arith, b.1))
+    (λ j h. turn.factor-bracket a.self.now.n text j a.at p s.result c.skip-place.ensures s.ensures c.in-Open.is ∙ ap (closed_at text) (sym (f.same j (omega arith)) ∙ c.in-Ok.is) ∙ sym c.close_bracket.ensures)
+    (λ z y h. let b = closed-place text (Ok inner) (p + 1 + 1) z y (λ q x e. f.place q x (c.in-Ok.is ∙ e)) (sym c.close_bracket.ensures ∙ h) in (omega arith, b.1))
 
 pub factor-returns-in_err-right-in-Minus : goal.factor-returns-in_err-right-in-Minus
 unfolding joined next stands
@@ -220,7 +231,7 @@ factor-returns-in_err-right-in-Minus t c =
     let s = c.sign_at-sign in
     let l = far text a.at p c.skip-place.ensures in
     let i = there text p s.result s.ensures Minus c.in-Minus.is tt in
-    let is : c.from_residual-in_err-right-in-Minus.result ≡ refused c.in_err-right-in-Minus.field-0.0.place = grind arith in
+    let is : c.from_residual.result ≡ refused c.in_err-right-in-Minus.field-0.0.place = grind arith in
     follow.turn (length text) (3 * (length text - a.at) + 1) (a.at + 1) (λ k. factor_at k a.self.now.n text a.at)
     (λ j h. turn.factor-minus a.self.now.n text j a.at p s.result c.skip-place.ensures s.ensures c.in-Minus.is ∙ ap (joined p zero_form (negsuc 0)) (sym (c.factor.ensures.same j (omega arith)) ∙ c.in_err-right-in-Minus.was) ∙ sym is)
     (follow.refused-lies is)
@@ -259,7 +270,7 @@ products-returns-in_default t c =
     let a = c.args in
     let text = a.self.now.text.now in
     let s = c.sign_at in
-    let l = a.left in
+    let l = a.left.now in
     follow.turn (length text) (3 * (length text - l.next) + 1) l.next (λ k. products_at k a.self.now.n text (Ok l))
     (λ j h. turn.product-ends a.self.now.n text (Ok l) j l.next c.skip-place.result l.form s.result refl c.skip-place.ensures s.ensures c.in_default.not-Times)
     (λ z y h. let e : l.next ≡ z = same {x = l.form} {y = y} h in (omega arith, omega (arith, c.requires)))
@@ -272,7 +283,7 @@ pub products-factor-requires : goal.products-factor-requires
 unfolding stands
 products-factor-requires t c =
     let text = c.args.self.now.text.now in
-    let l = far text c.args.left.next c.skip-place.result c.skip-place.ensures in
+    let l = far text c.args.left.now.next c.skip-place.result c.skip-place.ensures in
     let i = there text c.skip-place.result c.sign_at.result c.sign_at.ensures Times c.in-Times.is tt in
     (omega arith, tt)
 
@@ -282,30 +293,30 @@ products-returns-in_err-right t c =
     let a = c.args in
     let e = c.in_err-right in
     let is : c.from_residual.result ≡ refused e.field-0.0.place = grind arith in
-    products-refused a.self.now.n a.self.now.text.now a.left c.skip-place.result c.sign_at.result c.skip-place.ensures c.sign_at.ensures c.in-Times.is c.factor.ensures e.field-0.0.place (ap (multiplied c.skip-place.result a.left.form) e.was) is
+    products-refused a.self.now.n a.self.now.text.now a.left.now c.skip-place.result c.sign_at.result c.skip-place.ensures c.sign_at.ensures c.in-Times.is c.factor.ensures e.field-0.0.place (ap (multiplied c.skip-place.result a.left.now.form) e.was) is
 
 pub products-returns-in_err-both : goal.products-returns-in_err-both
 products-returns-in_err-both t c =
     let a = c.args in
     let e = c.in_err-both in
     let is : c.from_residual-in_err-both.result ≡ refused e.field-0.0.place = grind arith in
-    products-refused a.self.now.n a.self.now.text.now a.left c.skip-place.result c.sign_at.result c.skip-place.ensures c.sign_at.ensures c.in-Times.is c.factor.ensures e.field-0.0.place
-    (ap (multiplied c.skip-place.result a.left.form) c.in_ok-right.was ∙ sym c.multiply.ensures ∙ e.was) is
+    products-refused a.self.now.n a.self.now.text.now a.left.now c.skip-place.result c.sign_at.result c.skip-place.ensures c.sign_at.ensures c.in-Times.is c.factor.ensures e.field-0.0.place
+    (ap (multiplied c.skip-place.result a.left.now.form) c.in_ok-right.was ∙ sym c.multiply.ensures ∙ e.was) is
 
 pub products-products-requires : goal.products-products-requires
 products-products-requires t c =
     let a = c.args in
     let p = c.skip-place.result in
-    let l = far a.self.now.text.now a.left.next p c.skip-place.ensures in
-    let b = products-end a.self.now.n a.self.now.text.now a.left p c.sign_at.result c.skip-place.ensures c.sign_at.ensures c.in-Times.is c.factor.ensures c.in_ok-both.both (ap (multiplied p a.left.form) c.in_ok-right.was ∙ sym c.multiply.ensures ∙ c.in_ok-both.was) in
+    let l = far a.self.now.text.now a.left.now.next p c.skip-place.ensures in
+    let b = products-end a.self.now.n a.self.now.text.now a.left.now p c.sign_at.result c.skip-place.ensures c.sign_at.ensures c.in-Times.is c.factor.ensures c.in_ok-both.both (ap (multiplied p a.left.now.form) c.in_ok-right.was ∙ sym c.multiply.ensures ∙ c.in_ok-both.was) in
     (omega arith, b.1)
 
 pub products-returns : goal.products-returns
 products-returns t c =
     let a = c.args in
     let p = c.skip-place.result in
-    products-go a.self.now.n a.self.now.text.now a.left p c.sign_at.result c.skip-place.ensures c.sign_at.ensures c.in-Times.is c.factor.ensures c.in_ok-both.both
-    (ap (multiplied p a.left.form) c.in_ok-right.was ∙ sym c.multiply.ensures ∙ c.in_ok-both.was) c.products.ensures
+    products-go a.self.now.n a.self.now.text.now a.left.now p c.sign_at.result c.skip-place.ensures c.sign_at.ensures c.in-Times.is c.factor.ensures c.in_ok-both.both
+    (ap (multiplied p a.left.now.form) c.in_ok-right.was ∙ sym c.multiply.ensures ∙ c.in_ok-both.was) c.products.ensures
 
 pub sums-overflow_add-place : goal.sums-overflow_add-place
 sums-overflow_add-place t c = let i = there c.args.self.now.text.now c.skip-place.result c.sign_at-sign.result c.sign_at-sign.ensures c.sign_at-sign.result refl (sum-stands c.sign_at-sign.result c.in-Plus.is) in omega arith
@@ -313,7 +324,7 @@ sums-overflow_add-place t c = let i = there c.args.self.now.text.now c.skip-plac
 pub sums-term-requires : goal.sums-term-requires
 sums-term-requires t c =
     let text = c.args.self.now.text.now in
-    let l = far text c.args.left.next c.skip-place.result c.skip-place.ensures in
+    let l = far text c.args.left.now.next c.skip-place.result c.skip-place.ensures in
     let i = there text c.skip-place.result c.sign_at-sign.result c.sign_at-sign.ensures c.sign_at-sign.result refl (sum-stands c.sign_at-sign.result c.in-Plus.is) in
     (omega arith, tt)
 
@@ -324,7 +335,7 @@ sums-returns-in_err-right-in-Plus t c =
     let s = c.sign_at-sign in
     let e = c.in_err-right-in-Plus in
     let is : c.from_residual.result ≡ refused e.field-0.0.place = grind arith in
-    sums-refused a.self.now.n a.self.now.text.now a.left c.skip-place.result s.result c.skip-place.ensures s.ensures c.in-Plus.is c.term.ensures e.field-0.0.place (ap (joined c.skip-place.result a.left.form (sense_of s.result)) e.was) is
+    sums-refused a.self.now.n a.self.now.text.now a.left.now c.skip-place.result s.result c.skip-place.ensures s.ensures c.in-Plus.is c.term.ensures e.field-0.0.place (ap (joined c.skip-place.result a.left.now.form (sense_of s.result)) e.was) is
 
 pub sums-returns-in_err-both-in-Plus : goal.sums-returns-in_err-both-in-Plus
 sums-returns-in_err-both-in-Plus t c =
@@ -333,19 +344,19 @@ sums-returns-in_err-both-in-Plus t c =
     let s = c.sign_at-sign in
     let e = c.in_err-both-in-Plus in
     let is : c.from_residual-in_err-both-in-Plus.result ≡ refused e.field-0.0.place = grind arith in
-    sums-refused a.self.now.n a.self.now.text.now a.left p s.result c.skip-place.ensures s.ensures c.in-Plus.is c.term.ensures e.field-0.0.place
-    (sense-joined p a.left.form s.result c.sense.result c.in_ok-right-in-Plus.right c.in_ok-right-in-Plus.was c.join.ensures (record { sfits = c.sense.type_inv }) c.sense.ensures ∙ e.was) is
+    sums-refused a.self.now.n a.self.now.text.now a.left.now p s.result c.skip-place.ensures s.ensures c.in-Plus.is c.term.ensures e.field-0.0.place
+    (sense-joined p a.left.now.form s.result c.sense.result c.in_ok-right-in-Plus.right c.in_ok-right-in-Plus.was c.join.ensures (record { sfits = c.sense.type_inv }) c.sense.ensures ∙ e.was) is
 
 pub sums-sums-requires : goal.sums-sums-requires
 sums-sums-requires t c =
     let a = c.args in
     let p = c.skip-place.result in
     let s = c.sign_at-sign in
-    let l = far a.self.now.text.now a.left.next p c.skip-place.ensures in
+    let l = far a.self.now.text.now a.left.now.next p c.skip-place.ensures in
     let i = there a.self.now.text.now p s.result s.ensures s.result refl (sum-stands s.result c.in-Plus.is) in
     let b =
-    sums-end a.self.now.n a.self.now.text.now a.left p s.result c.skip-place.ensures s.ensures c.in-Plus.is c.term.ensures c.in_ok-both-in-Plus.both
-    (sense-joined p a.left.form s.result c.sense.result c.in_ok-right-in-Plus.right c.in_ok-right-in-Plus.was c.join.ensures (record { sfits = c.sense.type_inv }) c.sense.ensures ∙ c.in_ok-both-in-Plus.was) in
+    sums-end a.self.now.n a.self.now.text.now a.left.now p s.result c.skip-place.ensures s.ensures c.in-Plus.is c.term.ensures c.in_ok-both-in-Plus.both
+    (sense-joined p a.left.now.form s.result c.sense.result c.in_ok-right-in-Plus.right c.in_ok-right-in-Plus.was c.join.ensures (record { sfits = c.sense.type_inv }) c.sense.ensures ∙ c.in_ok-both-in-Plus.was) in
     (omega arith, b.1)
 
 pub sums-returns-in_ok-both-in-Plus : goal.sums-returns-in_ok-both-in-Plus
@@ -353,15 +364,15 @@ sums-returns-in_ok-both-in-Plus t c =
     let a = c.args in
     let p = c.skip-place.result in
     let s = c.sign_at-sign in
-    sums-go a.self.now.n a.self.now.text.now a.left p s.result c.skip-place.ensures s.ensures c.in-Plus.is c.term.ensures c.in_ok-both-in-Plus.both
-    (sense-joined p a.left.form s.result c.sense.result c.in_ok-right-in-Plus.right c.in_ok-right-in-Plus.was c.join.ensures (record { sfits = c.sense.type_inv }) c.sense.ensures ∙ c.in_ok-both-in-Plus.was) c.sums.ensures
+    sums-go a.self.now.n a.self.now.text.now a.left.now p s.result c.skip-place.ensures s.ensures c.in-Plus.is c.term.ensures c.in_ok-both-in-Plus.both
+    (sense-joined p a.left.now.form s.result c.sense.result c.in_ok-right-in-Plus.right c.in_ok-right-in-Plus.was c.join.ensures (record { sfits = c.sense.type_inv }) c.sense.ensures ∙ c.in_ok-both-in-Plus.was) c.sums.ensures
 
 pub sums-returns-in_default : goal.sums-returns-in_default
 sums-returns-in_default t c =
     let a = c.args in
     let text = a.self.now.text.now in
     let s = c.sign_at-sign in
-    let l = a.left in
+    let l = a.left.now in
     follow.turn (length text) (3 * (length text - l.next) + 1) l.next (λ k. sums_at k a.self.now.n text (Ok l))
     (λ j h. turn.sum-ends a.self.now.n text (Ok l) j l.next c.skip-place.result l.form s.result refl c.skip-place.ensures s.ensures c.in_default.not-Plus c.in_default.not-Minus)
     (λ z y h. let e : l.next ≡ z = same {x = l.form} {y = y} h in (omega arith, omega (arith, c.requires)))
