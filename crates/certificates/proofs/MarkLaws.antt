@@ -15,7 +15,7 @@ use Rattle.formats.specs.Rows.{SheetRow}
 use Rattle.fields.specs.Places.{row_at, rows_from}
 use Rattle.formats.specs.Certificate.{read_entries, read_proof}
 use Rattle.formats.proofs.Gives.{passes, tested, got-next}
-use Rattle.formats.proofs.Placed.{Fine, Placed, placed-bind, placed-give, placed-within, placed-u8, placed-entries}
+use Rattle.formats.proofs.Placed.{Fine, Placed, placed-bind, placed-give, placed-within, placed-u8, placed-entries, placed-proof}
 use Rattle.rules.specs.Obligations.{Obligation, zero_only, on_next}
 use Rattle.rules.specs.Marking.{Marked, passed, stopped, test_proof, mark_proof, mark_proofs}
 use Rattle.hypotheses.specs.Tables.{hypotheses_from, hypothesis_rows, test_with, mark_with}
@@ -161,10 +161,26 @@ parts-stopped (t ∷ xs) ys s p d number at e h = go (mark_task t s p) (λ after
     go (got x after) r h = r after h
     go (refused n q) r h = h
 
--- how far marking comes: what passed ends within the sheet, at least as many bytes on as proofs have passed
+-- how far marking comes: what passed ends within the sheet, at least as many bytes on as proofs have passed; what failed has a number
 abbrev pub Goes : List ℕ → Marked (Unit {0}) → Type 0
 Goes s (passed u place done) = (place ≤ length s) × (done ≤ place)
-Goes s (stopped number place done) = Unit {0}
+Goes s (stopped number place done) = 1 ≤ number
+
+pub refused-number : (t : Task) (s : List ℕ) (p number place : ℕ) → p ≤ length s → mark_task t s p ≡ refused number place → 1 ≤ number
+unfolding mark_task mark_with test_with
+refused-number t s p number place h e = go (read_proof (length t.rows) t.zero_k s p) ((placed-proof {least = 0} (length t.rows) t.zero_k).fine s p (omega arith) h) e
+  where
+    numbered : Got Proof → ℕ
+    numbered (got x q) = 0
+    numbered (refused n q) = n
+
+    go : (g : Got Proof) → Fine s p g → test_with t.rows t.goal p g ≡ refused number place → 1 ≤ number
+    go (refused n q) w e = omega (arith, w.0, ap numbered e)
+    go (got x q) w e = by-test (farkas_test t.rows t.goal x) e
+      where
+        by-test : (k : ℕ) → ◌≡◌ {A = Got Proof} (elim k [ zero ↦ got x q | suc n ↦ refused (suc n) p ]) (refused number place) → 1 ≤ number
+        by-test zero e = absurd (no_value (sym e))
+        by-test (suc k) e = let z : suc k ≡ number = ap numbered e in omega (arith, z)
 
 pub goes : (ts : List Task) (s : List ℕ) (p d : ℕ) → p ≤ length s → d ≤ p → Goes s (mark_tasks ts s p d)
 unfolding mark_tasks held_next
@@ -176,7 +192,7 @@ goes (t ∷ ts) s p d h l = go (mark_task t s p) refl (λ q a b. goes ts s q (su
 
     go : (g : Got Proof) → mark_task t s p ≡ g → ((q : ℕ) → q ≤ length s → suc d ≤ q → Goes s (mark_tasks ts s q (suc d))) → Goes s (elim g [ got x q ↦ mark_tasks ts s q (suc d) | refused number place ↦ stopped number place d ])
     go (got x q) e r = let w = task-advances t s p q (at x q e) in r q w.1 (omega (arith, w.0, l))
-    go (refused number place) e r = tt
+    go (refused number place) e r = refused-number t s p number place h e
 
 -- the goals of a group, by their numbers
 all-zero : (n i : ℕ) → get_or (replicate n zero_row) i zero_row ≡ zero_row

@@ -83,8 +83,9 @@ location-groups model index second regions location groups e =
     all : (groups n : ℕ) → groups ≡ n + 2 → suc (suc n) ≡ groups - 0
     all groups n e = omega (arith, e)
 
--- what is still to come from here is the whole
+-- one level of loops: a part is put in front of the rest, and left when it is done
 module _ (s : List ℕ) (whole : Marked (Unit {0})) where
+  -- what is still to come from here is the whole
   abbrev pub Comes : List Task → ℕ → ℕ → Type 0
   Comes left p d = mark_tasks left s p d ≡ whole
 
@@ -95,15 +96,30 @@ module _ (s : List ℕ) (whole : Marked (Unit {0})) where
   unfolding mark_tasks
   comes-end left p d e c = comes-same p d e c
 
+  -- the first of what a loop over numbers has to do, opened, in front of the rest
+  pub comes-in : (f : ℕ → List Task) (n i : ℕ) (part rest : List Task) (p d : ℕ) → i < n → f i ≡ part → Comes (joined_on f n i ++ rest) p d → Comes (part ++ (joined_on f n (i + 1) ++ rest)) p d
+  comes-in f n i part rest p d h e c =
+      comes-same p d
+      (ap (λ (ts : List Task). ts ++ rest) (joined-first f n i h)
+      ∙ append_assoc (f i) (joined_on f n (i + 1)) rest
+      ∙ ap (λ (ts : List Task). ts ++ (joined_on f n (i + 1) ++ rest)) e)
+      c
+
+  pub comes-out : (f : ℕ → List Task) (n i : ℕ) (rest : List Task) (p d : ℕ) → n ≤ i → Comes (joined_on f n i ++ rest) p d → Comes rest p d
+  comes-out f n i rest p d h c = comes-same p d (ap (λ (ts : List Task). ts ++ rest) (joined-none f n i h)) c
+
   -- the goals of a group, one by one, in front of the rest
+  pub goals-out : (part rest : List Task) (goal : ℕ) (p d : ℕ) → length part ≤ goal → Comes (drop goal part ++ rest) p d → Comes rest p d
+  goals-out part rest goal p d h c = comes-same p d (ap (λ (ts : List Task). ts ++ rest) (drop_of_length-le part {i = goal} h)) c
+
   module _ (part rest : List Task) (goal : ℕ) (h : goal < length part) where
     here : drop goal part ++ rest ≡ get_or part goal no_task ∷ (drop (goal + 1) part ++ rest)
     here =
         ap (λ (ts : List Task). ts ++ rest) (drop-cons part goal no_task h)
         ∙ ap (λ (i : ℕ). get_or part goal no_task ∷ (drop i part ++ rest)) (sym (add-one goal))
 
-    goal-comes : (p d q : ℕ) → held_next (mark_task (get_or part goal no_task) s p) ≡ got tt q → Comes (drop goal part ++ rest) p d → Comes (drop (goal + 1) part ++ rest) q (d + 1)
-    goal-comes p d q e c =
+    pub goal-passed : (p d q : ℕ) → held_next (mark_task (get_or part goal no_task) s p) ≡ got tt q → Comes (drop goal part ++ rest) p d → Comes (drop (goal + 1) part ++ rest) q (d + 1)
+    goal-passed p d q e c =
         sym (task-passed (get_or part goal no_task) (drop (goal + 1) part ++ rest) s p d q e)
         ∙ comes-same p d here c
 
@@ -119,45 +135,42 @@ pub record Going (second table : List ℕ) (sums : List ℤ) (whole : Marked (Un
   pub stacked : Stacked table 0
   pub comes : Comes second whole left m.place m.done
 
--- one level of nested loops: a part is put in front of the rest, and left when it is done
+-- the same levels, of where a loop stands
 module _ {second table : List ℕ} {sums : List ℤ} {whole : Marked (Unit {0})} {m : Marking} where
-  going-as : {after : List ℕ} {xs ys : List Task} → xs ≡ ys → Stacked after 0 → Going second table sums whole xs m → Going second after sums whole ys m
-  going-as e stacked g =
-      record { underway = g.underway; fresh = g.fresh; stacked = stacked; comes = comes-same second whole m.place m.done e g.comes }
+  going-as : {after : List ℕ} {xs ys : List Task} → Comes second whole ys m.place m.done → Stacked after 0 → Going second table sums whole xs m → Going second after sums whole ys m
+  going-as c stacked g = record { underway = g.underway; fresh = g.fresh; stacked = stacked; comes = c }
 
   -- the groups of the next location
   pub location-in : (model index regions : List ℕ) (locations location groups : ℕ) → location < locations → groups ≡ entry index 2 + 2 → Going second table sums whole (locations_left model index second regions locations location) m → Going second table sums whole (groups_left model index second regions location groups 0 ++ locations_left model index second regions locations (location + 1)) m
   location-in model index regions locations location groups h e g =
       going-as
+      (comes-same second whole m.place m.done
       (joined-first _ locations location h
       ∙ ap (λ (ts : List Task). ts ++ locations_left model index second regions locations (location + 1)) (location-groups model index second regions location groups e))
+      g.comes)
       g.stacked
       g
 
   -- the first of what a loop over numbers has to do, opened, as the table now tells it
-  pub comes-in : (f : ℕ → List Task) (n i : ℕ) {part : List Task} (rest : List Task) {after : List ℕ} → i < n → part ≡ f i → Stacked after 0 → Going second table sums whole (joined_on f n i ++ rest) m → Going second after sums whole (part ++ (joined_on f n (i + 1) ++ rest)) m
-  comes-in f n i rest h e =
-      going-as
-      (ap (λ (ts : List Task). ts ++ rest) (joined-first f n i h)
-      ∙ append_assoc (f i) (joined_on f n (i + 1)) rest
-      ∙ ap (λ (ts : List Task). ts ++ (joined_on f n (i + 1) ++ rest)) (sym e))
+  pub going-in : (f : ℕ → List Task) (n i : ℕ) {part : List Task} (rest : List Task) {after : List ℕ} → i < n → part ≡ f i → Stacked after 0 → Going second table sums whole (joined_on f n i ++ rest) m → Going second after sums whole (part ++ (joined_on f n (i + 1) ++ rest)) m
+  going-in f n i {part} rest h e stacked g =
+      going-as (comes-in second whole f n i part rest m.place m.done h (sym e) g.comes) stacked g
 
-  pub comes-out : (f : ℕ → List Task) (n i : ℕ) (rest : List Task) → n ≤ i → Going second table sums whole (joined_on f n i ++ rest) m → Going second table sums whole rest m
-  comes-out f n i rest h g =
-      going-as (ap (λ (ts : List Task). ts ++ rest) (joined-none f n i h)) g.stacked g
+  pub going-out : (f : ℕ → List Task) (n i : ℕ) (rest : List Task) → n ≤ i → Going second table sums whole (joined_on f n i ++ rest) m → Going second table sums whole rest m
+  going-out f n i rest h g = going-as (comes-out second whole f n i rest m.place m.done h g.comes) g.stacked g
 
-  pub goals-out : (part rest : List Task) (goal : ℕ) → length part ≤ goal → Going second table sums whole (drop goal part ++ rest) m → Going second table sums whole rest m
-  goals-out part rest goal h g =
-      going-as (ap (λ (ts : List Task). ts ++ rest) (drop_of_length-le part {i = goal} h)) g.stacked g
+  pub going-past : (part rest : List Task) (goal : ℕ) → length part ≤ goal → Going second table sums whole (drop goal part ++ rest) m → Going second table sums whole rest m
+  going-past part rest goal h g =
+      going-as (goals-out second whole part rest goal m.place m.done h g.comes) g.stacked g
 
-  pub goal-passed : (part rest : List Task) (goal q : ℕ) {left : List ℤ} → goal < length part → held_next (mark_task (get_or part goal no_task) second m.place) ≡ got tt q → Fresh left → Going second table sums whole (drop goal part ++ rest) m → Going second table left whole (drop (goal + 1) part ++ rest) (record { place = q; done = m.done + 1 })
-  goal-passed part rest goal q h e fresh g =
+  pub going-on : (part rest : List Task) (goal q : ℕ) {left : List ℤ} → goal < length part → held_next (mark_task (get_or part goal no_task) second m.place) ≡ got tt q → Fresh left → Going second table sums whole (drop goal part ++ rest) m → Going second table left whole (drop (goal + 1) part ++ rest) (record { place = q; done = m.done + 1 })
+  going-on part rest goal q h e fresh g =
       let ends = task-advances (get_or part goal no_task) second m.place q e in
       record {
         underway = record { within = ends.1; few = omega (arith, ends.0, g.underway.few) };
         fresh = fresh;
         stacked = g.stacked;
-        comes = goal-comes second whole part rest goal h m.place m.done q e g.comes;
+        comes = goal-passed second whole part rest goal h m.place m.done q e g.comes;
       }
 
 -- the goals of a group that is marked alone
@@ -180,7 +193,7 @@ module _ (s : List ℕ) (whole : Marked (Unit {0})) (part : List Task) where
     pub goal-on : (p d q : ℕ) → held_next (mark_task (get_or part goal no_task) s p) ≡ got tt q → Comes s whole (drop goal part) p (d + goal) → Comes s whole (drop (goal + 1) part) q (d + (goal + 1))
     goal-on p d q e c =
         ap (mark_tasks (drop (goal + 1) part) s q) (more d goal)
-        ∙ comes-same s whole q (d + goal + 1) (append-nil (drop (goal + 1) part)) (goal-comes s whole part [] goal h p (d + goal) q e (alone (drop goal part) p (d + goal) c))
+        ∙ comes-same s whole q (d + goal + 1) (append-nil (drop (goal + 1) part)) (goal-passed s whole part [] goal h p (d + goal) q e (alone (drop goal part) p (d + goal) c))
       where
         more : (d goal : ℕ) → d + (goal + 1) ≡ d + goal + 1
         more d goal = omega arith

@@ -10,7 +10,7 @@ use lib.ListN.{length, get_or, drop_of_length-le}
 use Rattle.formats.specs.Joint.{stays, count_up, join_all}
 use Rattle.formats.specs.Versions.{keeps_blanks}
 use Rattle.models.specs.Index.{entry, component_place, mode_place, switch_place, span_rows, GoodIndex}
-use Rattle.models.specs.Counts.{per_component}
+use Rattle.models.specs.Counts.{per_component, KnownSwitches}
 use Rattle.papers.specs.Standing.{GoodModes}
 use Rattle.papers.specs.Blanks.{owner_in, still_at, stays_at, rests_at, keeps_at}
 use Rattle.papers.proofs.BlankLaws.{plain-rests}
@@ -19,7 +19,7 @@ pub use Rattle.papers.proofs.StandingLaws.{mode-within, switch-within}
 use Rattle.rules.specs.Runs.{unmentioned}
 use Rattle.joint_switches.proofs.JointLoops.{numbers_on, per-component-length, per-component-drop}
 use Rattle.hypotheses.specs.Tables.{TableLine, segment}
-use Rattle.hypotheses.specs.Listing.{kept_lines, mode_lines, switch_line, switch_lines, variable_line, variable_at, variable_lines, staying_lines, still_lines, FewRows}
+use Rattle.hypotheses.specs.Listing.{kept_lines, mode_lines, switch_line, switch_lines, variable_line, variable_at, variable_lines, staying_lines, still_lines, FewRows, FewJumps}
 
 numbers-end : (index numbers : List ℕ) (long : entry index 1 ≤ length numbers) (k : ℕ) → entry index 1 ≤ k → numbers_on index numbers k ≡ []
 numbers-end index numbers long k h = drop_of_length-le (per_component index numbers) {i = k} (omega (arith, per-component-length index numbers long))
@@ -104,3 +104,14 @@ kept-jump model index switches = refl
 -- in a good index, conditions have few rows
 pub few-rows : (s index modes : List ℕ) (offset : ℕ) → GoodIndex s index → offset ≤ 5 → GoodModes s index modes offset → FewRows index modes offset
 few-rows s index modes offset g h good = record { components = g.few; small = good.small; few = λ k l. (good.spans k l).few; within = h }
+
+-- and of known switches the jump conditions
+pub few-jumps : (s index switches : List ℕ) → GoodIndex s index → KnownSwitches index switches → FewJumps index switches
+few-jumps s index switches g known =
+    record {
+      each = λ k h.
+          record {
+            small = λ e. omega (arith, known.known k h e, (g.blocks k h).few);
+            few = λ e. ((g.blocks k h).switches (get_or switches k 0) (known.known k h e)).jump.few;
+          };
+    }

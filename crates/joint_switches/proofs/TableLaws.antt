@@ -12,7 +12,7 @@ use Rattle.formats.specs.Locations.{location_count, modes_at}
 use Rattle.formats.specs.Joint.{switch_of, count_up}
 use Rattle.models.specs.Index.{entry, component_place, switch_place, switch_from, components_from, GoodIndex}
 use Rattle.models.specs.Counts.{component_at, per_component, KnownModes}
-use Rattle.joint_switches.specs.Tables.{Blank}
+use Rattle.joint_switches.specs.Tables.{Blank, SmallModes}
 use Rattle.formats.proofs.WellFormed.{GoodComponent, GoodSwitch}
 use Rattle.formats.proofs.Members.{all-below}
 use Rattle.formats.proofs.Locations.{Modes, no-modes, mode-and, HaveModes, modes-at}
@@ -95,3 +95,6 @@ known-present {model} {index} location modes g h e = record {
       let same : get_or modes k 0 ≡ get_or (modes_at components location) k 0 = sym (get_or-take (entry index 1) modes k 0 l) ∙ ap (λ (ms : List ℕ). get_or ms k 0) e in
       rw same (omega (arith, below, ap (λ (c : Component). length c.modes) (component-at model index k c l), mode-length model index k));
 }
+
+pub small-present : {s index : List ℕ} (location : ℕ) (modes : List ℕ) → GoodIndex s index → location < location_count (components_from s index) → per_component index modes ≡ modes_at (components_from s index) location → SmallModes index modes
+small-present location modes g h e = record { small = λ k l. omega (arith, (known-present location modes g h e).known k l, (g.blocks k l).most) }

@@ -2,7 +2,7 @@
 -- nothing.
 use mathlib.Core.Path.{◌≡◌, sym, ap, ◌∙◌}
 use Prim.Native.Nat.{ℕ, suc, ◌+◌, ◌*◌, ◌-◌, ◌/◌, ◌%◌, ◌≤◌, ◌<◌, min}
-use native.Mathlib.Nat.{mod-lt, div-add-mod'}
+use native.Mathlib.Nat.{mod-lt, div-add-mod', mul-le-mul_left}
 use native.Mathlib.Omega.{arith}
 use Rattle.rules.specs.Nearest.{nearest}
 use Rattle.rules.specs.Marking.{score_of, refused_score}
@@ -10,6 +10,14 @@ use Rattle.rules.proofs.Scores.{score-rounded}
 use Rattle.rules.proofs.Nearest.{below_half, above_half, at-half, nearest-only}
 
 module _ (a b : ℕ) (some : 1 ≤ b) where
+  -- what is past the quotient is no more than what is divided by
+  pub past_fits : a % b ≤ b
+  past_fits = omega (arith, mod-lt a some)
+
+  -- where the next is taken the quotient is at most half of what is divided
+  pub next_fits : b - a % b ≤ a % b → 2 * (a / b) ≤ a
+  next_fits h = omega (arith, mod-lt a some, div-add-mod' a b, mul-le-mul_left {m = 2} {n = b} (a / b) (omega (arith, mod-lt a some)))
+
   -- less is past the quotient than is left to the next, more, or as much
   pub nearest-below : a % b < b - a % b → a / b ≡ nearest a b
   nearest-below h = nearest-only a b (a / b) some (below_half a b (a / b) (a % b) (omega arith) (div-add-mod' a b))

@@ -10,7 +10,7 @@ use lib.Count.{ones}
 use lib.Dec.{eqb, T}
 use lib.IntN.{ℤ}
 use lib.ListN.{length, get_or, take, drop, set}
-use lib.Seq.{paste, paste-suc, length-take-le, take-length, get_or-take}
+use lib.Seq.{paste, paste-zero, paste-suc, length-take-le, take-length, get_or-take}
 use borrow.Author.Tests.{lt-ltb, le-ltb, eq-eqb, ne_eqb}
 use Rattle.second_sheets.specs.declared.Switches.{Switches}
 use Rattle.second_sheets.specs.declared.Step as coded
@@ -212,6 +212,10 @@ module _ (model index modes switches : List ℕ) (long : entry index 1 ≤ lengt
       ∙ ap (λ (x : Component). of x (get_or modes k 0) (get_or switches k 0)) (sym (component-at model index k d h))
       ∙ ap₂ (λ (mode i : ℕ). of (get_or components k d) mode i) (sym (get_or-take c modes k 0 h)) (sym (get_or-take c switches k 0 h))
       ∙ sym (after-item components (take c modes) (take c switches) k d (omega (arith, components-length model index)) (omega (arith, length-take-le c modes long)) (omega (arith, length-take-le c switches wide)))
+
+  -- before the first: the modes as they are
+  pub landed_none : modes ≡ Landed model index modes switches 0
+  landed_none = paste-zero modes 0 (landed model index modes switches)
 
   pub landed-more : (k v : ℕ) → k < entry index 1 → v ≡ cond (eqb (get_or switches k 0) stays) (get_or modes k 0) (switch_of (component_at model index k) (get_or switches k 0)).target → set (Landed model index modes switches k) k v ≡ Landed model index modes switches (k + 1)
   landed-more k v h e =

@@ -7,7 +7,7 @@ use native.Mathlib.Numerals.{add-one}
 use native.Mathlib.Omega.{arith}
 use lib.IntN.{ℤ, pos, neg_ℤ, nat_abs, ◌-ℤ◌}
 use lib.ListN.{length, get_or, take, drop, set, length-drop}
-use lib.Seq.{paste, paste-suc, length-paste, drop-paste, length-take-le, take_all, take_at, take-length, drop_at, get_or-take, get_or-drop}
+use lib.Seq.{paste, paste-zero, paste-suc, length-paste, drop-paste, length-take-le, take_all, take_at, take-length, drop_at, get_or-take, get_or-drop}
 use mir.Syntax.{w64}
 use mir.Val.{SFits, to_z, of_z}
 use mir.Facts.{to_z-of_z}
@@ -95,6 +95,10 @@ module _ (n : ℕ) (state : List ℤ) (room : 3 * n ≤ length state) where
       difference-item (take n (drop n state)) (take n state) i (omega (arith, after-length)) (omega (arith, before-length))
       ∙ ap₂ (λ x y. x -ℤ y) (get_or-take n (drop n state) i (pos 0) h ∙ get_or-drop n state i (pos 0)) (get_or-take n state i (pos 0) h)
 
+  -- before the first: the values as they are
+  pub changes-none : state ≡ Changed n state 0
+  changes-none = paste-zero state (2 * n) (change n state)
+
   pub changes-more : (i : ℕ) → i < n → set (Changed n state i) (2 * n + i) (get_or state (n + i) (pos 0) -ℤ get_or state i (pos 0)) ≡ Changed n state (i + 1)
   changes-more i h =
       ap (set (Changed n state i) (2 * n + i)) (sym (change-at i h))
@@ -106,6 +110,10 @@ module _ (n : ℕ) (state : List ℤ) (room : 3 * n ≤ length state) where
 
   pub changes-apart : (i j : ℕ) → i ≤ n → j < 2 * n → get_or (Changed n state i) j (pos 0) ≡ get_or state j (pos 0)
   changes-apart i j h k = pasted-before state (2 * n) (change n state) i (omega arith) (omega (arith, change-length)) j k
+
+  -- after the last: the values are as they were, and the changes stand behind them
+  pub changes-all : (i : ℕ) → i ≡ n → Changed n state i ≡ with_changes n state
+  changes-all i e = ap (Changed n state) e
 
   three : 3 * n ≡ 2 * n + n
   three = omega arith

@@ -80,6 +80,12 @@ module _ (n i : ℕ) (sum a p : ℤ) (few : i < n) (small : nat_abs sum * n ≤ 
       le-self : (n : ℕ) → n ≤ n
       le-self n = omega arith
 
+-- q times its bound has room too
+pub bound-room : (b q : ℕ) → b ≤ 2 ^ 31 → q < 2 ^ 24 → 0 + b * q < 2 ^ 63
+bound-room b q h k =
+    let below : q ≤ 2 ^ 24 = omega arith in
+    omega (arith, mul-le-mul h below)
+
 -- a row is compared: its sum with q times its bound
 pub row-compared : (s : List ℕ) (at version n q : ℕ) (ps : List ℤ) (sum b : ℤ) → sum ≡ dot (numbers_at s at n) ps → b ≡ signed_at s (at + 4 * n) *ℤ pos q → compared (strict_at version s at) sum b ≡ row_holds q (take n ps) (row_at s version n at).row
 unfolding row_holds row_at

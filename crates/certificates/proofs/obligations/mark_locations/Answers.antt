@@ -10,7 +10,7 @@ use Rattle.papers.proofs.StandingLaws.{stands_at_lem}
 use Rattle.papers.proofs.JoinedLaws.{joined-none, joined-whole}
 use Rattle.certificates.specs.Passed.{stands_at}
 use Rattle.certificates.proofs.MarkLaws.{tasks-length}
-use Rattle.certificates.proofs.MarkLoops.{locations_left, location-in, comes-in, comes-out, goals-out, goal-passed, goal-failed}
+use Rattle.certificates.proofs.MarkLoops.{locations_left, location-in, going-in, going-out, going-past, going-on, goal-failed}
 use Rattle.certificates.proofs.JointMarks.{marked-end}
 use Rattle.certificates.proofs.obligations.mark_locations.Goals.{Start, After-group_at-group, In-loop-goal}
 use Rattle.certificates.proofs.obligations.mark_locations.Goals as goal
@@ -48,7 +48,7 @@ pub loop-goal-init : goal.loop-goal-init
 unfolding entry
 loop-goal-init c =
     let k = c.group_at-group.ensures in
-    comes-in _ _ _ _ c.loop-g-test.true k.result_after (stacked-less 0 (omega arith) k.good_group.stacked) c.loop-g.invariant
+    going-in _ _ _ _ c.loop-g-test.true k.result_after (stacked-less 0 (omega arith) k.good_group.stacked) c.loop-g.invariant
 
 pub mark_goal-requires-clause-model_len_bound : goal.mark_goal-requires-clause-model_len_bound
 unfolding entry
@@ -69,17 +69,17 @@ overflow_add-done c =
 pub loop-goal-preserved : goal.loop-goal-preserved
 unfolding entry
 loop-goal-preserved c =
-    goal-passed _ _ c.loop-goal.goal _ (short (goal.at.loop-goal-preserved c).In-loop-goal) (sym c.mark_goal.ensures.value ∙ next-at tt c.in-Ok.is) c.in-Ok.ensures.fresh c.loop-goal.invariant
+    going-on _ _ c.loop-goal.goal _ (short (goal.at.loop-goal-preserved c).In-loop-goal) (sym c.mark_goal.ensures.value ∙ next-at tt c.in-Ok.is) c.in-Ok.ensures.fresh c.loop-goal.invariant
 
 pub loop-g-preserved : goal.loop-g-preserved
 unfolding entry
 loop-g-preserved c =
     let t = (goal.at.loop-g-preserved c).After-group_at-group in
-    goals-out (part t) _ c.loop-goal.goal (omega (arith, c.loop-goal-test.false, all t)) c.loop-goal.invariant
+    going-past (part t) _ c.loop-goal.goal (omega (arith, c.loop-goal-test.false, all t)) c.loop-goal.invariant
 
 pub loop-location-preserved : goal.loop-location-preserved
 unfolding entry
-loop-location-preserved c = comes-out _ _ _ _ c.loop-g-test.false c.loop-g.invariant
+loop-location-preserved c = going-out _ _ _ _ c.loop-g-test.false c.loop-g.invariant
 
 pub returns-in-Err-clause-value : goal.returns-in-Err-clause-value
 unfolding entry stands_at
