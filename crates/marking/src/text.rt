@@ -1,4 +1,5 @@
-// The line's text written into a lent buffer: the same bytes as by `Display`, and beside it because this cannot fail, where a writer can.
+// The line's text written into a lent buffer: the same bytes as by `Display`, and beside it because this cannot fail, where a writer can. The
+// program writes its line from such a buffer, at once.
 ghost use Rattle.std.specs.Prelude.{[], ◌∷◌, ◌++◌, ◌≡◌, ◌+◌, ◌<◌, ◌^◌, ◌≤◌, length};
 ghost use Rattle.buffers.specs.Over.{over};
 ghost use Rattle.marking.specs.Lines.{line_of, Written};

@@ -6,7 +6,7 @@ use Rattle.std.proofs.lemmas.Result.{on_ok_weaker}
 use Rattle.std.specs.declared.option.Option.{Option}
 use Rattle.std.specs.declared.option.Option.TheVariants.{None, Some}
 use Rattle.std.specs.Io.KnownBytes.{Appends}
-use Rattle.rules.specs.Program.{Line, turned_down, text_of, mark_line, printed}
+use Rattle.rules.specs.Program.{turned_down, text_of, mark_line, printed}
 use Rattle.mark.proofs.mark.Goals as goal
 
 long : (s : List ℕ) → 65536 < length s → printed s ≡ text_of (turned_down 1 0 0 0 0)
@@ -22,10 +22,9 @@ cut s = go (leb (length s) 65536) refl
         let h : 65536 < length s = leb-false (length s) 65536 e in
         long (take 65537 s) (omega (arith, length-take-le 65537 s (omega arith))) ∙ sym (long s h)
 
-shown : (known old new : Option (List ℕ)) (all : List ℕ) {line : Line} → line ≡ mark_line all → IfSome known (λ bytes. all ≡ take 65537 bytes) → Appends old new (text_of line) → IfSome known (λ bytes. Appends old new (printed bytes))
-unfolding printed
-shown None old new all e i w = tt
-shown (Some bytes) old new all e i w = subst (λ (l : List ℕ). Appends old new l) (ap text_of e ∙ ap printed i ∙ cut bytes) w
+shown : (known old new : Option (List ℕ)) (all : List ℕ) → IfSome known (λ bytes. all ≡ take 65537 bytes) → Appends old new (printed all) → IfSome known (λ bytes. Appends old new (printed bytes))
+shown None old new all i w = tt
+shown (Some bytes) old new all i w = subst (λ (l : List ℕ). Appends old new l) (ap printed i ∙ cut bytes) w
 
 pub returns : goal.returns
-returns g c = on_ok_weaker c.write.result (shown (g.R.Read.remaining c.args.input) _ _ _ c.mark_input.ensures.line c.in_ok-read.ensures) c.write.ensures.bytes
+returns g c = on_ok_weaker c.write_line.result (shown (g.R.Read.remaining c.args.input) _ _ _ c.in_ok-read.ensures) c.write_line.ensures
